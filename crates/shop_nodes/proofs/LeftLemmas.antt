@@ -1,20 +1,30 @@
 -- What is left, told entry by entry.
-use Rattle.std.proofs.Common.{◌≡◌, ℕ, ◌+◌, ◌-◌, ◌≤◌, ◌<◌, List, [], ◌++◌, length, map, take, drop, get_or}
-use Rattle.std.proofs.Common.{sym, ◌∙◌, ap, subst, append-nil, Global, Vec, Result, Ok, Err}
+use Rattle.std.proofs.Common.{◌≡◌, ℕ, ◌+◌, ◌-◌, ◌≤◌, ◌<◌, List, [], ◌∷◌, ◌++◌, length, map, take, drop, get_or}
+use Rattle.std.proofs.Common.{sym, ◌∙◌, ap, subst, append-nil, Global, Vec, Result, Ok, Err, true, false, ltb, refl}
+use Rattle.std.proofs.Common.{Option, Some, None, inl, inr}
 use Rattle.std.specs.Prelude.{IfOk}
+use Rattle.std.specs.Arc.{arc_slice_items}
 use Rattle.std.specs.declared.alloc.AllocError.{AllocError}
 use Rattle.std.specs.List.{AllByRecursion}
-use Rattle.std.proofs.lemmas.List.Elements.{All-drop}
+use Rattle.std.proofs.lemmas.Bool.{cases_Bool}
+use Rattle.std.proofs.lemmas.List.Elements.{All-drop, All-weaker, filter-append, recursion_from_All}
 use Rattle.std.proofs.lemmas.List.{map-append, length-map, drop-map, drop_more}
+use Rattle.shop_model.specs.Limits.{IsWithinLimits}
+use Rattle.shop_model.specs.SharedWords.{CanBeShared}
 use Rattle.shop_model.specs.Shop.{Shop}
+use Rattle.shop_model.proofs.WordLengths.{word_shared}
 use Rattle.shop_bound.specs.Bound.{lb}
 use Rattle.shop_nodes.specs.Branching.{branch}
-use Rattle.shop_nodes.specs.Left.{open_nodes}
+use Rattle.shop_nodes.specs.Left.{left_words, open_nodes, AreLeft}
 use Rattle.shop_nodes.specs.Nodes.{words_of, IsNode, AreNodes}
-use Rattle.shop_nodes.specs.Halts.{last_of, waiting_words, stack_words, IsWaiting}
+use Rattle.shop_nodes.specs.Pieces.{words_below}
+use Rattle.shop_nodes.specs.Halts.{last_of, word_at, waiting_words, stack_words, halted_words, IsWaiting, AreHalted}
+use Rattle.shop_nodes.specs.inner.HeldNodes.{nodes_below, child_nodes, stack_nodes, halted_nodes}
+use Rattle.shop_nodes.specs.inner.HeldNodes.{AreSharable, AreWithin, IsHaltWithin}
 use Rattle.shop_nodes.specs.declared.nodes.Node.{Node}
+use Rattle.shop_nodes.specs.declared.halts.Halt.{Halt}
 use Rattle.shop_nodes.specs.declared.halts.Waiting.{Waiting}
-use Rattle.shop_nodes.specs.declared.halts.Waiting.TheVariants.{Rest}
+use Rattle.shop_nodes.specs.declared.halts.Waiting.TheVariants.{Child, Rest}
 use Rattle.shop_nodes.proofs.HighWalks.{none_below}
 
 closed_all : (shop : Shop) (c : ℕ) (ws : List (List ℕ)) → AllByRecursion (λ w. c ≤ lb shop w) ws
@@ -34,6 +44,74 @@ all_more shop path waiting k d nodes new added within so_far more put =
     ∙ (ap (λ ws. ws ++ words_of added) so_far
     ∙ (ap (λ ws. stack_words shop path (drop (k + 1) waiting) ++ ws) more
     ∙ sym (ap (stack_words shop path) (drop_more waiting k d within)))))
+
+open_append : (shop : Shop) (c : ℕ) (vs ws : List (List ℕ))
+    → open_nodes shop c (vs ++ ws) ≡ open_nodes shop c vs ++ open_nodes shop c ws
+open_append shop c vs ws =
+    let node : List ℕ → Node = λ w. record { word = w; bound = lb shop w }
+    in ap (map node) (filter-append (λ w. ltb (lb shop w) c) vs ws)
+    ∙ map-append node (words_below shop c vs) (words_below shop c ws)
+
+-- open nodes are those that hold bounds below the makespan
+held_nodes : (shop : Shop) (c : ℕ) (ns : List Node) → AllByRecursion (IsNode shop) ns
+    → open_nodes shop c (words_of ns) ≡ nodes_below c ns
+held_nodes shop c [] are = refl
+held_nodes shop c (n ∷ ns) are =
+    let bound : lb shop n.word ≡ n.bound = sym are.0.1
+    in let later = held_nodes shop c ns are.1
+    in elim (cases_Bool (ltb n.bound c)) [
+      | inl low ↦ (let same : ltb (lb shop n.word) c ≡ true = ap (λ b. ltb b c) bound ∙ low
+          in rw (same, low) (λ i. (record { word = n.word; bound = bound i }) ∷ later i))
+      | inr high ↦ (let same : ltb (lb shop n.word) c ≡ false = ap (λ b. ltb b c) bound ∙ high
+          in rw (same, high) later)
+    ]
+
+held_waiting : (shop : Shop) (c : ℕ) (path : List ℕ) (x : Waiting) → IsWaiting shop c path x
+    → open_nodes shop c (waiting_words shop path x) ≡ nodes_below c (child_nodes path x)
+held_waiting shop c path (Child o) own =
+    held_nodes shop c (record { word = word_at path o; bound = o.bound } ∷ []) ((own.is_word, own.bound), tt)
+held_waiting shop c path (Rest depth count) own =
+    closed_all shop c (last_of count (branch shop (take depth path))) own.high
+
+held_stack : (shop : Shop) (c : ℕ) (path : List ℕ) (stack : List Waiting)
+    → AllByRecursion (IsWaiting shop c path) stack
+    → open_nodes shop c (stack_words shop path stack) ≡ nodes_below c (stack_nodes path stack)
+held_stack shop c path [] own = refl
+held_stack shop c path (x ∷ stack) own =
+    let above = held_stack shop c path stack own.1
+    in let here = held_waiting shop c path x own.0
+    in open_append shop c (stack_words shop path stack) (waiting_words shop path x)
+    ∙ ((λ i. above i ++ here i)
+    ∙ sym (filter-append (λ (n : Node). ltb n.bound c) (stack_nodes path stack) (child_nodes path x)))
+
+held_halt : (shop : Shop) (c : ℕ) (h : Option Halt) → AreHalted shop c h
+    → open_nodes shop c (halted_words shop h) ≡ nodes_below c (halted_nodes h)
+held_halt shop c None own = refl
+held_halt shop c (Some h) own = held_stack shop c (arc_slice_items h.path) h.waiting.items own
+
+pub held_left : (shop : Shop) (c : ℕ) (h : Option Halt) (ns : List Node) → AreLeft shop c h ns
+    → open_nodes shop c (left_words shop h ns) ≡ nodes_below c (halted_nodes h ++ ns)
+held_left shop c h ns own =
+    let first = held_halt shop c h own.0
+    in let later = held_nodes shop c ns (recursion_from_All (IsNode shop) ns own.1)
+    in open_append shop c (halted_words shop h) (words_of ns)
+    ∙ ((λ i. first i ++ later i) ∙ sym (filter-append (λ (n : Node). ltb n.bound c) (halted_nodes h) ns))
+
+-- the words of what waits go no further than the path and a job
+within_stack : (shop : Shop) (c : ℕ) (path : List ℕ) (stack : List Waiting)
+    → AllByRecursion (IsWaiting shop c path) stack → AreWithin path stack
+within_stack shop c path [] own = tt
+within_stack shop c path (Child o ∷ stack) own = (own.0.depth, within_stack shop c path stack own.1)
+within_stack shop c path (Rest depth count ∷ stack) own = (tt, within_stack shop c path stack own.1)
+
+pub within_halt : (shop : Shop) (c : ℕ) (h : Option Halt) → AreHalted shop c h → IsHaltWithin h
+within_halt shop c None own = tt
+within_halt shop c (Some h) own = within_stack shop c (arc_slice_items h.path) h.waiting.items own
+
+-- nodes of an instance within the limits can share their jobs
+pub can_be_shared : (shop : Shop) → IsWithinLimits shop → (ns : List Node) → AreNodes shop ns → AreSharable ns
+can_be_shared shop limits ns own = All-weaker (IsNode shop) (λ n. CanBeShared n.word)
+    (λ n is. word_shared shop n.word limits is.0) ns own
 
 -- closed children add no open node
 pub none_open : (shop : Shop) (c : ℕ) (path : List ℕ) (x : Waiting) (depth count : ℕ) (nodes : List Node)

@@ -10,5 +10,5 @@ pub mod NodeLemmas
 pub mod ChildrenLemmas
 mod PlacedLemmas
 mod ChoosingLemmas
-mod LeftLemmas
+pub mod LeftLemmas
 pub mod Rows

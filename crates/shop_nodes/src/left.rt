@@ -6,11 +6,11 @@ ghost use Rattle.shop_nodes.specs.Nodes.{AreNodes, words_of};
 ghost use Rattle.shop_nodes.specs.Halts.{IsClosed, IsHalt, IsWaiting, last_of};
 ghost use Rattle.shop_nodes.specs.Halts.{stack_words, waiting_words};
 ghost use Rattle.shop_nodes.specs.Left.{left_words, open_nodes, AreLeft};
+ghost use Rattle.shop_nodes.specs.inner.HeldNodes.{nodes_below, halted_nodes, AreSharable, IsHaltWithin};
 
 use crate::child_nodes::children;
 use crate::halts::{Halt, Waiting};
 use crate::nodes::Node;
-use crate::shared_nodes::SharedNode;
 use shop_model::{Instance, SharedWord, Word};
 use std::alloc::{AllocError as NoMemory, Global};
 use std::marker::Model;
@@ -73,20 +73,21 @@ impl<'r> Left<'r> {
         }
     }
 
-    /// Adds the open nodes to `nodes`, in order: the nodes left with bounds below the makespan. Fails with `NoMemory`
-    /// if memory runs out.
-    pub fn add_open(&self, alloc: Global, nodes: &mut Vec<Node>) -> Result<(), NoMemory>
-        ensures { OnOk result (nodes.new.items ≡ nodes.old.items
-            ++ open_nodes self.now.shop self.now.makespan self.now.words) }
+    /// Answers the makespan, the halt, if the walk halted, and the nodes that weren't taken. What waits at the halt, the
+    /// last entry first, and then these nodes are the open ones where their bounds are below the makespan.
+    pub fn parts(&self) -> (u64, &Option<Halt>, &[Node])
+        ensures open { open_nodes self.now.shop self.now.makespan self.now.words
+            ≡ nodes_below result.0 (halted_nodes result.1.now ++ result.2.now) }
+        ensures within { IsHaltWithin result.1.now }
+        ensures sharable { AreSharable result.2.now }
     {
-        let mut shared = Vec::new(alloc);
-        self.add_shared(alloc, &mut shared)?;
-        add_nodes_of(shared.as_slice(), nodes)
+        self.instance.keeps_limits();
+        (self.makespan, &self.halt, self.untaken)
     }
 
-    /// Adds the open nodes to `nodes` as `add_open` does, but in the form in which a run stores them. Fails with
-    /// `NoMemory` if memory runs out.
-    pub fn add_shared(&self, alloc: Global, nodes: &mut Vec<SharedNode>) -> Result<(), NoMemory>
+    /// Adds the open nodes to `nodes`, in order: the nodes left with bounds below the makespan. Fails with `NoMemory`
+    /// if memory runs out. For library callers: a run puts them into a store of its own.
+    pub fn add_open(&self, alloc: Global, nodes: &mut Vec<Node>) -> Result<(), NoMemory>
         ensures { OnOk result (nodes.new.items ≡ nodes.old.items
             ++ open_nodes self.now.shop self.now.makespan self.now.words) }
     {
@@ -117,7 +118,7 @@ fn add_if_open(
     makespan: u64,
     path: &ArcSlice<u16, Global>,
     waiting: Waiting,
-    nodes: &mut Vec<SharedNode>,
+    nodes: &mut Vec<Node>,
 ) -> Result<(), NoMemory>
     requires { IsWaiting instance.now makespan (arc_slice_items path.now) waiting }
     ensures { OnOk result (nodes.new.items ≡ nodes.old.items ++ open_nodes instance.now makespan
@@ -129,8 +130,9 @@ fn add_if_open(
     if child.bound >= makespan {
         return Ok(());
     }
-    let word = SharedWord::along(path, child.depth, child.job)?;
-    nodes.push(SharedNode::new(word, child.bound))?;
+    let word = Word::of_shared(SharedWord::along(path, child.depth, child.job)?);
+    let bound = child.bound;
+    nodes.push(Node { word, bound })?;
     Ok(())
 }
 
@@ -140,7 +142,7 @@ fn add_open_waiting(
     instance: &Instance,
     makespan: u64,
     halt: &Halt,
-    nodes: &mut Vec<SharedNode>,
+    nodes: &mut Vec<Node>,
 ) -> Result<(), NoMemory>
     requires { IsHalt instance.now makespan halt.now }
     ensures { OnOk result (nodes.new.items ≡ nodes.old.items ++ open_nodes instance.now makespan
@@ -155,35 +157,22 @@ fn add_open_waiting(
     Ok(())
 }
 
-/// Adds the nodes in `left` with bounds below `makespan`, in order; their words share the jobs of those in `left`.
-/// Fails with `NoMemory` if memory runs out.
+/// Adds copies of the nodes in `left` with bounds below `makespan`, in order. Fails with `NoMemory` if memory runs out.
 fn add_open_nodes(
     alloc: Global,
     instance: &Instance,
     makespan: u64,
     left: &[Node],
-    nodes: &mut Vec<SharedNode>,
+    nodes: &mut Vec<Node>,
 ) -> Result<(), NoMemory>
     requires { AreNodes instance.now left.now }
     ensures { OnOk result (nodes.new.items ≡ nodes.old.items
         ++ open_nodes instance.now makespan (words_of left.now)) }
 {
-    instance.keeps_limits();
     for node in left {
         if node.bound < makespan {
-            nodes.push(SharedNode::of(alloc, node.copied(alloc)?)?)?;
+            nodes.push(node.copied(alloc)?)?;
         }
-    }
-    Ok(())
-}
-
-/// Adds the nodes of `shared` to `nodes`, in order; their words share the same jobs. Fails with `NoMemory` if memory
-/// runs out.
-fn add_nodes_of(shared: &[SharedNode], nodes: &mut Vec<Node>) -> Result<(), NoMemory>
-    ensures { OnOk result (nodes.new.items ≡ nodes.old.items ++ shared.now) }
-{
-    for node in shared {
-        nodes.push(node.node()?)?;
     }
     Ok(())
 }

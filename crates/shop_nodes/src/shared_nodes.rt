@@ -66,13 +66,4 @@ impl SharedNode {
         let word = Word::of_shared(word);
         Node { word, bound }
     }
-
-    /// Answers the node once more; its word shares the same jobs. Fails with `NoMemory` if memory runs out.
-    pub fn node(&self) -> Result<Node, NoMemory>
-        ensures { IfOk result (λ n. n ≡ self.now) }
-    {
-        let word = Word::of_shared(self.word.shared()?);
-        let bound = self.bound;
-        Ok(Node { word, bound })
-    }
 }

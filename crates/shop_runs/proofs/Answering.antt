@@ -19,13 +19,13 @@ use Rattle.shop_bound.specs.Bound.{lb}
 use Rattle.shop_nodes.specs.Nodes.{IsNode, AreNodes}
 use Rattle.shop_runs.specs.Entries.{told}
 use Rattle.shop_runs.specs.Round.{in_order, words_below, pieces_of, rest_of}
-use Rattle.shop_runs.specs.Standings.{stands}
 use Rattle.shop_runs.specs.Runs.{Says}
 use Rattle.shop_runs.specs.declared.open_nodes.OpenNodes.{OpenNodes}
 use Rattle.shop_runs.specs.declared.plans.Order.{Order}
 use Rattle.shop_runs.specs.declared.rounds.Round.{Round}
 use Rattle.shop_runs.specs.declared.runs.OpenRun.{OpenRun}
-use Rattle.shop_runs.specs.inner.NodeLists.{least_of_bounds, nodes_below}
+use Rattle.shop_nodes.specs.inner.HeldNodes.{nodes_below}
+use Rattle.shop_runs.specs.inner.NodeLists.{least_of_bounds}
 use Rattle.shop_runs.specs.inner.Searches.{IsSearchAt, IsSearchOf, IsFront, IsJoined, front_of, stand_of}
 use Rattle.shop_runs.specs.inner.Stores.{open_list, order_of}
 use Rattle.shop_runs.proofs.FrontLemmas.{IsInOrder, in_order_is, order_drop, ordered_twice, gathered_front, rejoined}
@@ -80,10 +80,10 @@ goes_last shop plan i s g h = let e : plan.rounds - i ≡ 0 = omega arith
 
 -- the run v stands after the round r of this outcome, beside the other open nodes
 pub record IsAfter (r : Round) (o : RoundResult) (others : OpenNodes) (v : OpenRun) : Type 0 where
-  pub word : v.standing.word ≡ unwrap_or o.found r.word
-  pub makespan : v.standing.makespan ≡ o.makespan
-  pub rounds : v.standing.rounds ≡ r.rounds + 1
-  pub nodes : v.standing.nodes ≡ o.nodes
+  pub word : v.word ≡ unwrap_or o.found r.word
+  pub makespan : v.makespan ≡ o.makespan
+  pub rounds : v.rounds ≡ r.rounds + 1
+  pub nodes : v.nodes ≡ o.nodes
   pub joined : IsJoined (nodes_below o.makespan (left_open o.left.items)) others v
 
 -- a round of a run: its front is cut off and searched, what it left joins the others
@@ -101,16 +101,16 @@ module _ (shop : Shop) (plan : Planned) (t : OpenRun) (of : IsSearchOf shop plan
       let first : IsOutcome (front_of whole) o = subst (λ (q : Told). IsOutcome q o) front out
       in let all = left_open o.left.items
       in let left = nodes_below o.makespan all
-      in let word : unwrap_or o.found whole.word ≡ v.standing.word =
+      in let word : unwrap_or o.found whole.word ≡ v.word =
       sym (after.word ∙ ap (λ (q : Told). unwrap_or o.found q.word) front)
-      in let makespan : v.standing.makespan ≡ lb shop (unwrap_or o.found whole.word) = after.makespan ∙ first.makespan
+      in let makespan : v.makespan ≡ lb shop (unwrap_or o.found whole.word) = after.makespan ∙ first.makespan
       in let words : words_below shop o.makespan (words_of all ++ []) ≡ words_of left =
       ap (words_below shop o.makespan) (append-nil (words_of all))
       ∙ sym (below_is shop o.makespan all first.nodes_left)
-      in let rounds : whole.rounds + 1 ≡ v.standing.rounds =
+      in let rounds : whole.rounds + 1 ≡ v.rounds =
       sym (after.rounds ∙ ap (λ (q : Told). q.rounds + 1) front)
-      in let stood : rejoined whole (gathered (front_of whole)) ≡ record (stands v.standing) {
-        open_words = words_of left ++ words_below shop v.standing.makespan (words_of (open_list others));
+      in let stood : rejoined whole (gathered (front_of whole)) ≡ record (stand_of v) {
+        open_words = words_of left ++ words_below shop v.makespan (words_of (open_list others));
       } = ap (rejoined whole) first.stands ∙ (λ j. record {
         word = word j;
         open_words = words j ++ words_below shop (sym makespan j) (sym rest j);
@@ -204,21 +204,21 @@ module _ (shop : Shop) (plan : Planned) (i : ℕ) (t : OpenRun) (way : OnTheWay 
 
 -- the answer that is made of a run says what stands
 module _ (shop : Shop) (o : Order) (s : Stand) (t : OpenRun) (at : IsSearchAt shop o s t) where
-  pub word_same : t.standing.word ≡ s.word
+  pub word_same : t.word ≡ s.word
   word_same = ap (λ (x : Stand). x.word) at.stands_at
 
   words_same : words_of (open_list t.open) ≡ in_order shop o s.open_words
   words_same = ap (λ (x : Stand). x.open_words) at.stands_at
 
-  pub says_search : (a : Answer) → a.word ≡ t.standing.word → a.table ≡ rows_of shop (placed shop t.standing.word)
-      → a.makespan ≡ t.standing.makespan → a.bound ≡ least_of_bounds t.standing.makespan (open_list t.open)
-      → a.open_nodes ≡ length (open_list t.open) → a.rounds ≡ t.standing.rounds → a.nodes ≡ t.standing.nodes
+  pub says_search : (a : Answer) → a.word ≡ t.word → a.table ≡ rows_of shop (placed shop t.word)
+      → a.makespan ≡ t.makespan → a.bound ≡ least_of_bounds t.makespan (open_list t.open)
+      → a.open_nodes ≡ length (open_list t.open) → a.rounds ≡ t.rounds → a.nodes ≡ t.nodes
       → Says shop s a
   says_search a word table makespan lower many rounds nodes = record {
     word = word ∙ word_same;
     table = table ∙ ap (λ w. rows_of shop (placed shop w)) word_same;
     makespan = makespan ∙ at.makespan;
-    bound = lower ∙ (least_is shop t.standing.makespan (open_list t.open) at.bounds
+    bound = lower ∙ (least_is shop t.makespan (open_list t.open) at.bounds
         ∙ ((λ i. least_bound shop (at.makespan i) (words_same i))
         ∙ least_order shop o (makespan_of shop s) s.open_words));
     open_nodes = (let x = length-map (open_list t.open) (λ n. n.word) in let y = ap length words_same

@@ -9,7 +9,8 @@ use Rattle.std.proofs.lemmas.List.Elements.{filter-append}
 use Rattle.shop_nodes.specs.Branching.{insert_by}
 use Rattle.shop_nodes.specs.declared.nodes.Node.{Node}
 use Rattle.shop_runs.specs.declared.stacks.Stack.{Stack}
-use Rattle.shop_runs.specs.inner.NodeLists.{nodes_below, least_of_bounds}
+use Rattle.shop_nodes.specs.inner.HeldNodes.{nodes_below}
+use Rattle.shop_runs.specs.inner.NodeLists.{least_of_bounds}
 use Rattle.shop_runs.specs.inner.BoundRows.{AreEmptyBelow, IsFirstFrom}
 use Rattle.shop_runs.specs.inner.Stacks.{words_left, nodes_of_bound, nodes_in_row}
 use Rattle.shop_runs.proofs.StackLemmas.{insert_past, below_one, least_all, bounds_all, words_under}

@@ -22,9 +22,8 @@ use Rattle.shop_runs.specs.declared.runs.OpenRun.{OpenRun}
 use Rattle.shop_runs.specs.Round.{Stand, Told, in_order, words_below, sheets_of, up_to_hit}
 use Rattle.shop_runs.specs.Round.{after_round, gathered, best_word, makespan_of, least_bound}
 use Rattle.shop_runs.specs.Laws.{IsRound, IsStanding}
-use Rattle.shop_runs.specs.Standings.{stands}
-use Rattle.shop_runs.specs.inner.NodeLists.{nodes_below}
-use Rattle.shop_runs.specs.inner.Searches.{IsSearchAt, IsSearchOf, IsJoined, front_of}
+use Rattle.shop_nodes.specs.inner.HeldNodes.{nodes_below}
+use Rattle.shop_runs.specs.inner.Searches.{IsSearchAt, IsSearchOf, IsJoined, front_of, stand_of}
 use Rattle.shop_runs.specs.inner.Stacks.{put_before, put_all_before}
 use Rattle.shop_runs.specs.inner.Stores.{open_list, order_of}
 use Rattle.shop_runs.proofs.Cutting.{all_front}
@@ -213,22 +212,22 @@ module _ (r : Told) (is : IsRound r) where
 
 -- where a run stands once some nodes have joined the others that are below its makespan
 module _ (shop : Shop) (o : Order) (s : Stand) (left : List Node) (others : OpenNodes) (t : OpenRun)
-    (whole : s ≡ record (stands t.standing) {
-      open_words = words_of left ++ words_below shop t.standing.makespan (words_of (open_list others));
+    (whole : s ≡ record (stand_of t) {
+      open_words = words_of left ++ words_below shop t.makespan (words_of (open_list others));
     })
-    (makespan : t.standing.makespan ≡ lb shop t.standing.word) (left_nodes : AreNodes shop left)
+    (makespan : t.makespan ≡ lb shop t.word) (left_nodes : AreNodes shop left)
     (rest : AreNodes shop (open_list others)) (kept : order_of others ≡ o)
     (rises : IsInOrder shop o (words_of (open_list others))) (joined : IsJoined left others t) where
   low : List Node
-  low = nodes_below t.standing.makespan (open_list others)
+  low = nodes_below t.makespan (open_list others)
 
   low_nodes : AreNodes shop low
   unfolding low
-  low_nodes = All-filter (λ n. ltb n.bound t.standing.makespan) (IsNode shop) (open_list others) rest
+  low_nodes = All-filter (λ n. ltb n.bound t.makespan) (IsNode shop) (open_list others) rest
 
-  low_words : words_of low ≡ words_below shop t.standing.makespan (words_of (open_list others))
+  low_words : words_of low ≡ words_below shop t.makespan (words_of (open_list others))
   unfolding low
-  low_words = below_is shop t.standing.makespan (open_list others) rest
+  low_words = below_is shop t.makespan (open_list others) rest
 
   open_is : open_list t.open ≡ put_all_before o left low
   unfolding low
@@ -239,13 +238,13 @@ module _ (shop : Shop) (o : Order) (s : Stand) (left : List Node) (others : Open
       ∙ (put_all_words shop o left low
       (recursion_from_All (IsNode shop) left left_nodes) (recursion_from_All (IsNode shop) low low_nodes)
       (subst (IsInOrder shop o) (sym low_words)
-      (order_below shop o t.standing.makespan (words_of (open_list others)) rises))
+      (order_below shop o t.makespan (words_of (open_list others)) rises))
       ∙ ap (in_order shop o) (ap (λ ws. words_of left ++ ws) low_words
       ∙ ap (λ (x : Stand). x.open_words) (sym whole)))
 
   pub joined_at : IsSearchAt shop o s t
   joined_at = record {
-    stands_at = (λ i. record (stands t.standing) { open_words = open_words_are i })
+    stands_at = (λ i. record (stand_of t) { open_words = open_words_are i })
         ∙ (λ i. record (sym whole i) { open_words = in_order shop o s.open_words });
     makespan = makespan ∙ ap (λ (x : Stand). lb shop x.word) (sym whole);
     bounds = subst (AreNodes shop) (sym open_is) (All-from_recursion (IsNode shop)

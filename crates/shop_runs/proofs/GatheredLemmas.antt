@@ -12,7 +12,7 @@ use Rattle.shop_runs.specs.declared.outcomes.RoundResult.{RoundResult}
 use Rattle.shop_runs.specs.declared.rounds.Round.{Round}
 use Rattle.shop_runs.specs.declared.standings.Standing.{Standing}
 use Rattle.shop_runs.specs.Round.{Stand, gathered, words_below, makespan_of}
-use Rattle.shop_runs.specs.inner.NodeLists.{nodes_below}
+use Rattle.shop_nodes.specs.inner.HeldNodes.{nodes_below}
 use Rattle.shop_runs.specs.Laws.{IsStanding, StandsCovering, CoversInRound}
 use Rattle.shop_runs.specs.Entries.{told}
 use Rattle.shop_runs.specs.inner.Outcomes.{left_open, IsOutcome}

@@ -1,18 +1,15 @@
--- Nodes that a run keeps: they are below its makespan, and their words can share their jobs.
+-- Nodes that a run keeps are below its makespan.
 use Rattle.std.proofs.Common.{◌≡◌, ℕ, ◌≤◌, ◌<◌, true, List, [], ◌∷◌, refl, ap, arith, ltb}
 use Rattle.std.specs.List.{AllByRecursion, Contains}
 use Rattle.std.proofs.lemmas.Bool.{lt-ltb}
-use Rattle.std.proofs.lemmas.List.Elements.{recursion_from_All, All-from_recursion, All-weaker}
+use Rattle.std.proofs.lemmas.List.Elements.{recursion_from_All, All-from_recursion}
 use Rattle.shop_model.specs.Shop.{Shop}
-use Rattle.shop_model.specs.Limits.{IsWithinLimits}
-use Rattle.shop_model.specs.SharedWords.{CanBeShared}
-use Rattle.shop_model.proofs.WordLengths.{word_shared}
 use Rattle.shop_bound.specs.Bound.{lb}
 use Rattle.shop_nodes.specs.declared.nodes.Node.{Node}
 use Rattle.shop_nodes.specs.Nodes.{words_of, IsNode, AreNodes}
 use Rattle.shop_nodes.proofs.Members.{all_contains}
-use Rattle.shop_runs.specs.inner.NodeLists.{nodes_below}
-use Rattle.shop_runs.specs.inner.OpenNodes.{AreBelow, AreSharable}
+use Rattle.shop_nodes.specs.inner.HeldNodes.{nodes_below}
+use Rattle.shop_runs.specs.inner.OpenNodes.{AreBelow}
 
 -- where all are below a makespan, those below a greater one are all
 same_below : (c d : ℕ) (ns : List Node) → c ≤ d → AllByRecursion (λ n. n.bound < c) ns → nodes_below d ns ≡ ns
@@ -25,11 +22,6 @@ pub none_closed : (c d : ℕ) (ns : List Node) → c ≤ d → AreBelow c ns →
 none_closed c d ns le low = same_below c d ns le (recursion_from_All (λ n. n.bound < c) ns low)
 
 module _ (shop : Shop) where
-  -- the words of nodes can share their jobs
-  pub all_sharable : IsWithinLimits shop → (ns : List Node) → AreNodes shop ns → AreSharable ns
-  all_sharable limits ns a = All-weaker (IsNode shop) (λ n. CanBeShared n.word)
-      (λ n is. word_shared shop n.word limits is.0) ns a
-
   below_words : (c : ℕ) (ns : List Node) → AllByRecursion (IsNode shop) ns
       → AllByRecursion (λ w. lb shop w < c) (words_of ns) → AllByRecursion (λ n. n.bound < c) ns
   below_words c [] a low = tt

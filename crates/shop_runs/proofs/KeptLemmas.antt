@@ -4,7 +4,8 @@ use Rattle.std.proofs.Common.{reverse, refl, sym, ◌∙◌, ap, subst, arith, f
 use Rattle.std.proofs.lemmas.Bool.{cases_Bool}
 use Rattle.std.proofs.lemmas.List.{reverse-append, take_more, take_more_set, take_all, map-append, length-map}
 use Rattle.shop_nodes.specs.declared.nodes.Node.{Node}
-use Rattle.shop_runs.specs.inner.NodeLists.{least_of_bounds, nodes_below}
+use Rattle.shop_nodes.specs.inner.HeldNodes.{nodes_below}
+use Rattle.shop_runs.specs.inner.NodeLists.{least_of_bounds}
 use Rattle.shop_runs.specs.declared.kept_stacks.StackedNode.{StackedNode}
 use Rattle.shop_runs.specs.inner.KeptStacks.{nodes_of, nodes_from_top, least_in, AreLeastsFromTop, AreLeasts}
 use Rattle.shop_runs.proofs.StoreLemmas.{reverse-cons, least_min, below_reverse}

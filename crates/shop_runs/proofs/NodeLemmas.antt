@@ -9,7 +9,8 @@ use Rattle.shop_nodes.specs.declared.nodes.Node.{Node}
 use Rattle.shop_nodes.specs.Branching.{insert_by}
 use Rattle.shop_nodes.specs.Nodes.{words_of, IsNode, AreNodes}
 use Rattle.shop_runs.specs.Round.{words_below, least_bound}
-use Rattle.shop_runs.specs.inner.NodeLists.{least_of_bounds, nodes_below}
+use Rattle.shop_nodes.specs.inner.HeldNodes.{nodes_below}
+use Rattle.shop_runs.specs.inner.NodeLists.{least_of_bounds}
 
 module _ (shop : Shop) where
   least_by_recursion : (c : ℕ) (ns : List Node) → AllByRecursion (IsNode shop) ns

@@ -15,7 +15,8 @@ use Rattle.std.proofs.lemmas.List.Elements.{recursion_from_All, filter-append}
 use Rattle.shop_nodes.specs.declared.nodes.Node.{Node}
 use Rattle.shop_nodes.specs.Branching.{insert_by}
 use Rattle.shop_runs.specs.declared.stacks.Stack.{Stack}
-use Rattle.shop_runs.specs.inner.NodeLists.{nodes_below, least_of_bounds}
+use Rattle.shop_nodes.specs.inner.HeldNodes.{nodes_below}
+use Rattle.shop_runs.specs.inner.NodeLists.{least_of_bounds}
 use Rattle.shop_runs.specs.inner.Stacks.{words_in, words_on, words_left, nodes_of_bound, nodes_by_bound}
 
 cmp_less : (a b : ℕ) → a < b → nat_cmp a b ≡ Less

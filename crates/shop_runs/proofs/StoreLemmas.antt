@@ -1,15 +1,20 @@
 -- Open nodes in the order of the next cut, through what is put, taken and let go.
 use Rattle.std.proofs.Common.{◌≡◌, ℕ, suc, ◌≤◌, ◌<◌, min, Bool, true, false, List, [], ◌∷◌, ◌++◌, length}
-use Rattle.std.proofs.Common.{append-nil, ltb, reverse, refl, sym, ◌∙◌, ap, arith, eqb, filter, inl, inr, cond}
+use Rattle.std.proofs.Common.{append-nil, drop, get_or, ◌+◌, ltb, reverse, refl, sym, ◌∙◌, ap, arith, eqb, filter, inl, inr, cond}
 use Rattle.std.specs.Prelude.{IsTrue, ◌↔◌}
-use Rattle.std.proofs.lemmas.Bool.{cases_Bool, ne_eqb, lt-ltb, le-ltb}
+use Rattle.std.proofs.lemmas.Bool.{cases_Bool, cases_lt, ne_eqb, lt-ltb, le-ltb}
 use Rattle.std.proofs.lemmas.List.Elements.{filter-append}
-use Rattle.std.proofs.lemmas.List.{reverse-append, flat_map_more}
+use Rattle.std.proofs.lemmas.List.{reverse-append, flat_map_more, drop_more}
 use Rattle.shop_nodes.specs.Left.{Leaving}
 use Rattle.shop_nodes.specs.declared.nodes.Node.{Node}
 use Rattle.shop_runs.specs.declared.stacks.Stack.{Stack}
 use Rattle.shop_runs.specs.declared.plans.Order.{Order}
-use Rattle.shop_runs.specs.inner.NodeLists.{least_of_bounds, nodes_below}
+use Rattle.shop_nodes.specs.Halts.{word_at}
+use Rattle.shop_nodes.specs.declared.halts.Open.{Open}
+use Rattle.shop_nodes.specs.declared.halts.Waiting.{Waiting}
+use Rattle.shop_nodes.specs.declared.halts.Waiting.TheVariants.{Child}
+use Rattle.shop_nodes.specs.inner.HeldNodes.{nodes_below, child_nodes, stack_nodes}
+use Rattle.shop_runs.specs.inner.NodeLists.{least_of_bounds}
 use Rattle.shop_runs.specs.inner.Outcomes.{open_of, left_open}
 use Rattle.shop_runs.specs.inner.Stacks.{nodes_by_bound, put_before, put_all_before}
 
@@ -74,3 +79,51 @@ put_last_left o c ls l nodes =
     let e = ap (nodes_below c) (sym (flat_map_more open_of [] ls l))
     ∙ filter-append (λ (m : Node). ltb m.bound c) (left_open ls) (open_of l)
     in ap (λ ms. put_all_before o ms nodes) e ∙ put_append o (nodes_below c (left_open ls)) (nodes_below c (open_of l)) nodes
+
+-- the nodes of one more entry of what waits are put before those of the later ones
+pub put_entry : (o : Order) (c : ℕ) (path : List ℕ) (waiting : List Waiting) (k : ℕ) (d : Waiting) (nodes : List Node)
+    → k < length waiting
+    → put_all_before o (nodes_below c (stack_nodes path (drop k waiting))) nodes
+    ≡ put_all_before o (nodes_below c (stack_nodes path (drop (k + 1) waiting)))
+    (put_all_before o (nodes_below c (child_nodes path (get_or waiting k d))) nodes)
+put_entry o c path waiting k d nodes within =
+    let later = stack_nodes path (drop (k + 1) waiting)
+    in let here = child_nodes path (get_or waiting k d)
+    in ap (λ ws. put_all_before o (nodes_below c (stack_nodes path ws)) nodes) (drop_more waiting k d within)
+    ∙ (ap (λ ns. put_all_before o ns nodes) (filter-append (λ (n : Node). ltb n.bound c) later here)
+    ∙ put_append o (nodes_below c later) (nodes_below c here) nodes)
+
+-- one open child is put, if its bound is below the makespan
+pub put_child : (o : Order) (c : ℕ) (path : List ℕ) (x : Open) (nodes : List Node) → x.bound < c
+    → put_all_before o (nodes_below c (child_nodes path (Child x))) nodes
+    ≡ put_before o (record { word = word_at path x; bound = x.bound }) nodes
+put_child o c path x nodes low = rw (lt-ltb x.bound c low) refl
+
+pub skip_child : (c : ℕ) (path : List ℕ) (x : Open) → c ≤ x.bound → nodes_below c (child_nodes path (Child x)) ≡ []
+skip_child c path x high = rw (le-ltb x.bound c high) refl
+
+-- what is below two makespans is below the less
+below_both : (c d : ℕ) (ns : List Node) → nodes_below c (nodes_below d ns) ≡ nodes_below (min c d) ns
+below_both c d [] = refl
+below_both c d (n ∷ ns) =
+    let later = below_both c d ns
+    in elim (cases_lt n.bound d) [
+      | inl low ↦ elim (cases_lt n.bound c) [
+        | inl less ↦ rw (lt-ltb n.bound d low, lt-ltb n.bound c less, lt-ltb n.bound (min c d) (omega arith))
+            (ap (λ ms. n ∷ ms) later)
+        | inr more ↦ rw (lt-ltb n.bound d low, le-ltb n.bound c more, le-ltb n.bound (min c d) (omega arith)) later
+      ]
+      | inr high ↦ rw (le-ltb n.bound d high, le-ltb n.bound (min c d) (omega arith)) later
+    ]
+
+-- what waited where a walk halted is put before the nodes that weren't taken
+pub put_both : (o : Order) (c own limit : ℕ) (first later all nodes : List Node) → limit ≡ min c own
+    → all ≡ nodes_below own (first ++ later)
+    → put_all_before o (nodes_below limit first) (put_all_before o (nodes_below limit later) nodes)
+    ≡ put_all_before o (nodes_below c all) nodes
+put_both o c own limit first later all nodes is open_is =
+    let both : nodes_below c all ≡ nodes_below limit (first ++ later) =
+    ap (nodes_below c) open_is ∙ (below_both c own (first ++ later) ∙ ap (λ k. nodes_below k (first ++ later)) (sym is))
+    in sym (ap (λ ns. put_all_before o ns nodes)
+    (both ∙ filter-append (λ (n : Node). ltb n.bound limit) first later)
+    ∙ put_append o (nodes_below limit first) (nodes_below limit later) nodes)

@@ -1,7 +1,8 @@
 // Open nodes for the order `Bound` where bounds are small: a row of stacks of words, one for each bound.
 ghost use Rattle.std.specs.Prelude.{◌≡◌, ◌==◌, ◌^◌, ◌<◌, ◌≤◌, ◌∷◌, [], length, vec_len, IfOk, OnOk, OnErr};
 ghost use Rattle.shop_nodes.specs.Branching.{insert_by};
-ghost use Rattle.shop_runs.specs.inner.NodeLists.{least_of_bounds, nodes_below};
+ghost use Rattle.shop_nodes.specs.inner.HeldNodes.{nodes_below};
+ghost use Rattle.shop_runs.specs.inner.NodeLists.{least_of_bounds};
 ghost use Rattle.shop_runs.specs.inner.Stacks.{words_left, nodes_in_row, IsNextOf, IsTopIfAny};
 ghost use Rattle.shop_runs.specs.inner.BoundRows.{IsFirstFrom, StaysEmpty, TakesTop};
 
@@ -142,7 +143,6 @@ impl BoundRow {
         let word = pop_at(&mut self.stacks[self.first])?;
         let word = Word::of_shared(word);
         let bound = self.first as u64;
-        self.first = first_from(self.stacks.as_slice(), self.first);
         Some(Node { word, bound })
     }
 

@@ -1,8 +1,11 @@
 // The store of a run's open nodes, in the order in which the next round takes them.
 ghost use Rattle.std.specs.Prelude.{◌≡◌, ◌==◌, ◌^◌, ◌≤◌, [], length, IfOk, OnOk, OnErr};
-ghost use Rattle.shop_runs.specs.inner.NodeLists.{least_of_bounds, nodes_below};
-ghost use Rattle.shop_runs.specs.inner.OpenNodes.{AreBelow, AreSharable};
-ghost use Rattle.shop_runs.specs.inner.Outcomes.{left_open};
+ghost use Rattle.std.specs.Arc.{arc_slice_items};
+ghost use Rattle.shop_nodes.specs.inner.HeldNodes.{nodes_below, child_nodes, stack_nodes};
+ghost use Rattle.shop_nodes.specs.inner.HeldNodes.{AreSharable, AreWithin, IsWithin};
+ghost use Rattle.shop_runs.specs.inner.NodeLists.{least_of_bounds};
+ghost use Rattle.shop_runs.specs.inner.OpenNodes.{AreBelow};
+ghost use Rattle.shop_runs.specs.inner.Outcomes.{left_open, open_of};
 
 use crate::bound_rows::BoundRow;
 use crate::kept_stacks::KeptStack;
@@ -10,9 +13,11 @@ use crate::plans::Order;
 use crate::stacks::{
     Stack, count_by_bound, keep_by_bound, least_by_bound, pop_by_bound, put_by_bound,
 };
-use shop_nodes::{Left, Node, SharedNode};
+use shop_model::SharedWord;
+use shop_nodes::{Halt, Left, Node, SharedNode, Waiting};
 use std::alloc::{AllocError as NoMemory, Global};
 use std::collections::BTreeMap;
+use std::sync::ArcSlice;
 
 /// The greatest opening makespan at which open nodes are kept in a row by bound, which then takes some 5 MB at most.
 const MOST_IN_ROW: u64 = 65_536;
@@ -71,49 +76,81 @@ impl OpenNodes {
         }
     }
 
-    /// Empties the list `nodes` from its end: puts each node whose bound is below `makespan` into the store, and drops
-    /// the others. Fails with `NoMemory` if memory runs out.
-    pub(crate) fn put_below(
+    /// Puts `nodes` whose bounds are below `limit` into the store, from the last to the first. Their words share the jobs
+    /// of those in `nodes`, or copy them if they aren't shared. Fails with `NoMemory` if memory runs out.
+    pub(crate) fn put_nodes(
         &mut self,
         alloc: Global,
-        makespan: u64,
-        nodes: &mut Vec<Node>,
+        limit: u64,
+        nodes: &[Node],
     ) -> Result<(), NoMemory>
-        requires { AreSharable nodes.old.items }
-        ensures put { OnOk result (ArePut (nodes_below makespan nodes.old.items) self.old self.new) }
-        ensures moved { OnOk result (nodes.new.items ≡ []) }
+        requires { AreSharable nodes.now }
+        ensures { OnOk result (ArePut (nodes_below limit nodes.now) self.old self.new) }
     {
-        while let Some(node) = nodes.pop() {
-            if node.bound >= makespan {
-                continue;
+        let mut left = nodes.len();
+        while left > 0 {
+            left -= 1;
+            let node = &nodes[left];
+            if node.bound < limit {
+                self.put(alloc, SharedNode::of(alloc, node.copied(alloc)?)?)?;
             }
-            self.put(alloc, SharedNode::of(alloc, node)?)?;
         }
         Ok(())
     }
 
-    /// Empties the list `nodes` from its end, as `put_below` does, of nodes in the form in which they are stored. Fails
-    /// with `NoMemory` if memory runs out.
-    fn put_open(
+    /// Puts the node of `waiting` into the store if it is an open child with a bound below `limit`; its word begins with
+    /// jobs of `path`. Fails with `NoMemory` if memory runs out.
+    #[inline(always)]
+    fn put_if_open(
         &mut self,
         alloc: Global,
-        makespan: u64,
-        nodes: &mut Vec<SharedNode>,
+        limit: u64,
+        path: &ArcSlice<u16, Global>,
+        waiting: Waiting,
     ) -> Result<(), NoMemory>
-        ensures put { OnOk result (ArePut (nodes_below makespan nodes.old.items) self.old self.new) }
-        ensures moved { OnOk result (nodes.new.items ≡ []) }
+        requires { IsWithin (arc_slice_items path.now) waiting }
+        ensures { OnOk result (ArePut
+            (nodes_below limit (child_nodes (arc_slice_items path.now) waiting)) self.old self.new) }
     {
-        while let Some(node) = nodes.pop() {
-            if node.bound() >= makespan {
-                continue;
-            }
-            self.put(alloc, node)?;
+        let Waiting::Child(child) = waiting else {
+            return Ok(());
+        };
+        if child.bound >= limit {
+            return Ok(());
+        }
+        let word = SharedWord::along(path, child.depth, child.job)?;
+        self.put(alloc, SharedNode::new(word, child.bound))
+    }
+
+    /// Puts the open children with bounds below `limit` that wait at `halt` into the store, from the first entry of
+    /// `halt.waiting` to the last, which is walked first. Fails with `NoMemory` if memory runs out.
+    fn put_waiting(&mut self, alloc: Global, limit: u64, halt: &Halt) -> Result<(), NoMemory>
+        requires { AreWithin (arc_slice_items halt.now.path) halt.now.waiting.items }
+        ensures { OnOk result (ArePut (nodes_below limit
+            (stack_nodes (arc_slice_items halt.now.path) halt.now.waiting.items)) self.old self.new) }
+    {
+        for &waiting in &halt.waiting {
+            self.put_if_open(alloc, limit, &halt.path, waiting)?;
         }
         Ok(())
     }
 
-    /// Puts each node that a search left open and whose bound is below `makespan` into the store, from the end of
-    /// `left` to its start. Fails with `NoMemory` if memory runs out.
+    /// Puts the nodes that a search left open and whose bounds are below `makespan` into the store, from the last to the
+    /// first. Fails with `NoMemory` if memory runs out.
+    fn put_open(&mut self, alloc: Global, makespan: u64, left: &Left) -> Result<(), NoMemory>
+        ensures { OnOk result (ArePut (nodes_below makespan (open_of left.now)) self.old self.new) }
+    {
+        let (own, halt, untaken) = left.parts();
+        let limit = makespan.min(own);
+        self.put_nodes(alloc, limit, untaken)?;
+        match halt {
+            Some(halt) => self.put_waiting(alloc, limit, halt),
+            None => Ok(()),
+        }
+    }
+
+    /// Puts each node that searches left open and whose bound is below `makespan` into the store, from the end of `left`
+    /// to its start. Fails with `NoMemory` if memory runs out.
     pub(crate) fn put_left(
         &mut self,
         alloc: Global,
@@ -123,10 +160,8 @@ impl OpenNodes {
         ensures { OnOk result
             (ArePut (nodes_below makespan (left_open left.entry.items)) self.old self.new) }
     {
-        let mut nodes = Vec::new(alloc);
         while let Some(of_sheet) = left.pop() {
-            of_sheet.add_shared(alloc, &mut nodes)?;
-            self.put_open(alloc, makespan, &mut nodes)?;
+            self.put_open(alloc, makespan, &of_sheet)?;
         }
         Ok(())
     }

@@ -1,5 +1,6 @@
 // Runs, which search round after round until no node is open or the plan's rounds are done.
 ghost use Rattle.std.specs.Prelude.{◌≡◌, ◌^◌, ◌<◌, IfOk, IfSome};
+ghost use Rattle.shop_runs.specs.Limits.{IsCountWithin};
 ghost use Rattle.shop_runs.specs.Runs.{SaysAnswer, IsTrusted};
 
 use crate::crews::Crew;
@@ -12,12 +13,16 @@ use shop_layout::Layout;
 use shop_model::{Instance, Table, Word, place};
 use std::alloc::{AllocError as NoMemory, Global};
 
-/// A run between two rounds: a standing whose own list of open nodes is empty, and the store of the run's open nodes,
-/// in the order in which the next round takes them.
+/// A run between two rounds: the best word and its makespan, the rounds done, the nodes counted, and the store of the
+/// open nodes, in the order in which the next round takes them.
 #[derive(Drop)]
 pub(crate) struct OpenRun {
-    pub(crate) standing: Standing,
+    pub(crate) word: Word,
+    pub(crate) makespan: u64,
+    pub(crate) rounds: u64,
+    pub(crate) nodes: u64,
     pub(crate) open: OpenNodes,
+    pub(crate) ghost within: { IsCountWithin rounds nodes },
 }
 
 impl OpenRun {
@@ -32,15 +37,21 @@ impl OpenRun {
         alloc: Global,
         instance: &Instance,
         order: Order,
-        mut standing: Standing,
+        standing: Standing,
     ) -> Result<OpenRun, NoMemory>
         requires { IsStandingOf instance.now standing }
         ensures { IfOk result (λ t. IsSearchAt instance.now order (stands standing) t) }
     {
         instance.keeps_limits();
         let mut open = OpenNodes::new(alloc, order, standing.makespan, instance.operations());
-        open.put_below(alloc, standing.makespan, &mut standing.open)?;
-        Ok(OpenRun { standing, open })
+        open.put_nodes(alloc, standing.makespan, standing.open.as_slice())?;
+        Ok(OpenRun {
+            word: standing.word,
+            makespan: standing.makespan,
+            rounds: standing.rounds,
+            nodes: standing.nodes,
+            open,
+        })
     }
 
     /// Cuts the first open nodes into at most 256 pieces. Answers the round of these pieces, without a rest, and the
@@ -53,27 +64,23 @@ impl OpenRun {
         plan: &Plan,
     ) -> Result<(Round<'r>, OpenNodes), NoMemory>
         requires layout { layout ≡ instance.now }
-        requires rounds { self.standing.rounds < plan.now.rounds }
+        requires rounds { self.rounds < plan.now.rounds }
         requires search { IsSearchOf instance.now plan.now.order self }
         ensures { IfOk result (λ p. IsFront instance.now plan.now self p.0 p.1) }
     {
-        let OpenRun {
-            mut standing,
-            mut open,
-        } = self;
-        let bound = open.least_bound(standing.makespan);
-        let front = open.take(alloc, MAX_PIECES * plan.piece)?;
-        standing.open = front;
-        let round = Round::of(
-            alloc,
-            instance,
-            plan,
-            standing,
-            Vec::new(alloc),
-            bound,
-            layout,
-        )?;
-        Ok((round, open))
+        let mut others = self.open;
+        let bound = others.least_bound(self.makespan);
+        let front = others.take(alloc, MAX_PIECES * plan.piece)?;
+        let standing = Standing {
+            word: self.word,
+            makespan: self.makespan,
+            open: front,
+            rounds: self.rounds,
+            nodes: self.nodes,
+        };
+        let rest = Vec::new(alloc);
+        let round = Round::of(alloc, instance, plan, standing, rest, bound, layout)?;
+        Ok((round, others))
     }
 
     /// Searches one more round. Answers the run after the round, and the layout: the one in `kept`, or a new one if
@@ -89,12 +96,12 @@ impl OpenRun {
     ) -> Result<(OpenRun, Layout<'r>), NoMemory>
         requires ready { C.ready }
         requires layout { IfSome kept (λ l. l ≡ instance.now) }
-        requires rounds { self.standing.rounds < plan.now.rounds }
+        requires rounds { self.rounds < plan.now.rounds }
         requires search { IsSearchOf instance.now plan.now.order self }
         ensures next { IfOk result (λ p. IsNextSearch instance.now plan.now self p.0) }
         ensures layout { IfOk result (λ p. p.1 ≡ instance.now) }
     {
-        let opening = self.standing.makespan;
+        let opening = self.makespan;
         let layout = kept_or_new(alloc, instance, kept)?;
         let (round, mut open) = self.cut(alloc, instance, layout, plan)?;
         let entries = crew.search(rt, alloc, &round)?;
@@ -112,14 +119,14 @@ impl OpenRun {
             layout,
             ..
         } = round;
-        let standing = Standing {
+        let next = OpenRun {
             word: found.unwrap_or(word),
             makespan,
-            open: Vec::new(alloc),
             rounds: rounds + 1,
             nodes,
+            open,
         };
-        Ok((OpenRun { standing, open }, layout))
+        Ok((next, layout))
     }
 
     /// Starts a run, and searches rounds until no node is open or the plan's rounds are done. The first round makes the
@@ -194,18 +201,18 @@ pub fn run<R, C: Crew<R>>(
     ensures trust { IfOk result (λ a. IsTrusted instance.now a) }
     ensures nodes { IfOk result (λ a. a.nodes < 2 ^ 50) }
 {
-    let OpenRun { standing, open } = OpenRun::at_end(rt, alloc, instance, plan, crew)?;
-    let bound = open.least_bound(standing.makespan);
-    let open_nodes = open.count()?;
-    let table = place(alloc, instance, &standing.word)?;
+    let end = OpenRun::at_end(rt, alloc, instance, plan, crew)?;
+    let bound = end.open.least_bound(end.makespan);
+    let open_nodes = end.open.count()?;
+    let table = place(alloc, instance, &end.word)?;
     Ok(Answer {
-        word: standing.word,
+        word: end.word,
         table,
-        makespan: standing.makespan,
+        makespan: end.makespan,
         bound,
         open_nodes,
-        rounds: standing.rounds,
-        nodes: standing.nodes,
-        store: open,
+        rounds: end.rounds,
+        nodes: end.nodes,
+        store: end.open,
     })
 }

@@ -91,12 +91,13 @@ impl Stack {
         self.cover(alloc, word)
     }
 
-    /// Puts `word` on top, in a chunk of its own. Fails with `NoMemory` if memory runs out; the stack has then lost
-    /// words.
+    /// Puts `word` on top, in a chunk of its own, which takes the memory of a full one at once. Fails with `NoMemory` if
+    /// memory runs out; the stack has then lost words.
     fn cover(&mut self, alloc: Global, word: SharedWord) -> Result<(), NoMemory>
         ensures { OnOk result (words_on self.new ≡ word ∷ words_on self.old) }
     {
-        let full = mem::replace(&mut self.topmost, Chunk::of(alloc, word));
+        let below = Vec::with_capacity(alloc, BLOCK)?;
+        let full = mem::replace(&mut self.topmost, Chunk { top: word, below });
         self.covered.push(full)?;
         Ok(())
     }

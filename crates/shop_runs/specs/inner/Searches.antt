@@ -14,9 +14,8 @@ use Rattle.shop_nodes.specs.declared.nodes.Node.{Node}
 use Rattle.shop_runs.specs.Round.{Stand, Told, in_order, makespan_of, cut_of}
 use Rattle.shop_runs.specs.Laws.{IsStanding}
 use Rattle.shop_runs.specs.Entries.{told}
-use Rattle.shop_runs.specs.Standings.{stands}
 use Rattle.shop_runs.specs.Plans.{planned}
-use Rattle.shop_runs.specs.inner.NodeLists.{nodes_below}
+use Rattle.shop_nodes.specs.inner.HeldNodes.{nodes_below}
 use Rattle.shop_runs.specs.inner.OpenNodes.{AreBelow}
 use Rattle.shop_runs.specs.inner.Stacks.{put_all_before}
 use Rattle.shop_runs.specs.inner.Stores.{open_list, order_of}
@@ -27,17 +26,22 @@ use Rattle.shop_runs.specs.declared.rounds.Round.{Round}
 use Rattle.shop_runs.specs.declared.runs.OpenRun.{OpenRun}
 
 abbrev pub stand_of : OpenRun → Stand
-stand_of t = record (stands t.standing) { open_words = words_of (open_list t.open) }
+stand_of t = record {
+  word = t.word;
+  open_words = words_of (open_list t.open);
+  rounds = t.rounds;
+  nodes = t.nodes;
+}
 
 pub record IsSearchAt (shop : Shop) (order : Order) (s : Stand) (t : OpenRun) : Type 0 where
   pub stands_at : stand_of t ≡ record s { open_words = in_order shop order s.open_words }
-  pub makespan : t.standing.makespan ≡ makespan_of shop s
+  pub makespan : t.makespan ≡ makespan_of shop s
   pub bounds : AreNodes shop (open_list t.open)
   pub kept : order_of t.open ≡ order
 
 pub record IsSearchOf (shop : Shop) (order : Order) (t : OpenRun) : Type 0 where
   pub standing : IsStanding shop (stand_of t)
-  pub makespan : t.standing.makespan ≡ makespan_of shop (stand_of t)
+  pub makespan : t.makespan ≡ makespan_of shop (stand_of t)
   pub bounds : AreNodes shop (open_list t.open)
   pub kept : order_of t.open ≡ order
   pub ordered : in_order shop order (words_of (open_list t.open)) ≡ words_of (open_list t.open)
@@ -45,7 +49,7 @@ pub record IsSearchOf (shop : Shop) (order : Order) (t : OpenRun) : Type 0 where
 pub record IsJoined (left : List Node) (others : OpenNodes) (t : OpenRun) : Type 0 where
   pub kept : order_of t.open ≡ order_of others
   pub open_nodes : open_list t.open ≡ put_all_before (order_of others) left
-      (nodes_below t.standing.makespan (open_list others))
+      (nodes_below t.makespan (open_list others))
 
 abbrev pub front_of : Told → Told
 front_of r = record r { rest = [] }
@@ -55,5 +59,5 @@ pub record IsFront (shop : Shop) (plan : Plan) (t : OpenRun) (r : Round) (others
   pub round : told r ≡ front_of (cut_of shop (planned plan) (stand_of t))
   pub rest : words_of (open_list others) ≡ (cut_of shop (planned plan) (stand_of t)).rest
   pub bounds : AreNodes shop (open_list others)
-  pub below : AreBelow t.standing.makespan (open_list others)
+  pub below : AreBelow t.makespan (open_list others)
   pub kept : order_of others ≡ order_of t.open

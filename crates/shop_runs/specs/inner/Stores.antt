@@ -12,7 +12,7 @@ use Rattle.shop_runs.specs.declared.open_nodes.OpenNodes.{OpenNodes}
 use Rattle.shop_runs.specs.declared.open_nodes.OpenNodes.TheVariants.{AsKept, InRow, ByBound}
 use Rattle.shop_runs.specs.declared.plans.Order.{Order}
 use Rattle.shop_runs.specs.declared.plans.Order.TheVariants.{Kept, Bound}
-use Rattle.shop_runs.specs.inner.NodeLists.{nodes_below}
+use Rattle.shop_nodes.specs.inner.HeldNodes.{nodes_below}
 use Rattle.shop_runs.specs.inner.Stacks.{nodes_in_stacks, put_before, put_all_before, IsNextOf}
 
 abbrev pub open_list : OpenNodes → List Node

@@ -1,7 +1,7 @@
 use Rattle.std.proofs.Common.{rules, ◌≡◌, ◌++◌, refl, ◌∙◌, ap}
 use Rattle.std.specs.Prelude.{unwrap_or}
 use Rattle.std.proofs.lemmas.Fn.{filter_same}
-use Rattle.shop_runs.specs.inner.NodeLists.{nodes_below}
+use Rattle.shop_nodes.specs.inner.HeldNodes.{nodes_below}
 use Rattle.shop_runs.specs.inner.Outcomes.{left_open}
 use Rattle.shop_runs.proofs.GatheredLemmas.{stands_gathered, gathered_standing, gathered_covering}
 use Rattle.shop_runs.proofs.outcomes.gather.Goals as goal

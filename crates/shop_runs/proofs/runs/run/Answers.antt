@@ -11,14 +11,14 @@ place-requires g c =
     let shop = c.args.instance.now
     in let plan = planned c.args.plan.now
     in subst (IsFull shop)
-    (sym (word_same shop plan.order (answer shop plan) c.in_ok-standing.field-0 c.in_ok-standing.ensures))
+    (sym (word_same shop plan.order (answer shop plan) c.in_ok-end.end c.in_ok-end.ensures))
     (trustworthy shop plan).full
 
 pub returns-clause-says : goal.returns-clause-says
 returns-clause-says g c =
     let shop = c.args.instance.now
     in let plan = planned c.args.plan.now
-    in says_search shop plan.order (answer shop plan) c.in_ok-standing.field-0 c.in_ok-standing.ensures _ refl
+    in says_search shop plan.order (answer shop plan) c.in_ok-end.end c.in_ok-end.ensures _ refl
     c.in_ok-table.ensures.table refl c.least_bound-bound.ensures c.in_ok-open_nodes.ensures.count refl refl
 
 pub returns-clause-trust : goal.returns-clause-trust

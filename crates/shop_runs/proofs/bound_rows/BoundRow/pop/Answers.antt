@@ -19,11 +19,8 @@ pub invariant_of-self-2 : goal.invariant_of-self-2
 invariant_of-self-2 c =
     let first = c.first_from-self-inside.result
     in let os = c.self.inside.stacks.items
-    in let left = slice_set os first c.pop_at.new.place
     in let at : AreEmptyBelow first os = now_empty c.self.inside.first first os c.self.invariant (search rules)
-    in let empty : AreEmptyBelow first left =
-    (search rules, still_empty 0 first first os c.pop_at.new.place (search rules) at.1)
-    in now_empty first c.first_from-self-inside-2.result left empty (search rules)
+    in (search rules, still_empty 0 first first os c.pop_at.new.place (search rules) at.1)
 
 pub returns : goal.returns
 returns c =

@@ -1,6 +1,6 @@
 use Rattle.std.proofs.Common.{◌≡◌, rules, ◌∙◌, ap, filter, ltb}
 use Rattle.std.proofs.lemmas.Fn.{filter_same}
-use Rattle.shop_runs.specs.inner.NodeLists.{nodes_below}
+use Rattle.shop_nodes.specs.inner.HeldNodes.{nodes_below}
 use Rattle.shop_layout.proofs.Written.{written_vec}
 use Rattle.shop_runs.specs.inner.KeptStacks.{nodes_from_top, nodes_of}
 use Rattle.shop_runs.specs.declared.kept_stacks.StackedNode.{StackedNode}

@@ -1,5 +1,5 @@
 use Rattle.std.proofs.Common.{rules, ◌≡◌, ◌∷◌, ◌++◌, [], sym, ◌∙◌, ap}
-use Rattle.shop_runs.specs.inner.NodeLists.{nodes_below}
+use Rattle.shop_nodes.specs.inner.HeldNodes.{nodes_below}
 use Rattle.shop_runs.specs.inner.Outcomes.{left_open, open_of}
 use Rattle.shop_runs.specs.inner.Stacks.{put_all_before}
 use Rattle.shop_runs.specs.inner.Stores.{open_list, order_of}
@@ -15,13 +15,10 @@ loop-of_sheet-preserved c =
     in let left = c.pop.new.self.items
     in let l = c.in-Some.of_sheet
     in let was : c.loop-of_sheet.left.items ≡ left ++ l ∷ [] = search rules
-    in let here : c.add_shared.new.nodes.items ≡ open_of l =
-    c.in_ok-add_shared.ensures ∙ ap (λ ns. ns ++ open_of l) now.none
-    in let put = c.in_ok-put_open.ensures.put
+    in let put = c.in_ok-put_open.ensures
     in let after : open_list c.put_open.new.self ≡ put_all_before order (nodes_below below (open_of l)) nodes =
-    put.1 ∙ (λ j. put_all_before (now.order j) (nodes_below below (here j)) nodes)
+    put.1 ∙ (λ j. put_all_before (now.order j) (nodes_below below (open_of l)) nodes)
     in record {
-      none = c.in_ok-put_open.ensures.moved;
       order = put.0 ∙ now.order;
       put = ap (put_all_before order (nodes_below below (left_open left))) after
           ∙ (sym (put_last_left order below left l nodes)

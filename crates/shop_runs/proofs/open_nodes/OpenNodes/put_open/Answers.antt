@@ -1,35 +1,36 @@
-use Rattle.std.proofs.Common.{rules, ◌≡◌, ◌∷◌, ◌++◌, [], sym, ◌∙◌, ap}
-use Rattle.shop_runs.specs.inner.NodeLists.{nodes_below}
-use Rattle.shop_runs.specs.inner.Stacks.{put_before, put_all_before}
+use Rattle.std.proofs.Common.{◌++◌, [], Some, ◌∙◌, ap}
+use Rattle.std.proofs.lemmas.Result.{on_ok_weaker}
+use Rattle.shop_nodes.specs.inner.HeldNodes.{nodes_below, halted_nodes}
+use Rattle.shop_runs.specs.inner.Outcomes.{open_of}
+use Rattle.shop_runs.specs.inner.Stacks.{put_all_before}
 use Rattle.shop_runs.specs.inner.Stores.{open_list, order_of}
-use Rattle.shop_runs.proofs.StoreLemmas.{put_last, skip_last}
+use Rattle.shop_runs.proofs.StoreLemmas.{put_both}
 use Rattle.shop_runs.proofs.open_nodes.OpenNodes.put_open.Goals as goal
 
-pub loop-node-preserved-then-bound-makespan : goal.loop-node-preserved-then-bound-makespan
-loop-node-preserved-then-bound-makespan c =
-    let now = c.loop-node.invariant
-    in let left = c.pop.new.self.items
-    in let was : c.loop-node.nodes.items ≡ left ++ c.in-Some.node ∷ [] = search rules
-    in let kept = ap (nodes_below c.args.makespan) was
-    ∙ skip_last c.args.makespan left c.in-Some.node (search rules)
-    in record {
-      order = now.order;
-      put = ap (λ ns. put_all_before (order_of c.args.self.now) ns (open_list c.loop-node.self)) (sym kept) ∙ now.put;
-    }
+pub returns-in-Some : goal.returns-in-Some
+returns-in-Some c =
+    let order = order_of c.args.self.now
+    in let own = c.parts-own.result.0
+    in let untaken = c.parts-own.result.2.now
+    in let limit = c.min-limit.result
+    in let first = halted_nodes (Some c.in-Some.halt)
+    in let put = c.in_ok-put_nodes.ensures
+    in let all = c.parts-own.ensures.open ∙ ap (λ h. nodes_below own (halted_nodes h ++ untaken)) c.in-Some.is
+    in on_ok_weaker c.put_waiting.result (λ then. (
+      then.0 ∙ put.0,
+      then.1 ∙ ((λ j. put_all_before (put.0 j) (nodes_below limit first) (put.1 j))
+          ∙ put_both order c.args.makespan own limit first untaken (open_of c.args.left.now) (open_list c.args.self.now)
+          c.min-limit.ensures all),
+    )) c.put_waiting.ensures
 
-pub loop-node-preserved : goal.loop-node-preserved
-loop-node-preserved c =
-    let now = c.loop-node.invariant
-    in let order = order_of c.args.self.now
-    in let nodes = open_list c.loop-node.self
-    in let left = c.pop.new.self.items
-    in let was : c.loop-node.nodes.items ≡ left ++ c.in-Some.node ∷ [] = search rules
-    in let put = c.in_ok-put.ensures
-    in let here : open_list c.put.new.self ≡ put_before order c.in-Some.node nodes =
-    put.1 ∙ ap (λ o. put_before o c.in-Some.node nodes) now.order
-    in record {
-      order = put.0 ∙ now.order;
-      put = ap (put_all_before order (nodes_below c.args.makespan left)) here
-          ∙ (sym (put_last order c.args.makespan left c.in-Some.node nodes (search rules))
-          ∙ (ap (λ ns. put_all_before order (nodes_below c.args.makespan ns) nodes) (sym was) ∙ now.put));
-    }
+pub returns-in-None : goal.returns-in-None
+returns-in-None c =
+    let own = c.parts-own.result.0
+    in let untaken = c.parts-own.result.2.now
+    in let put = c.in_ok-put_nodes.ensures
+    in let all = c.parts-own.ensures.open ∙ ap (λ h. nodes_below own (halted_nodes h ++ untaken)) c.in-None.is
+    in (
+      put.0,
+      put.1 ∙ put_both (order_of c.args.self.now) c.args.makespan own c.min-limit.result [] untaken
+          (open_of c.args.left.now) (open_list c.args.self.now) c.min-limit.ensures all,
+    )

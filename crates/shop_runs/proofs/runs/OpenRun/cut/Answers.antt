@@ -20,11 +20,11 @@ of-requires-clause-standing c = record {
 
 pub of-requires-clause-rest : goal.of-requires-clause-rest
 of-requires-clause-rest c =
-    subst (AreNodes c.args.instance.now) (sym c.new.ensures.items) (λ k d h. absurd (omega arith))
+    subst (AreNodes c.args.instance.now) (sym c.new-rest.ensures.items) (λ k d h. absurd (omega arith))
 
 pub of-requires-clause-round : goal.of-requires-clause-round
 of-requires-clause-round c = front_round c.args.instance.now (planned c.args.plan.now) c.args.self
-    c.least_bound-bound.result c.in_ok-front.front.items c.new.result.items c.new.ensures.items c.requires.search
+    c.least_bound-bound.result c.in_ok-front.front.items c.new-rest.result.items c.new-rest.ensures.items c.requires.search
     (is_front_cut c.args.plan.now c.args.self c.least_bound-bound.result c.in_ok-front.front.items
     c.least_bound-bound.ensures c.in_ok-front.ensures.1)
 
@@ -37,13 +37,13 @@ returns c =
     in let others = c.in_ok-front.ensures.2
     in record {
       round = c.in_ok-round.ensures ∙ front_told shop plan c.args.self c.least_bound-bound.result
-          c.in_ok-front.front.items c.new.result.items c.new.ensures.items c.requires.search cut;
+          c.in_ok-front.front.items c.new-rest.result.items c.new-rest.ensures.items c.requires.search cut;
       rest = others_are shop plan c.args.self (open_list c.take.new.self) c.requires.search others;
       bounds = subst (AreNodes shop) (sym others)
           (All-drop (IsNode shop) (256 * plan.piece) (open_list c.args.self.open) c.requires.search.bounds);
-      below = subst (AreBelow c.args.self.standing.makespan) (sym others)
-          (All-drop (λ n. n.bound < c.args.self.standing.makespan) (256 * plan.piece) (open_list c.args.self.open)
-          (all_below shop c.args.self.standing.makespan (open_list c.args.self.open) c.requires.search.bounds
+      below = subst (AreBelow c.args.self.makespan) (sym others)
+          (All-drop (λ n. n.bound < c.args.self.makespan) (256 * plan.piece) (open_list c.args.self.open)
+          (all_below shop c.args.self.makespan (open_list c.args.self.open) c.requires.search.bounds
           (λ w h. let a = c.requires.search.standing.below w h in let b = c.requires.search.makespan in omega arith)));
       kept = c.in_ok-front.ensures.0;
     }

@@ -1,6 +1,6 @@
 use Rattle.std.proofs.Common.{◌∙◌, refl}
 use Rattle.shop_runs.specs.Plans.{planned}
-use Rattle.shop_runs.specs.inner.NodeLists.{nodes_below}
+use Rattle.shop_nodes.specs.inner.HeldNodes.{nodes_below}
 use Rattle.shop_runs.specs.inner.Outcomes.{left_open}
 use Rattle.shop_runs.specs.inner.Stacks.{put_all_before}
 use Rattle.shop_runs.proofs.Answering.{next_round}

@@ -1,17 +1,18 @@
 use Rattle.std.proofs.Common.{◌≡◌, ◌++◌, sym, ◌∙◌, ap, subst, arith, append-nil}
 use Rattle.shop_nodes.specs.Nodes.{words_of, AreNodes}
+use Rattle.shop_nodes.proofs.LeftLemmas.{can_be_shared}
 use Rattle.shop_runs.specs.Round.{words_below}
 use Rattle.shop_runs.specs.Standings.{stands}
-use Rattle.shop_runs.specs.inner.NodeLists.{nodes_below}
+use Rattle.shop_nodes.specs.inner.HeldNodes.{nodes_below}
 use Rattle.shop_runs.specs.inner.Stacks.{put_all_before}
 use Rattle.shop_runs.specs.inner.Stores.{open_list, order_of}
 use Rattle.shop_runs.proofs.FrontLemmas.{IsInOrder, joined_at, none_in_order}
-use Rattle.shop_runs.proofs.KeptBelow.{all_sharable, all_below, none_closed}
+use Rattle.shop_runs.proofs.KeptBelow.{all_below, none_closed}
 use Rattle.shop_runs.proofs.runs.OpenRun.of.Goals as goal
 
-pub put_below-requires : goal.put_below-requires
-put_below-requires c = all_sharable c.args.instance.now c.keeps_limits.ensures c.args.standing.open.items
-    c.requires.0.bounds
+pub put_nodes-requires : goal.put_nodes-requires
+put_nodes-requires c = can_be_shared c.args.instance.now c.keeps_limits.ensures c.as_slice.result.now
+    (subst (AreNodes c.args.instance.now) (sym c.as_slice.ensures.value) c.requires.0.bounds)
 
 pub returns : goal.returns
 returns c =
@@ -21,7 +22,7 @@ returns c =
     in let is = c.requires.1
     in let others = c.new-open.result
     in let none = c.new-open.ensures.none
-    in let put = c.in_ok-put_below.ensures.put
+    in let put = c.in_ok-put_nodes.ensures
     in let low = nodes_below u.makespan u.open.items
     in let all : low ≡ u.open.items = none_closed u.makespan u.makespan u.open.items (omega arith)
     (all_below shop u.makespan u.open.items at.bounds
@@ -36,5 +37,7 @@ returns c =
     (subst (λ ns. IsInOrder shop c.args.order (words_of ns)) (sym none) (none_in_order shop c.args.order))
     (record {
       kept = put.0;
-      open_nodes = put.1 ∙ ap (put_all_before (order_of others) low) (none ∙ ap (nodes_below u.makespan) (sym none));
+      open_nodes = put.1 ∙ (λ j. put_all_before (order_of others)
+          (nodes_below u.makespan (c.as_slice.ensures.value j))
+          ((none ∙ ap (nodes_below u.makespan) (sym none)) j));
     })

@@ -1,0 +1,48 @@
+-- What a search left as nodes, each with the bound that it holds.
+--     nodes_below c nodes         those that hold bounds below c
+--     child_nodes word x          the open child that an entry stands for; none for closed ones
+--     stack_nodes word stack      the open children of all entries, the last entry first
+--     halted_nodes h              those of what waited where a walk halted, if anything did
+--     IsWithin word x             the word of an open child goes no further than this word and a job
+--     AreWithin word stack        so do those of all entries
+--     IsHaltWithin h              and those of what waited where a walk halted
+--     AreSharable nodes           the words of the nodes can share their jobs
+use Rattle.std.specs.Prelude.{ℕ, ◌≤◌, Option, Some, None, List, [], ◌∷◌, ◌++◌, length, All}
+use Rattle.std.specs.Prelude.{filter, nat_lt}
+use Rattle.std.specs.Arc.{arc_slice_items}
+use Rattle.std.specs.List.{AllByRecursion}
+use Rattle.shop_model.specs.SharedWords.{CanBeShared}
+use Rattle.shop_nodes.specs.Halts.{word_at}
+use Rattle.shop_nodes.specs.declared.halts.Halt.{Halt}
+use Rattle.shop_nodes.specs.declared.halts.Waiting.{Waiting}
+use Rattle.shop_nodes.specs.declared.halts.Waiting.TheVariants.{Child, Rest}
+use Rattle.shop_nodes.specs.declared.nodes.Node.{Node}
+
+abbrev pub nodes_below : ℕ → List Node → List Node
+nodes_below c nodes = filter (λ n. nat_lt n.bound c) nodes
+
+abbrev pub child_nodes : List ℕ → Waiting → List Node
+child_nodes word (Child o) = record { word = word_at word o; bound = o.bound } ∷ []
+child_nodes word (Rest depth count) = []
+
+abbrev pub stack_nodes : List ℕ → List Waiting → List Node
+stack_nodes word [] = []
+stack_nodes word (x ∷ stack) = stack_nodes word stack ++ child_nodes word x
+
+abbrev pub halted_nodes : Option Halt → List Node
+halted_nodes None = []
+halted_nodes (Some h) = stack_nodes (arc_slice_items h.path) h.waiting.items
+
+abbrev pub IsWithin : List ℕ → Waiting → Type 0
+IsWithin word (Child o) = o.depth ≤ length word
+IsWithin word (Rest depth count) = Unit {0}
+
+abbrev pub AreWithin : List ℕ → List Waiting → Type 0
+AreWithin word stack = AllByRecursion (IsWithin word) stack
+
+abbrev pub IsHaltWithin : Option Halt → Type 0
+IsHaltWithin None = Unit {0}
+IsHaltWithin (Some h) = AreWithin (arc_slice_items h.path) h.waiting.items
+
+abbrev pub AreSharable : List Node → Type 0
+AreSharable nodes = All (λ n. CanBeShared n.word) nodes
