@@ -7,4 +7,4 @@ pub mod Held
 pub mod Tried
 pub mod Slots
 pub mod StateWalkers
-pub mod Widths
+pub mod LaneWalkers
