@@ -94,6 +94,18 @@ impl<'l, 'a> Searcher<'l, 'a> {
         }
     }
 
+    /// Takes out the walker that was kept, or makes a new one. Fails with `NoMemory` if memory runs out.
+    fn take_walker(&mut self, alloc: Global) -> Result<Box<LaneWalker<'l, 'a>>, NoMemory>
+        ensures walker { IfOk result (λ w. IsWalkOf self.old w.value) }
+        ensures instance { self.new ≡ self.old }
+    {
+        if let Some(walker) = self.walker.take() {
+            return Ok(walker);
+        }
+        let walker = LaneWalker::new(alloc, self.instance, self.layout, self.most)?;
+        Ok(Box::new(alloc, walker)?)
+    }
+
     /// Searches `piece` by branch and bound: its nodes in order, depth first, the children of each node by bound.
     /// `best` is the makespan to beat. Takes at most `budget` nodes and leaves the others, in order. Loses no schedule:
     /// for each schedule under a node of the piece that ends before the sheet's makespan, some schedule under a node
@@ -110,10 +122,7 @@ impl<'l, 'a> Searcher<'l, 'a> {
         ensures sheet { IfOk result (Searches self.old piece.now best budget) }
         ensures instance { self.new ≡ self.old }
     {
-        let mut walker = match self.walker.take() {
-            Some(walker) => walker,
-            None => Box::new(alloc, LaneWalker::new(alloc, self.instance, self.layout, self.most)?)?,
-        };
+        let mut walker = self.take_walker(alloc)?;
         let sheet = walker.search(alloc, piece, best, budget)?;
         self.walker = Some(walker);
         Ok(sheet)
