@@ -6,7 +6,7 @@ use crate::telling::assert_number;
 use shop_nodes::Sheet;
 use shop_round::PieceSearcher;
 use shop_runs::{PieceSearch, Round};
-use shop_workers::{Board, Gate, Pool, Seat, SeatGate, serve, work_by};
+use shop_workers::{Board, Gate, Pool, Seat, SeatGate, claim_and_search_all, serve};
 use std::alloc::{AllocError as NoMemory, Global};
 use std::process::Abort;
 use std::sync::atomic::{AtomicUsize, Ordering};
@@ -108,8 +108,9 @@ fn calls_on_board<'r, P: PieceSearch<'r>>(
     round: &'r Round<'r>,
 ) -> (usize, bool) {
     let gate = Calls::new();
-    let (board, seat) = Board::open(alloc, round).expect(rt, "memory");
-    let (_seat, entries) = work_by::<P, Calls>(alloc, &board, seat, round, 3, &gate);
+    let (board, mut seat) = Board::open(alloc, round).expect(rt, "memory");
+    let mut searcher = P::over(round);
+    let entries = claim_and_search_all(alloc, &board, &mut seat, &mut searcher, 3, &gate);
     (gate.noted(), entries.is_ok())
 }
 

@@ -10,16 +10,16 @@ ghost use Rattle.shop_workers.specs.inner.Returns.{IsReturned, AreReturned};
 
 use crate::waiting::map_waiting;
 use shop_round::PieceSearcher;
-use shop_runs::{Entry, Round};
+use shop_runs::{Entry, PieceSearch, Round};
 use shop_workers::{
-    Board, Lent, Returned, Seat, SeatGate, complete_returned, seats_for_workers, work_by,
+    Board, Lent, Returned, Seat, SeatGate, claim_and_search_all, complete_returned, seats_for_workers,
 };
 use std::alloc::{AllocError as NoMemory, Global};
 use std::thread::Threads;
 
 /// Claims each piece of the board in order. Searches a piece that the seat wins, or skips it if the makespan of an
-/// earlier one is known to equal the opening bound. Answers the seat, and the entries of the pieces that it won in this
-/// call, or `NoMemory` if memory runs out.
+/// earlier one is known to equal the opening bound. Answers the seat, which keeps all that it knew, and the entries of
+/// the pieces that it won in this call, in number order, or `NoMemory` if memory runs out. Waits only for the gate.
 pub fn work<'r, G: SeatGate>(
     alloc: Global,
     board: &Board,
@@ -36,7 +36,10 @@ pub fn work<'r, G: SeatGate>(
     ensures entries { BringsWon (told round.now) (knows seat) (knows result.0) result.1 }
     ensures served { OnOk result.1 (HasServed (knows seat) → HasServed (knows result.0)) }
 {
-    work_by::<PieceSearcher<'r>, G>(alloc, board, seat, round, worker, gate)
+    let mut seat = seat;
+    let mut searcher = PieceSearcher::over(round);
+    let entries = claim_and_search_all(alloc, board, &mut seat, &mut searcher, worker, gate);
+    (seat, entries)
 }
 
 // Runs each worker in `lent` on a thread of its own if one can start, and a lone worker on the calling thread.

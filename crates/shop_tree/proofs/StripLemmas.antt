@@ -1,7 +1,9 @@
 -- A kept child whose state was taken is kept still, and each state is room for one.
-use Rattle.std.proofs.Common.{◌≡◌, ℕ, ◌+◌, ◌-◌, ◌≤◌, ◌<◌, List, ◌++◌, [], length, map, get_or, set, inl, inr}
+use Rattle.std.proofs.Common.{◌≡◌, ℕ, ◌+◌, ◌-◌, ◌≤◌, ◌<◌, List, ◌++◌, ◌∷◌, [], length, map, get_or, set, inl, inr}
 use Rattle.std.proofs.Common.{All, None, Some, Option, refl, sym, ◌∙◌, ap, subst, arith}
 use Rattle.std.specs.Global.{Box}
+use Rattle.std.specs.List.{insert}
+use Rattle.std.specs.Prelude.{OnSome}
 use Rattle.std.proofs.Math.Seq.{map-set_same}
 use Rattle.std.proofs.lemmas.List.{get_or-append-add, get_or-map, length-append, length-map, map-set}
 use Rattle.std.proofs.lemmas.List.{set-append_right}
@@ -10,10 +12,13 @@ use Rattle.shop_nodes.specs.declared.halts.Open.{Open}
 use Rattle.shop_nodes.specs.Halts.{word_at}
 use Rattle.shop_tree.specs.declared.held.Held.{Held}
 use Rattle.shop_tree.specs.inner.Held.{IsHeldOf, IsKept, Kept, held, opens_in}
-use Rattle.shop_tree.specs.inner.Tried.{AreSlotsFrom, HasStripped}
-use Rattle.shop_tree.proofs.TrialLemmas.{IsTrying}
+use Rattle.shop_tree.specs.inner.Tried.{AreSlotsFrom, HasPutTried, HasStripped}
+use Rattle.shop_tree.proofs.TrialLemmas.{IsTrying, tried_child, turn_kept}
+use Rattle.shop_states.specs.States.{TellsBoundBelow}
 use Rattle.shop_states.specs.declared.dispatching.Candidate.{Candidate}
 use Rattle.shop_model.specs.Shop.{Shop}
+use Rattle.shop_model.specs.Word.{IsWord}
+use Rattle.shop_bound.specs.Bound.{lb}
 use Rattle.shop_tree.proofs.PushLemmas.{IsGathered}
 
 held_slot : {S : Type 0} (is : List ℕ → S → Type 0) (slot : S → Type 0) → ((w : List ℕ) (s : S) → is w s → slot s)
@@ -74,25 +79,52 @@ module _ {S : Type 0} (below : List (Held S)) (kids : List (Kept S)) (from : ℕ
           states = All-set (IsKept is word) kids n bare tt each;
         }
 
--- trials go on with them
-pub trying_stripped : {S : Type 0} {is : List ℕ → S → Type 0} {of : Candidate → Type 0} {shop : Shop} {limit : ℕ}
-    {word : List ℕ} {cs : List Candidate} {i : ℕ} {kids left : List (Kept S)} {others : ℕ} {current : S}
-    → IsTrying is of shop limit word cs i kids others current → opens_in left ≡ opens_in kids
-    → All (IsKept is word) left → IsTrying is of shop limit word cs i left others current
-trying_stripped {S} {is} {of} {shop} {limit} {word} {cs} {i} {kids} {left} t opens states = record {
-  left = t.left;
-  done = t.done;
-  unseen = t.unseen;
-  seen = t.seen;
-  split = t.split;
-  lists = t.lists;
-  gathered = subst (λ (os : List Open). IsGathered shop limit word os t.seen t.done) (sym opens) t.gathered;
-  count = t.count;
-  states = states;
-  within = t.within;
-  few = t.few;
-  wanted = t.wanted;
-}
+-- the child that was tried lies among the others
+pub record HasKept {S : Type 0} (is : List ℕ → S → Type 0) (of : Candidate → Type 0) (shop : Shop) (limit : ℕ)
+    (word : List ℕ) (cs : List Candidate) (i others : ℕ) (current : S) (below new : List (Held S)) : Type 0 where
+  pub kids : List (Kept S)
+  pub stack : new ≡ below ++ map held kids
+  pub trying : IsTrying is of shop limit word cs i kids others current
+
+module _ {S : Type 0} {is : List ℕ → S → Type 0} {of : Candidate → Type 0} {shop : Shop} {limit : ℕ} {word : List ℕ}
+    {cs : List Candidate} {i : ℕ} (some : 0 < i) {kids : List (Kept S)} {others : ℕ} {current : S}
+    (t : IsTrying is of shop limit word cs i kids others current) where
+  abbrev job : ℕ
+  job = (get_or cs (i - 1) (record { job = 0; own = 0 })).job
+
+  still_trying : (left : List (Kept S)) → opens_in left ≡ opens_in kids → All (IsKept is word) left
+      → IsTrying is of shop limit word cs i left others current
+  still_trying left opens states = record {
+    left = t.left;
+    done = t.done;
+    unseen = t.unseen;
+    seen = t.seen;
+    split = t.split;
+    lists = t.lists;
+    gathered = subst (λ (os : List Open). IsGathered shop limit word os t.seen t.done) (sym opens) t.gathered;
+    count = t.count;
+    states = states;
+    within = t.within;
+    few = t.few;
+    wanted = t.wanted;
+  }
+
+  pub tried_kept : {from b : ℕ} {told : Option ℕ} {trial : S} {below old new : List (Held S)} → from ≡ length below
+      → old ≡ below ++ map held kids
+      → HasPutTried from (record { depth = length word; job = job; bound = b }) trial old new → told ≡ Some b
+      → TellsBoundBelow limit (lb shop (word ++ job ∷ [])) told → OnSome told (is (word ++ job ∷ []) trial)
+      → IsWord shop word → (now : S) → (0 < i - 1 → is word now)
+      → HasKept is of shop limit word cs (i - 1) others now below new
+  tried_kept {from} {b} {told} {trial} {below} {old} e stack put some_b tells of_trial is_word now wanted =
+      let less = stripped below kids from e old stack is word t.states put.mid put.room.0 put.room.1
+      in let child = tried_child is shop word limit job b told trial put.state some_b tells of_trial put.taken
+      in let lies = put.put below less.left e less.put
+      in record {
+        kids = insert less.left lies.at
+            (record { «open» = record { depth = length word; job = job; bound = b }; state = put.state });
+        stack = lies.put;
+        trying = turn_kept some (still_trying less.left less.opens less.states) now is_word child lies wanted;
+      }
 
 -- a state that was taken is room for one
 pub slot_taken : {S : Type 0} (slot : S → Type 0) (from : ℕ) (old new : List (Held S)) (state : Option (Box S))

@@ -1,10 +1,10 @@
 // The search of a piece, in lanes of the width of its layout.
-ghost use Rattle.std.specs.Prelude.{◌≡◌, ◌≤◌, ◌<◌, ◌^◌, OnOk, IfOk};
+ghost use Rattle.std.specs.Prelude.{◌≡◌, ◌≤◌, ◌<◌, ◌^◌, IfOk, IfSome};
+ghost use Rattle.std.specs.Global.{Box};
 ghost use Rattle.shop_nodes.specs.Nodes.{AreNodes};
-ghost use Rattle.shop_nodes.specs.Sheets.{IsSheetOf, KeepsTables};
+ghost use Rattle.shop_tree.specs.Searches.{Searches};
 
-use crate::laid_searchers::LaidSearcher;
-use crate::widths::Widths;
+use crate::lane_walkers::LaneWalker;
 use shop_layout::{LaneLayout, Layout};
 use shop_model::Instance;
 use shop_nodes::{Piece, Sheet};
@@ -26,84 +26,90 @@ fn bytes_of_number(layout: &Layout) -> usize
     }
 }
 
-/// Searches pieces of an instance in turn, over a layout that searchers share. Reuses its states and its stack from
-/// piece to piece. Its value in contracts is the instance.
+/// Searches pieces of an instance in turn, over a layout that searchers share. The first search makes a walk's states
+/// and stack, and later searches use them again. Its value in contracts is the instance.
 pub struct Searcher<'l, 'a> {
-    widths: Widths<'l, 'a>,
+    instance: &'a Instance,
+    layout: &'l Layout<'a>,
+    /// how many states the walk may keep for waiting children
+    most: usize,
+    /// `None` before the first search, and after one that ran out of memory
+    walker: Option<Box<LaneWalker<'l, 'a>>>,
 }
 
 // Not derived: a derived `Drop` would be compiled anew into each function that has a searcher.
 impl Drop for Searcher<'_, '_> {
     fn drop(self) {
-        let Searcher { widths: _ } = self;
+        let Searcher {
+            instance: _,
+            layout: _,
+            most: _,
+            walker: _,
+        } = self;
     }
 }
 
 impl<'l, 'a> Model for Searcher<'l, 'a> {
+    ghost use Rattle.std.specs.Prelude.{◌≡◌, IfSome};
     ghost use Rattle.shop_model.specs.Shop.{Shop};
-    ghost use Rattle.shop_tree.specs.inner.Widths.{shop_searched};
+    ghost use Rattle.shop_tree.specs.inner.LaneWalkers.{IsWalkOf};
 
     ghost Value = { Shop };
 
-    ghost view = { λ s. shop_searched s.widths };
+    ghost view = { λ s. s.instance.now };
+
+    ghost invariant = { λ s. (s.layout.now ≡ s.instance.now)
+        × IfSome s.walker (λ b. IsWalkOf s.instance.now b.value) };
 }
 
 impl<'l, 'a> Searcher<'l, 'a> {
-    /// Makes a searcher for pieces of `instance`, over its layout. Fails with `NoMemory` if memory runs out.
-    pub fn over(
-        alloc: Global,
-        instance: &'a Instance,
-        layout: &'l Layout<'a>,
-    ) -> Result<Searcher<'l, 'a>, NoMemory>
+    ghost use Rattle.shop_tree.specs.inner.LaneWalkers.{IsWalkOf};
+
+    /// Makes a searcher for pieces of `instance`, over its layout. Takes no memory.
+    pub fn over(instance: &'a Instance, layout: &'l Layout<'a>) -> Searcher<'l, 'a>
         requires { layout.now ≡ instance.now }
-        ensures { IfOk result (λ s. s ≡ instance.now) }
+        ensures { result ≡ instance.now }
     {
         instance.keeps_limits();
         let numbers = instance.operations() + instance.jobs() + 1;
-        Searcher::with_states(
-            alloc,
-            instance,
-            layout,
-            ROOM / bytes_of_number(layout) / numbers,
-        )
+        Searcher::with_states(instance, layout, ROOM / bytes_of_number(layout) / numbers)
     }
 
     /// Makes a searcher for pieces of `instance`, over its layout, with at most `most` states for waiting children. A
     /// search fills the state of any other child from its word when it walks the child. The result of a search doesn't
-    /// depend on `most`. Fails with `NoMemory` if memory runs out.
+    /// depend on `most`. Takes no memory.
     pub fn with_states(
-        alloc: Global,
         instance: &'a Instance,
         layout: &'l Layout<'a>,
         most: usize,
-    ) -> Result<Searcher<'l, 'a>, NoMemory>
+    ) -> Searcher<'l, 'a>
         requires { layout.now ≡ instance.now }
-        ensures { IfOk result (λ s. s ≡ instance.now) }
+        ensures { result ≡ instance.now }
     {
-        let widths = match layout.lanes() {
-            LaneLayout::In16By2(laid_out) => {
-                Widths::In16By2(LaidSearcher::new(alloc, instance, laid_out, most)?)
-            }
-            LaneLayout::In16By3(laid_out) => {
-                Widths::In16By3(LaidSearcher::new(alloc, instance, laid_out, most)?)
-            }
-            LaneLayout::In16(laid_out) => {
-                Widths::In16(LaidSearcher::new(alloc, instance, laid_out, most)?)
-            }
-            LaneLayout::In32(laid_out) => {
-                Widths::In32(LaidSearcher::new(alloc, instance, laid_out, most)?)
-            }
-            LaneLayout::In64(laid_out) => {
-                Widths::In64(LaidSearcher::new(alloc, instance, laid_out, most)?)
-            }
-        };
-        Ok(Searcher { widths })
+        Searcher {
+            instance,
+            layout,
+            most,
+            walker: None,
+        }
+    }
+
+    /// Takes out the walker that was kept, or makes a new one. Fails with `NoMemory` if memory runs out.
+    fn take_walker(&mut self, alloc: Global) -> Result<Box<LaneWalker<'l, 'a>>, NoMemory>
+        ensures walker { IfOk result (λ w. IsWalkOf self.old w.value) }
+        ensures instance { self.new ≡ self.old }
+    {
+        if let Some(walker) = self.walker.take() {
+            return Ok(walker);
+        }
+        let walker = LaneWalker::new(alloc, self.instance, self.layout, self.most)?;
+        Ok(Box::new(alloc, walker)?)
     }
 
     /// Searches `piece` by branch and bound: its nodes in order, depth first, the children of each node by bound.
     /// `best` is the makespan to beat. Takes at most `budget` nodes and leaves the others, in order. Loses no schedule:
     /// for each schedule under a node of the piece that ends before the sheet's makespan, some schedule under a node
-    /// left ends no later. Fails with `NoMemory` if memory runs out, and so does every later search.
+    /// left ends no later. Fails with `NoMemory` if memory runs out.
     pub fn search(
         &mut self,
         alloc: Global,
@@ -113,16 +119,12 @@ impl<'l, 'a> Searcher<'l, 'a> {
     ) -> Result<Sheet<'a>, NoMemory>
         requires nodes { AreNodes self.old piece.now.nodes.items }
         requires small { budget < 2 ^ 50 }
-        ensures of { IfOk result (λ s. IsSheetOf s self.old piece.now best budget) }
-        ensures keeps { IfOk result (λ s. KeepsTables self.old piece.now best s) }
-        ensures instance { OnOk result (self.new ≡ self.old) }
+        ensures sheet { IfOk result (Searches self.old piece.now best budget) }
+        ensures instance { self.new ≡ self.old }
     {
-        match &mut self.widths {
-            Widths::In16By2(searcher) => searcher.search(alloc, piece, best, budget),
-            Widths::In16By3(searcher) => searcher.search(alloc, piece, best, budget),
-            Widths::In16(searcher) => searcher.search(alloc, piece, best, budget),
-            Widths::In32(searcher) => searcher.search(alloc, piece, best, budget),
-            Widths::In64(searcher) => searcher.search(alloc, piece, best, budget),
-        }
+        let mut walker = self.take_walker(alloc)?;
+        let sheet = walker.search(alloc, piece, best, budget)?;
+        self.walker = Some(walker);
+        Ok(sheet)
     }
 }

@@ -1,7 +1,7 @@
 // Searches one piece over a layout of its own.
 ghost use Rattle.std.specs.Prelude.{◌<◌, ◌^◌, IfOk};
 ghost use Rattle.shop_nodes.specs.Nodes.{AreNodes};
-ghost use Rattle.shop_nodes.specs.Sheets.{IsSheetOf, KeepsTables};
+ghost use Rattle.shop_tree.specs.Searches.{Searches};
 
 use crate::searchers::Searcher;
 use shop_layout::Layout;
@@ -19,10 +19,9 @@ pub fn search<'r>(
 ) -> Result<Sheet<'r>, NoMemory>
     requires nodes { AreNodes instance.now piece.now.nodes.items }
     requires small { budget < 2 ^ 50 }
-    ensures of { IfOk result (λ s. IsSheetOf s instance.now piece.now best budget) }
-    ensures keeps { IfOk result (λ s. KeepsTables instance.now piece.now best s) }
+    ensures { IfOk result (Searches instance.now piece.now best budget) }
 {
     let layout = Layout::of(alloc, instance)?;
-    let mut searcher = Searcher::over(alloc, instance, &layout)?;
+    let mut searcher = Searcher::over(instance, &layout);
     searcher.search(alloc, piece, best, budget)
 }

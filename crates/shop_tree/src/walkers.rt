@@ -2,7 +2,7 @@
 ghost use Rattle.std.specs.Prelude.{◌≡◌, ◌≤◌, ◌<◌, ◌^◌, length, vec_capacity, [], OnOk, IfOk};
 ghost use Rattle.shop_model.specs.Shop.{operation_count};
 ghost use Rattle.shop_nodes.specs.Nodes.{IsNode, AreNodes};
-ghost use Rattle.shop_nodes.specs.Sheets.{IsSheetOf, KeepsTables};
+ghost use Rattle.shop_tree.specs.Searches.{Searches};
 
 use crate::held::{Held, copy_waiting};
 use crate::progress::Progress;
@@ -211,10 +211,7 @@ impl<'l, 'a, D: Dispatching<S>, S: Drop> Walker<'l, 'a, D, S> {
         requires nodes { AreNodes self.old.progress.instance.now piece.now.nodes.items }
         requires small { budget < 2 ^ 50 }
         requires states { HasStates self.old }
-        ensures of { IfOk result
-            (λ s. IsSheetOf s self.old.progress.instance.now piece.now best budget) }
-        ensures keeps { IfOk result
-            (λ s. KeepsTables self.old.progress.instance.now piece.now best s) }
+        ensures sheet { IfOk result (Searches self.old.progress.instance.now piece.now best budget) }
         ensures instance { OnOk result
             (self.new.progress.instance.now ≡ self.old.progress.instance.now) }
         ensures states { OnOk result (HasStates self.new) }

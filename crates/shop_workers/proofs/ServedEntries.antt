@@ -3,7 +3,7 @@ use Rattle.std.proofs.Common.{◌≡◌, ◌⊎◌, ℕ, ◌<◌, List, [], ◌�
 use Rattle.std.proofs.Common.{sym, ◌∙◌, subst, inl, inr, ⊎_elim, arith, true≢false}
 use Rattle.std.proofs.lemmas.List.{reverse-append}
 use Rattle.std.proofs.lemmas.List.Elements.{All-head, All-tail}
-use Rattle.std.specs.Prelude.{All, Ok, Err, IfOk, OnOk}
+use Rattle.std.specs.Prelude.{All}
 use Rattle.shop_runs.specs.Round.{Told}
 use Rattle.shop_runs.specs.Entries as entries
 use Rattle.shop_runs.specs.Entries.{told, number_of, Fits}
@@ -15,7 +15,7 @@ use Rattle.shop_workers.specs.declared.views.View.{View}
 use Rattle.shop_runs.specs.Hits.{hits_of_round}
 use Rattle.shop_workers.specs.Views.{has, HasServed}
 use Rattle.shop_runs.specs.Hits.{is_hit_in}
-use Rattle.shop_workers.specs.Entries.{OfRound, Brought}
+use Rattle.shop_workers.specs.Entries.{OfRound}
 use Rattle.shop_workers.specs.Works.{Grows, numbers_of, IsServed, AreWon}
 use Rattle.shop_workers.proofs.Numbers.{has_append, has_cons, has_same, has_tail}
 use Rattle.shop_runs.proofs.RoundPieces.{same_hit, is_piece}
@@ -68,9 +68,3 @@ all_served r hits v w es e same g won served n mine hit = ⊎_elim new old split
       (λ d. inl (g.done n d))
       (λ (l : v.low < n). let lower = g.low in inr (omega arith))
       (served n h (subst (λ k. is_hit_in k n ≡ true) g.hits hit))
-
--- a fact of the entries that were brought, if any were
-pub on_brought : (P : List Entry → Type 0) (Q : Type 0) (b : Brought) → ((es : List Entry) → P es → Q)
-    → IfOk b (λ v. P v.items) → OnOk b Q
-on_brought P Q (Ok v) follows h = follows v.items h
-on_brought P Q (Err e) follows h = tt

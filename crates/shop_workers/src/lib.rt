@@ -24,4 +24,4 @@ pub use pools::Pool;
 pub use seat_gates::SeatGate;
 pub use seat_laws::has_all;
 pub use seat_lending::{Lent, Returned, complete_returned, seats_for_workers};
-pub use working::work_by;
+pub use working::claim_and_search_all;

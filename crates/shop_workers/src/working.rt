@@ -9,7 +9,7 @@ ghost use Rattle.shop_workers.specs.inner.Turns.{IsServedEntry, BringsTurn};
 
 use crate::boards::{Board, Seat};
 use crate::seat_gates::SeatGate;
-use shop_runs::{Entry, PieceSearch, Round};
+use shop_runs::{Entry, PieceSearch};
 use std::alloc::{AllocError as NoMemory, Global};
 
 // Searches piece `number`, which `seat` won, marks it if its makespan equals the opening bound, and answers its entry.
@@ -74,8 +74,11 @@ fn claim_and_search<'r, P: PieceSearch<'r>, G: SeatGate>(
     Ok(Some(entry))
 }
 
-// Claims each piece in order, searches or skips each that the seat wins, and answers the entries of the pieces won.
-fn claim_and_search_all<'r, P: PieceSearch<'r>, G: SeatGate>(
+/// Claims each piece of the board in order. Searches a piece that the seat wins, or skips it if the board shows an
+/// earlier piece as marked. Marks a searched piece whose sheet's makespan equals the opening bound. Answers the entries
+/// of the pieces that the seat won in this call, in number order. Fails with `NoMemory` if memory runs out; the seat
+/// then keeps what it won. Waits only for the gate.
+pub fn claim_and_search_all<'r, P: PieceSearch<'r>, G: SeatGate>(
     alloc: Global,
     board: &Board,
     seat: &mut Seat,
@@ -92,6 +95,7 @@ fn claim_and_search_all<'r, P: PieceSearch<'r>, G: SeatGate>(
         (IsAllKnown (length (P.searched searcher.old).pieces.items) (knows seat.new)) }
     ensures entries { BringsWon (told (P.searched searcher.old)) (knows seat.old) (knows seat.new)
         result }
+    ensures served { OnOk result (HasServed (knows seat.old) → HasServed (knows seat.new)) }
 {
     let mut entries = Vec::new(alloc);
     for number in 0..searcher.round().pieces.len() {
@@ -100,30 +104,4 @@ fn claim_and_search_all<'r, P: PieceSearch<'r>, G: SeatGate>(
         }
     }
     Ok(entries)
-}
-
-/// Claims each piece of the board in order. Searches a piece that the seat wins, or skips it if the board shows an
-/// earlier piece as marked. Marks a searched piece whose sheet's makespan equals the opening bound. Answers the seat,
-/// which keeps all that it knew, and the entries of the pieces that it won in this call, in number order, or `NoMemory`
-/// if memory runs out. Waits only for the gate.
-pub fn work_by<'r, P: PieceSearch<'r>, G: SeatGate>(
-    alloc: Global,
-    board: &Board,
-    seat: Seat,
-    round: &'r Round<'r>,
-    worker: usize,
-    gate: &G,
-) -> (Seat, Result<Vec<Entry<'r>>, NoMemory>)
-    requires seat { IsSeatOf board.now seat }
-    requires round { hits_of board.now ≡ hits_of_round round.now }
-    ensures seat { IsSeatOf board.now result.0 }
-    ensures grows { Grows (knows seat) (knows result.0) }
-    ensures claimed { OnOk result.1 (IsAllKnown (length round.now.pieces.items) (knows result.0)) }
-    ensures entries { BringsWon (told round.now) (knows seat) (knows result.0) result.1 }
-    ensures served { OnOk result.1 (HasServed (knows seat) → HasServed (knows result.0)) }
-{
-    let mut seat = seat;
-    let mut searcher = P::over(round);
-    let entries = claim_and_search_all(alloc, board, &mut seat, &mut searcher, worker, gate);
-    (seat, entries)
 }

@@ -1,9 +1,10 @@
 use Rattle.std.proofs.Common.{◌+◌, ◌<◌, ap, ◌∙◌, subst, sym, Some, None}
 use Rattle.std.specs.Prelude.{All}
 use Rattle.shop_runs.specs.Entries.{told}
-use Rattle.shop_workers.specs.Seats.{knows}
+use Rattle.shop_workers.specs.Seats.{knows, hits_of}
 use Rattle.shop_workers.specs.Works.{AreWon, numbers_of}
 use Rattle.shop_workers.specs.inner.Turns.{TakesTurn}
+use Rattle.shop_workers.proofs.ServedEntries.{all_served}
 use Rattle.shop_workers.proofs.WonEntries.{grows_twice, still_won, one_won, below_next, below_push, known_next}
 use Rattle.shop_workers.proofs.working.claim_and_search_all.Goals as goal
 use Rattle.shop_workers.proofs.working.claim_and_search_all.Goals.{in-Some+in_ok-push, in_default}
@@ -50,3 +51,9 @@ loop-number-preserved g c =
             (below_next es number i.below)
       ];
     }
+
+pub returns-clause-served : goal.returns-clause-served
+returns-clause-served g c =
+    let i = c.loop-number.invariant in
+    all_served (g.P.PieceSearch.searched c.args.searcher.now) (hits_of c.args.board.now) (knows c.args.seat.now)
+    (knows c.loop-number.seat) c.loop-number.entries.items c.requires.round i.seat.1 i.grows i.entries

@@ -1,54 +1,36 @@
-use Rattle.std.proofs.Common.{◌≡◌, All, ◌+◌, ◌<◌, ◌-◌, [], ◌∷◌, ◌++◌, List, get_or, sym, ◌∙◌, ap, subst}
+use Rattle.std.proofs.Common.{◌≡◌, ◌+◌, ◌<◌, ◌-◌, [], ◌∷◌, ◌++◌, get_or, sym, ◌∙◌, ap, subst}
 use Rattle.std.proofs.Common.{append-nil, arith, length}
-use Rattle.std.specs.List.{insert}
-use Rattle.std.specs.Prelude.{OnSome}
 use Rattle.shop_model.proofs.WordLengths.{word_length}
 use Rattle.shop_bound.specs.Bound.{lb}
-use Rattle.shop_states.specs.States.{Settles}
-use Rattle.shop_tree.specs.inner.Held.{Kept}
 use Rattle.shop_tree.specs.inner.Tried.{AreSlotsFrom, HasPutChildren}
-use Rattle.shop_tree.proofs.StripLemmas.{are_slots, stripped, trying_stripped}
+use Rattle.shop_tree.proofs.StripLemmas.{are_slots, many, tried_kept}
 use Rattle.shop_tree.proofs.AddLemmas.{conflict_few}
 use Rattle.shop_tree.proofs.TrialLemmas.{IsTrying, trying_begins, next_own, next_fits, turn_counted}
-use Rattle.shop_tree.proofs.TrialLemmas.{turn_kept, told_high, tried_child, still_wanted, all_tried}
+use Rattle.shop_tree.proofs.TrialLemmas.{told_high, still_wanted, all_tried}
 use Rattle.shop_tree.proofs.walk_states.WalkStates.try_candidates.Goals as goal
 
 pub overflow_cast-depth : goal.overflow_cast-depth
 overflow_cast-depth g c =
     let d = c.args.self.now.dispatcher.now
-    in let a = word_length (g.D.Dispatching.shop d) c.args.word.now
-    (g.met.D.Dispatching.state_is_within_limits d c.args.word.now _ c.requires.state)
-    (g.met.D.Dispatching.state_is_of_word d c.args.word.now _ c.requires.state)
+    in let a = word_length (g.D.Dispatching.shop d) c.args.branching.now.word.now
+    (g.met.D.Dispatching.state_is_within_limits d c.args.branching.now.word.now _ c.requires.state)
+    (g.met.D.Dispatching.state_is_of_word d c.args.branching.now.word.now _ c.requires.state)
     in omega arith
-
-pub settle_candidates-requires-clause-settled : goal.settle_candidates-requires-clause-settled
-settle_candidates-requires-clause-settled g c =
-    subst (λ x. Settles (g.D.Dispatching.shop x) c.args.word.now c.args.bound c.in-Some.top c.args.candidates.now)
-    (sym c.bound_children.ensures.dispatcher)
-    (c.in-Some.ensures.settled c.args.word.now c.args.limit c.args.closed c.requires.state c.requires.bound
-    c.requires.listed)
-
-pub settle_candidates-requires-clause-known : goal.settle_candidates-requires-clause-known
-settle_candidates-requires-clause-known g c =
-    subst (λ x. All (λ k. g.D.Dispatching.KnowsChild x c.bound_children.new.self.scratch c.args.word.now k.job)
-    c.args.candidates.now) (sym c.bound_children.ensures.dispatcher)
-    (c.in-Some.ensures.known c.args.word.now c.args.limit c.args.closed c.requires.state c.requires.bound
-    c.requires.listed)
 
 pub loop-index-init : goal.loop-index-init
 loop-index-init g c =
-    let word = c.args.word.now
+    let word = c.args.branching.now.word.now
     in let same = c.bound_children.ensures.dispatcher
     in record {
       kids = [];
       stack = sym (append-nil _);
       trying = subst (λ x. IsTrying (g.D.Dispatching.IsStateOf x) (g.D.Dispatching.IsCandidate x word)
-          (g.D.Dispatching.shop x) c.args.limit word c.args.candidates.now (length c.args.candidates.now) []
-          c.args.closed c.bound_children.new.self.current.value) (sym same)
-          (trying_begins c.requires.listed
+          (g.D.Dispatching.shop x) c.args.branching.now.limit word c.args.branching.now.candidates.now (length c.args.branching.now.candidates.now) []
+          c.args.branching.now.closed c.bound_children.new.self.current.value) (sym same)
+          (trying_begins c.requires.listed.listed
           (subst (λ s. g.D.Dispatching.IsStateOf c.args.self.now.dispatcher.now word s)
           (sym c.bound_children.ensures.current) c.requires.state));
-      bound = c.requires.bound ∙ ap (λ x. lb (g.D.Dispatching.shop x) word) (sym same);
+      bound = c.requires.listed.bound ∙ ap (λ x. lb (g.D.Dispatching.shop x) word) (sym same);
       more = omega arith;
       sound = c.bound_children.ensures.sound;
       same = same;
@@ -60,13 +42,13 @@ overflow_add-others g c =
     in let now = c.loop-index.invariant
     in let a = now.trying.few
     in let some : 0 < c.loop-index.index = (let a = c.loop-index-test.true in omega arith)
-    in let limits = g.met.D.Dispatching.state_is_within_limits d c.args.word.now _ (now.trying.wanted some)
-    in let b = conflict_few (g.D.Dispatching.shop d) c.args.word.now in let e = limits.jobs in omega arith
+    in let limits = g.met.D.Dispatching.state_is_within_limits d c.args.branching.now.word.now _ (now.trying.wanted some)
+    in let b = conflict_few (g.D.Dispatching.shop d) c.args.branching.now.word.now in let e = limits.jobs in omega arith
 
 pub try_candidate-requires-clause-can : goal.try_candidate-requires-clause-can
 try_candidate-requires-clause-can g c =
     let now = c.loop-index.invariant
-    in let word = c.args.word.now
+    in let word = c.args.branching.now.word.now
     in let some : 0 < c.loop-index.index = (let a = c.loop-index-test.true in omega arith)
     in let state = now.trying.wanted some
     in record {
@@ -81,13 +63,13 @@ pub loop-index-preserved-in_default-try_candidate : goal.loop-index-preserved-in
 loop-index-preserved-in_default-try_candidate g c =
     let now = c.loop-index.invariant
     in let d = c.loop-index.self.dispatcher.now
-    in let word = c.args.word.now
-    in let cs = c.args.candidates.now
+    in let word = c.args.branching.now.word.now
+    in let cs = c.args.branching.now.candidates.now
     in let i = c.loop-index.index
     in let some : 0 < i = (let a = c.loop-index-test.true in omega arith)
     in let job = (get_or cs (i - 1) (record { job = 0; own = 0 })).job
     in let state = now.trying.wanted some
-    in let high = told_high c.args.limit (lb (g.D.Dispatching.shop d) (word ++ job ∷ [])) c.try_candidate.result
+    in let high = told_high c.args.branching.now.limit (lb (g.D.Dispatching.shop d) (word ++ job ∷ [])) c.try_candidate.result
     c.in_default-try_candidate.is (c.try_candidate.ensures.told word state (next_own some now.trying) now.bound)
     in let left = c.try_candidate.new.self.current.value
     in let same = c.try_candidate.ensures.dispatcher
@@ -95,7 +77,7 @@ loop-index-preserved-in_default-try_candidate g c =
       kids = now.kids;
       stack = now.stack;
       trying = subst (λ x. IsTrying (g.D.Dispatching.IsStateOf x) (g.D.Dispatching.IsCandidate x word)
-          (g.D.Dispatching.shop x) c.args.limit word cs (i - 1) now.kids (c.loop-index.others + 1) left) (sym same)
+          (g.D.Dispatching.shop x) c.args.branching.now.limit word cs (i - 1) now.kids (c.loop-index.others + 1) left) (sym same)
           (turn_counted some now.trying left high
           (still_wanted (g.D.Dispatching.IsStateOf d word) i c.try_candidate.ensures.current state));
       bound = now.bound ∙ ap (λ x. lb (g.D.Dispatching.shop x) word) (sym same);
@@ -104,70 +86,62 @@ loop-index-preserved-in_default-try_candidate g c =
       same = same ∙ now.same;
     }
 
-pub make_room-requires-clause-slots : goal.make_room-requires-clause-slots
-make_room-requires-clause-slots g c =
+pub put_tried-requires : goal.put_tried-requires
+put_tried-requires g c =
     let now = c.loop-index.invariant
     in let d = c.loop-index.self.dispatcher.now
-    in let same = c.try_candidate.ensures.dispatcher
-    in subst (λ x. AreSlotsFrom (g.D.Dispatching.IsSlot x) c.len-from.result c.loop-index.stack.items) (sym same)
-    (are_slots c.args.stack.now.items now.kids c.len-from.result
-    (let a = c.len-from.ensures in let b = c.args.stack.now.ok.0 in omega arith) c.loop-index.stack.items now.stack
-    (g.D.Dispatching.IsStateOf d) c.args.word.now now.trying.states (g.D.Dispatching.IsSlot d)
-    (λ w s. g.met.D.Dispatching.state_is_slot d w s))
+    in let old = c.args.stack.now.items
+    in let stack = c.loop-index.stack.items
+    in let e : c.len-from.result ≡ length old = (let a = c.len-from.ensures in let b = c.args.stack.now.ok.0
+    in omega arith)
+    in let long = many old now.kids c.len-from.result e stack now.stack
+    in record {
+      sound = c.try_candidate.ensures.sound;
+      slots = subst (λ x. AreSlotsFrom (g.D.Dispatching.IsSlot x) c.len-from.result stack)
+          (sym c.try_candidate.ensures.dispatcher)
+          (are_slots old now.kids c.len-from.result e stack now.stack (g.D.Dispatching.IsStateOf d)
+          c.args.branching.now.word.now now.trying.states (g.D.Dispatching.IsSlot d)
+          (λ w s. g.met.D.Dispatching.state_is_slot d w s));
+      from = omega arith;
+    }
 
 pub loop-index-preserved : goal.loop-index-preserved
 loop-index-preserved g c =
     let now = c.loop-index.invariant
     in let d = c.loop-index.self.dispatcher.now
     in let is = g.D.Dispatching.IsStateOf d
-    in let word = c.args.word.now
-    in let cs = c.args.candidates.now
+    in let word = c.args.branching.now.word.now
     in let i = c.loop-index.index
     in let some : 0 < i = (let a = c.loop-index-test.true in omega arith)
-    in let job = (get_or cs (i - 1) (record { job = 0; own = 0 })).job
     in let state = now.trying.wanted some
-    in let own = next_own some now.trying
-    in let child = tried_child is (g.D.Dispatching.shop d) word c.args.limit job c.in-Some-try_candidate.bound
-    c.try_candidate.result c.make_room.new.self.trial.value c.in_ok-state.state c.in-Some-try_candidate.is
-    (c.try_candidate.ensures.told word state own now.bound)
-    (subst (λ s. OnSome c.try_candidate.result (is (word ++ job ∷ []) s)) (sym c.in_ok-make_room.ensures.trial)
-    (c.try_candidate.ensures.state word state own))
-    c.in_ok-state.ensures.taken
     in let e : c.len-from.result ≡ length c.args.stack.now.items =
     (let a = c.len-from.ensures in let b = c.args.stack.now.ok.0 in omega arith)
-    in let made = c.make_room.ensures.stripped
-    in let less = stripped c.args.stack.now.items now.kids c.len-from.result e c.loop-index.stack.items now.stack is
-    word now.trying.states c.make_room.new.stack.items made.0 made.1
-    in let put = c.in_ok-put.ensures c.args.stack.now.items less.left e less.put
-    in let left = c.take_trial.new.self.current.value
-    in let kids : List (Kept g.row.S.Denot) = insert less.left put.at (record {
-      «open» = record { depth = length word; job = job; bound = c.in-Some-try_candidate.bound };
-      state = c.in_ok-state.state;
-    })
-    in let same = c.take_trial.ensures.dispatcher
-    ∙ (c.make_room.ensures.dispatcher ∙ c.try_candidate.ensures.dispatcher)
+    in let left = c.put_tried.new.self.current.value
+    in let kept = tried_kept some now.trying e now.stack c.in_ok-put_tried.ensures.put c.in-Some-try_candidate.is
+    (c.try_candidate.ensures.told word state (next_own some now.trying) now.bound)
+    (c.try_candidate.ensures.state word state (next_own some now.trying))
+    (g.met.D.Dispatching.state_is_of_word d word _ state) left
+    (still_wanted (is word) i (λ f. c.in_ok-put_tried.ensures.current ∙ c.try_candidate.ensures.current f) state)
+    in let same = c.put_tried.ensures.dispatcher ∙ c.try_candidate.ensures.dispatcher
     in record {
-      kids = kids;
-      stack = put.put;
+      kids = kept.kids;
+      stack = kept.stack;
       trying = subst (λ x. IsTrying (g.D.Dispatching.IsStateOf x) (g.D.Dispatching.IsCandidate x word)
-          (g.D.Dispatching.shop x) c.args.limit word cs (i - 1) kids c.loop-index.others left) (sym same)
-          (turn_kept some (trying_stripped now.trying less.opens less.states) left
-          (g.met.D.Dispatching.state_is_of_word d word _ state) child put
-          (still_wanted (is word) i (λ f. c.take_trial.ensures.current
-          ∙ (c.in_ok-make_room.ensures.current ∙ c.try_candidate.ensures.current f)) state));
+          (g.D.Dispatching.shop x) c.args.branching.now.limit word c.args.branching.now.candidates.now (i - 1) kept.kids
+          c.loop-index.others left) (sym same) kept.trying;
       bound = now.bound ∙ ap (λ x. lb (g.D.Dispatching.shop x) word) (sym same);
       more = now.more;
-      sound = c.in_ok-state.ensures.sound;
+      sound = c.in_ok-put_tried.ensures.sound;
       same = same ∙ now.same;
     }
 
 pub returns-clause-children : goal.returns-clause-children
 returns-clause-children g c =
-    let word = c.args.word.now
+    let word = c.args.branching.now.word.now
     in let old = c.args.stack.now.items
     in let new = c.loop-index.stack.items
     in let now = c.loop-index.invariant
-    in subst (λ x. HasPutChildren (g.D.Dispatching.IsStateOf x) (g.D.Dispatching.shop x) c.args.limit word old new
+    in subst (λ x. HasPutChildren (g.D.Dispatching.IsStateOf x) (g.D.Dispatching.shop x) c.args.branching.now.limit word old new
     c.loop-index.others) now.same
     (all_tried c.loop-index.index now.kids c.loop-index.others c.loop-index.self.current.value old new
     (let a = c.loop-index-test.false in omega arith) now.stack now.trying)

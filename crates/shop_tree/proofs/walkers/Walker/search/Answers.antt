@@ -15,8 +15,8 @@ use Rattle.shop_nodes.proofs.Found.{searches_keep}
 use Rattle.shop_tree.proofs.WalkerLemmas.{sheet_told}
 use Rattle.shop_tree.proofs.walkers.Walker.search.Goals as goal
 
-pub returns-clause-keeps : goal.returns-clause-keeps
-returns-clause-keeps g c =
+pub returns-clause-sheet : goal.returns-clause-sheet
+returns-clause-sheet g c =
     let shop = c.args.self.now.progress.instance.now
     in let t = c.walk_nodes.new.self
     in let nodes = c.args.piece.now.nodes.items
@@ -30,11 +30,19 @@ returns-clause-keeps g c =
       stack = waiting_in c.clear.new.self.stack.items;
     }
     in let left = ap (λ (l : Leaving). l.words) c.new.ensures
-    in subst (KeepsPiece shop (words_of nodes) c.args.best)
-    (sym (sheet_told begun (stage_of t) c.as_slice-nodes.result.now k same c.begin.ensures.walk refl
-    c.in_ok-index.ensures.walked c.in_ok-index.ensures.ended c.as_slice-nodes.ensures.value (take_rest
-    c.as_slice-nodes.result.now k) c.take_found-found.ensures.found c.in_ok-halt.ensures.words left))
-    (searches_keep shop (words_of nodes) c.args.best c.args.budget (are_words shop nodes c.requires.nodes))
+    in record {
+      of = record {
+        of_instance = c.in_ok-index.ensures.walked.shop ∙ same;
+        of_piece = refl;
+        of_best = refl;
+        of_budget = refl;
+      };
+      keeps = subst (KeepsPiece shop (words_of nodes) c.args.best)
+          (sym (sheet_told begun (stage_of t) c.as_slice-nodes.result.now k same c.begin.ensures.walk refl
+          c.in_ok-index.ensures.walked c.in_ok-index.ensures.ended c.as_slice-nodes.ensures.value (take_rest
+          c.as_slice-nodes.result.now k) c.take_found-found.ensures.found c.in_ok-halt.ensures.words left))
+          (searches_keep shop (words_of nodes) c.args.best c.args.budget (are_words shop nodes c.requires.nodes));
+    }
 
 pub invariant_of-result : goal.invariant_of-result
 invariant_of-result g c =
