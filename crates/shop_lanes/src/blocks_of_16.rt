@@ -129,8 +129,9 @@ impl Block for Block16 {
     }
 
     #[inline(always)]
-    fn later(block: Self, least: Self, rest: Self) -> Self {
-        Block16(block.0.simd_ge(least.0).select(block.0, rest.0))
+    fn ahead(row: &[u16], block: usize, from: Self) -> Self {
+        let eight = u16x8::from_slice(&row[8 * block..]);
+        Block16(eight - from.0)
     }
 
     #[inline(always)]

@@ -129,8 +129,9 @@ impl Block for Block32 {
     }
 
     #[inline(always)]
-    fn later(block: Self, least: Self, rest: Self) -> Self {
-        Block32(block.0.simd_ge(least.0).select(block.0, rest.0))
+    fn ahead(row: &[u32], block: usize, from: Self) -> Self {
+        let eight = u32x8::from_slice(&row[8 * block..]);
+        Block32(eight - from.0)
     }
 
     #[inline(always)]

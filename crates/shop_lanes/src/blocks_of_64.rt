@@ -129,8 +129,9 @@ impl Block for Block64 {
     }
 
     #[inline(always)]
-    fn later(block: Self, least: Self, rest: Self) -> Self {
-        Block64(block.0.simd_ge(least.0).select(block.0, rest.0))
+    fn ahead(row: &[u64], block: usize, from: Self) -> Self {
+        let eight = u64x8::from_slice(&row[8 * block..]);
+        Block64(eight - from.0)
     }
 
     #[inline(always)]
