@@ -145,4 +145,18 @@ impl Block for Block32 {
     fn bits_equal(block: Self, number: u64) -> u64 {
         block.0.simd_eq(u32x8::splat(number as u32)).to_bitmask()
     }
+
+    #[inline(always)]
+    fn pair_between(row: &[u32], pair: usize, above: u64, upto: u64) -> u64 {
+        let numbers = u32x16::from_slice(&row[16 * pair..]);
+        let later = numbers.simd_gt(u32x16::splat(above as u32));
+        let early = numbers.simd_le(u32x16::splat(upto as u32));
+        (later & early).to_bitmask()
+    }
+
+    #[inline(always)]
+    fn pair_equal(row: &[u32], pair: usize, number: u64) -> u64 {
+        let numbers = u32x16::from_slice(&row[16 * pair..]);
+        numbers.simd_eq(u32x16::splat(number as u32)).to_bitmask()
+    }
 }

@@ -145,4 +145,18 @@ impl Block for Block64 {
     fn bits_equal(block: Self, number: u64) -> u64 {
         block.0.simd_eq(u64x8::splat(number)).to_bitmask()
     }
+
+    #[inline(always)]
+    fn pair_between(row: &[u64], pair: usize, above: u64, upto: u64) -> u64 {
+        let numbers = u64x16::from_slice(&row[16 * pair..]);
+        let later = numbers.simd_gt(u64x16::splat(above));
+        let early = numbers.simd_le(u64x16::splat(upto));
+        (later & early).to_bitmask()
+    }
+
+    #[inline(always)]
+    fn pair_equal(row: &[u64], pair: usize, number: u64) -> u64 {
+        let numbers = u64x16::from_slice(&row[16 * pair..]);
+        numbers.simd_eq(u64x16::splat(number)).to_bitmask()
+    }
 }
