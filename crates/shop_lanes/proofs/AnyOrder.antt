@@ -1,15 +1,17 @@
 -- The least and the greatest of lanes are the same in any order.
 use Rattle.std.proofs.Common.{◌≡◌, ℕ, zero, suc, ◌*◌, ◌/◌, ◌%◌, ◌<◌, ◌≤◌, List, [], ◌∷◌, length, map}
-use Rattle.std.proofs.Common.{get_or, ◌∙◌, arith}
+use Rattle.std.proofs.Common.{◌+◌, ap, get_or, min, ◌∙◌, arith}
 use Rattle.std.specs.List.{All}
 use Rattle.std.proofs.lemmas.List.{length-map}
-use Rattle.shop_lanes.specs.Eights.{later_head}
+use Rattle.shop_lanes.specs.Eights.{ahead_of, later_head}
+use Rattle.shop_lanes.specs.Folds.{least_up_to}
 use Rattle.shop_lanes.specs.Rows.{Lane, lanes, by_columns}
 use Rattle.shop_lanes.specs.Spans.{greatest_by}
 use Rattle.shop_lanes.specs.inner.LaterHeads.{least_later}
 use Rattle.shop_lanes.specs.inner.Passes.{lanes_by}
 use Rattle.shop_lanes.proofs.Columns.{All-by_columns, All-by_places}
 use Rattle.shop_lanes.proofs.LaneLists.{length-lanes}
+use Rattle.shop_lanes.proofs.LaterTurns.{nearest_is_least}
 use Rattle.shop_lanes.proofs.LeapTurns.{least_head, least_head_is}
 use Rattle.shop_lanes.proofs.RowValues.{as_long}
 use Rattle.shop_lanes.proofs.SpanParts.{each_greatest}
@@ -74,3 +76,9 @@ module _ {A : Type 0} (f : A → ℕ) (heads times tails : List A) (count : ℕ)
   pub least_of_rows : (top from : ℕ)
       → least_later top from (map f heads) ≡ least_head top from (lanes_by f heads times tails)
   least_of_rows top from = grind (arith, least_head_is, as_long, least-by_columns, raw_whole)
+
+  pub nearest_of_rows : (top from ahead : ℕ) → from ≤ top
+      → ahead ≡ least_up_to top (map (ahead_of top from) (map f heads))
+      → min (from + ahead) top ≡ least_head top from (lanes_by f heads times tails)
+  nearest_of_rows top from ahead le is = ap (λ (n : ℕ). min (from + n) top) is
+      ∙ nearest_is_least top from (map f heads) le ∙ least_of_rows top from

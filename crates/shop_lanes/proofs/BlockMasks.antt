@@ -34,22 +34,44 @@ mask-append (x ∷ xs) ys =
     rw (pow-suc 2 (length xs)) (omega arith)
     in omega (arith, rest, power)
 
-pub mask-block : (p : ℕ → Bool) (b : ℕ) (xs : List ℕ) → 8 * (b + 1) ≤ length xs
-    → mask_l (map p (take 8 (drop (8 * b) xs))) + 256 * mask_l (map p (drop (8 * (b + 1)) xs))
-    ≡ mask_l (map p (drop (8 * b) xs))
-mask-block p b xs le = grind (arith, length-map, length-block, drop_split, map-append, mask-append)
+-- the elements from pair b on are those of the pair and those behind it
+pair_split : {A : Type 0} (b : ℕ) (xs : List A) → drop (16 * b) xs ≡ take 16 (drop (16 * b) xs) ++ drop (16 * (b + 1)) xs
+pair_split b xs =
+    let next : 16 * b + 16 ≡ 16 * (b + 1) = omega arith
+    in sym (take-append-drop 16 (drop (16 * b) xs))
+    ∙ ap (λ l. take 16 (drop (16 * b) xs) ++ l) (drop-drop 16 (16 * b) xs ∙ ap (λ n. drop n xs) next)
 
--- one block back
-pub mask_back : (p : ℕ → Bool) (n : ℕ) (xs : List ℕ) → 0 < n → 8 * n ≤ length xs → (block rest : ℕ)
-    → block ≡ mask_l (map p (take 8 (drop (8 * (n - 1)) xs))) → rest ≡ mask_l (map p (drop (8 * n) xs))
-    → block + 256 * rest ≡ mask_l (map p (drop (8 * (n - 1)) xs))
-mask_back p n xs some le block rest e f =
+length-pair : {A : Type 0} (b : ℕ) (xs : List A) → 16 * (b + 1) ≤ length xs → length (take 16 (drop (16 * b) xs)) ≡ 16
+length-pair b xs le = simp (length-take, length-drop) (omega arith)
+
+mask-pair : (p : ℕ → Bool) (b : ℕ) (xs : List ℕ) → 16 * (b + 1) ≤ length xs
+    → mask_l (map p (take 16 (drop (16 * b) xs))) + 65536 * mask_l (map p (drop (16 * (b + 1)) xs))
+    ≡ mask_l (map p (drop (16 * b) xs))
+mask-pair p b xs le = grind (arith, length-map, length-pair, pair_split, map-append, mask-append)
+
+-- one pair back
+pub mask_back : (p : ℕ → Bool) (n : ℕ) (xs : List ℕ) → 0 < n → 16 * n ≤ length xs → (pair rest : ℕ)
+    → pair ≡ mask_l (map p (take 16 (drop (16 * (n - 1)) xs))) → rest ≡ mask_l (map p (drop (16 * n) xs))
+    → pair + 65536 * rest ≡ mask_l (map p (drop (16 * (n - 1)) xs))
+mask_back p n xs some le pair rest e f =
     let back : n - 1 + 1 ≡ n = omega arith
-    in let fits : 8 * (n - 1 + 1) ≤ length xs = omega arith
-    in ap (λ m. m + 256 * rest) e
-    ∙ ap (λ m. mask_l (map p (take 8 (drop (8 * (n - 1)) xs))) + 256 * m)
-    (f ∙ ap (λ k. mask_l (map p (drop (8 * k) xs))) (sym back))
-    ∙ mask-block p (n - 1) xs fits
+    in let fits : 16 * (n - 1 + 1) ≤ length xs = omega arith
+    in ap (λ m. m + 65536 * rest) e
+    ∙ ap (λ m. mask_l (map p (take 16 (drop (16 * (n - 1)) xs))) + 65536 * m)
+    (f ∙ ap (λ k. mask_l (map p (drop (16 * k) xs))) (sym back))
+    ∙ mask-pair p (n - 1) xs fits
+
+-- behind all pairs stands nothing, or one block
+pub no_odd : (p : ℕ → Bool) (n : ℕ) (xs : List ℕ) → length xs ≤ n → 0 ≡ mask_l (map p (drop n xs))
+no_odd p n xs past = ap (λ l. mask_l (map p l)) (sym (drop_all n xs past))
+
+pub odd_block : (p : ℕ → Bool) (h : ℕ) (xs : List ℕ) → length xs ≤ 16 * h + 8
+    → mask_l (map p (take 8 (drop (8 * (2 * h)) xs))) ≡ mask_l (map p (drop (16 * h) xs))
+odd_block p h xs few =
+    let at : 8 * (2 * h) ≡ 16 * h = omega arith
+    in let last = length-drop (16 * h) xs
+    in ap (λ n. mask_l (map p (take 8 (drop n xs)))) at
+    ∙ ap (λ l. mask_l (map p l)) (take_all 8 (drop (16 * h) xs) (omega arith))
 
 pub mask_small : (p : ℕ → Bool) (xs : List ℕ) (k : ℕ) → length xs ≤ 64 → mask_l (map p (drop k xs)) < 2 ^ 64
 mask_small p xs k le =

@@ -1,12 +1,14 @@
 -- What comparisons of vectors choose, as lists.
-use Rattle.std.proofs.Common.{◌≡◌, ℕ, zero, suc, ◌-◌, ◌^◌, min, max, Bool, cond, List, [], ◌∷◌, length, map, replicate}
-use Rattle.std.proofs.Common.{get_or, refl, ap, sym, ◌∙◌, arith, leb, ltb, ◌≤◌, subst}
+use Rattle.std.proofs.Common.{◌≡◌, ℕ, ◌+◌, ◌-◌, ◌%◌, ◌^◌, ◌<◌, min, max, Bool, cond, List, [], ◌∷◌, length, map}
+use Rattle.std.proofs.Common.{get_or, inl, inr, refl, ap, sym, ◌∙◌, arith, leb, ltb, ◌≤◌, replicate, subst}
+use Rattle.std.proofs.Math.Nat.{add-mod_right, mod-eq_of_lt}
+use Rattle.std.proofs.lemmas.Bool.{cases_lt}
 use Rattle.std.proofs.lemmas.Bool.Decides.{nat_tests}
-use Rattle.std.proofs.lemmas.Simd.{tops_compared, zip2_splat_left}
-use lib.Lanes.{zip2, sel_l, top, Each2}
+use Rattle.std.proofs.lemmas.Simd.{tops_compared, zip2_splat, zip2_splat_left}
+use lib.Lanes.{zip2, sel_l, top, Each1, Each2}
 use mir.Syntax.{Width}
 use mir.Val.{bits, hbits}
-use Rattle.shop_lanes.specs.Eights.{waiting, later_head, lessened}
+use Rattle.shop_lanes.specs.Eights.{ahead_of, waiting, lessened}
 
 -- which heads are at least `least`, as a comparison of two vectors tells it
 abbrev pub waits_told : Width → List ℕ → List ℕ → List Bool
@@ -25,23 +27,31 @@ waiting_told_is w xs heads least eight splat =
     ∙ ap (λ ms. sel_l ms xs (replicate 8 0)) (waits_told_is w 8 from heads eight)
     ∙ ap (λ n. sel_l (map (leb from) heads) xs (replicate n 0)) (sym eight)
 
-sel-map : (p : ℕ → Bool) (top n : ℕ) (xs : List ℕ) → length xs ≡ n
-    → sel_l (map p xs) xs (replicate n top) ≡ map (λ x. cond (p x) x top) xs
-sel-map p top n [] e = refl
-sel-map p top zero (x ∷ xs) e = absurd (omega arith)
-sel-map p top (suc n) (x ∷ xs) e = ap (λ l. cond (p x) x top ∷ l) (sel-map p top n xs (omega arith))
+-- how far numbers lie ahead of another, as a difference tells it that wraps
+ahead-wraps : (n from x : ℕ) → from < n → x < n → (x + (n - from)) % n ≡ ahead_of (n - 1) from x
+ahead-wraps n from x less small = elim (cases_lt x from) [
+  | inl before ↦ (let is : (x + (n - from)) % n ≡ x + (n - from) = mod-eq_of_lt (omega arith)
+      in grind (arith, nat_tests, is))
+  | inr past ↦ (let back : x + (n - from) ≡ (x - from) + n = omega arith
+      in let is : ((x - from) + n) % n ≡ (x - from) % n = add-mod_right (x - from) n
+      in let less : (x - from) % n ≡ x - from = mod-eq_of_lt (omega arith)
+      in rw back (grind (arith, nat_tests, is, less)))
+]
 
--- those at least `least`, as a comparison of two vectors tells them
-pub later_told_is : (w : Width) (xs least rest : List ℕ) → length xs ≡ 8 → least ≡ replicate 8 (get_or least 0 0)
-    → rest ≡ replicate 8 (get_or rest 0 0)
-    → sel_l (waits_told w least xs) xs rest ≡ map (later_head (get_or rest 0 0) (get_or least 0 0)) xs
-later_told_is w xs least rest eight splat splat' =
-    let from = get_or least 0 0
-    in let top = get_or rest 0 0
-    in ap (λ l. sel_l (waits_told w l xs) xs rest) splat
-    ∙ ap (λ ms. sel_l ms xs rest) (waits_told_is w 8 from xs eight)
-    ∙ ap (sel_l (map (leb from) xs) xs) splat'
-    ∙ sel-map (leb from) top 8 xs eight
+ahead-map : (n from : ℕ) (xs : List ℕ) → from < n → Each1 (λ x. x < n) xs
+    → map (λ x. (x + (n - from)) % n) xs ≡ map (ahead_of (n - 1) from) xs
+ahead-map n from [] less small = refl
+ahead-map n from (x ∷ xs) less small =
+    ap (λ y. y ∷ map (λ x. (x + (n - from)) % n) xs) (ahead-wraps n from x less small.0)
+    ∙ ap (λ ys. ahead_of (n - 1) from x ∷ ys) (ahead-map n from xs less small.1)
+
+pub ahead_told_is : (n : ℕ) (xs from : List ℕ) → length xs ≡ 8 → from ≡ replicate 8 (get_or from 0 0)
+    → get_or from 0 0 < n → Each1 (λ x. x < n) xs
+    → zip2 (λ a b. (a + (n - b)) % n) xs from ≡ map (ahead_of (n - 1) (get_or from 0 0)) xs
+ahead_told_is n xs from eight splat less small =
+    ap (zip2 (λ a b. (a + (n - b)) % n) xs) splat
+    ∙ zip2_splat (λ a b. (a + (n - b)) % n) xs 8 (get_or from 0 0) eight
+    ∙ ahead-map n (get_or from 0 0) xs less small
 
 -- the greater of two vectors, as a comparison tells it
 pub greater_told_is : (w : Width) (xs ys : List ℕ) → length xs ≡ length ys

@@ -1,11 +1,20 @@
 -- The least head from a number on, block by block.
-use Rattle.std.proofs.Common.{arith, ◌≡◌, ℕ, ◌*◌, List, map}
+use Rattle.std.proofs.Common.{arith, ◌≡◌, ℕ, ◌+◌, ◌*◌, ◌≤◌, min, List, [], ◌∷◌, map}
 use Rattle.std.proofs.Common.{take, drop}
+use Rattle.std.proofs.lemmas.Bool.Decides.{nat_tests}
 use Rattle.std.proofs.lemmas.List.{take-map, drop-map}
-use Rattle.shop_lanes.specs.Eights.{later_head}
+use Rattle.shop_lanes.specs.Eights.{ahead_of, later_head}
+use Rattle.shop_lanes.specs.Folds.{least_up_to}
+use Rattle.shop_lanes.specs.inner.LaterHeads.{least_later}
 
--- a block of a row, where the numbers from `from` on are kept
-pub later_block : (top from top' from' b : ℕ) (row block later : List ℕ) → top' ≡ top → from' ≡ from
-    → block ≡ take 8 (drop (8 * b) row) → later ≡ map (later_head top' from') block
-    → later ≡ take 8 (drop (8 * b) (map (later_head top from) row))
-later_block top from top' from' b row block later et ef e f = grind (arith, drop-map, take-map)
+-- a block of a row: how far its numbers lie ahead
+pub ahead_block : (top from from' b : ℕ) (row block ahead : List ℕ) → from' ≡ from
+    → block ≡ take 8 (drop (8 * b) row) → ahead ≡ map (ahead_of top from') block
+    → ahead ≡ take 8 (drop (8 * b) (map (ahead_of top from) row))
+ahead_block top from from' b row block ahead ef e f = grind (arith, drop-map, take-map)
+
+-- the nearest number ahead is the least that is no lesser
+pub nearest_is_least : (top from : ℕ) (hs : List ℕ) → from ≤ top
+    → min (from + least_up_to top (map (ahead_of top from) hs)) top ≡ least_later top from hs
+nearest_is_least top from [] le = omega arith
+nearest_is_least top from (h ∷ hs) le = grind (arith, nat_tests, nearest_is_least top from hs le)

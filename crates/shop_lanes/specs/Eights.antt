@@ -4,6 +4,7 @@
 --     halves, quarters, neighbours     with halves, quarters or neighbours exchanged
 --     waiting least heads xs           the numbers whose head is at least `least`, 0 in other lanes
 --     later_head rest least head       `head` if it is at least `least`, else `rest`
+--     ahead_of greatest from x         how far x lies ahead of `from`, where 0 follows on `greatest`
 --     is_between above upto x          x is above `above` and at most `upto`
 use Rattle.std.specs.Prelude.{◌≡◌, ℕ, ◌+◌, ◌-◌, ◌≤◌, Bool, ◌&&◌, List, [], ◌∷◌, ◌++◌, length}
 use Rattle.std.specs.Prelude.{replicate, map, nat_le, nat_lt, if◌then◌else◌, slice_index}
@@ -61,6 +62,9 @@ waiting least heads xs = sel_l (map (nat_le least) heads) xs (replicate (length 
 
 abbrev pub later_head : ℕ → ℕ → ℕ → ℕ
 later_head rest least head = if nat_le least head then head else rest
+
+abbrev pub ahead_of : ℕ → ℕ → ℕ → ℕ
+ahead_of greatest from x = if nat_le from x then x - from else x + greatest + 1 - from
 
 abbrev pub is_between : ℕ → ℕ → ℕ → Bool
 is_between above upto x = nat_lt above x && nat_le x upto

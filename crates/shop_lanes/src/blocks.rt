@@ -4,7 +4,7 @@ ghost use Rattle.std.specs.Prelude.{max, ◌==◌, take, drop};
 ghost use Rattle.std.specs.Simd.Lanes.{mask_l, zip2, put_chunk};
 ghost use Rattle.shop_lanes.specs.Eights.{first_of, is_between, IsSplat, up_one, up_two, up_four};
 ghost use Rattle.shop_lanes.specs.Eights.{down_one, down_two, down_four, halves, quarters};
-ghost use Rattle.shop_lanes.specs.Eights.{neighbours, added, lessened, waiting, AddsFit, later_head};
+ghost use Rattle.shop_lanes.specs.Eights.{neighbours, added, lessened, waiting, AddsFit, ahead_of};
 
 use std::alloc::{AllocError as NoMemory, Global};
 
@@ -105,13 +105,14 @@ pub trait Block: Copy + Drop {
         ensures { numbers result
             ≡ waiting (first_of (numbers least)) (numbers heads) (numbers block) };
 
-    /// Keeps each number of `block` that is at least `least`, and sets the other lanes to `rest`.
-    fn later(block: Self, least: Self, rest: Self) -> Self
-        requires eight { length (numbers block) ≡ 8 }
-        requires least { IsSplat (numbers least) }
-        requires rest { IsSplat (numbers rest) }
-        ensures { numbers result ≡ map (later_head (first_of (numbers rest))
-            (first_of (numbers least))) (numbers block) };
+    /// Reads eight numbers of `row`, from number 8 * `block` on. Answers in each lane how far its number lies ahead of
+    /// `from`, where 0 follows on `GREATEST`.
+    fn ahead(row: &[Self::Number], block: usize, from: Self) -> Self
+        requires within { 8 * (block + 1) ≤ length row.now }
+        requires from { IsSplat (numbers from) }
+        requires fits { first_of (numbers from) ≤ GREATEST }
+        ensures { numbers result ≡ map (ahead_of GREATEST (first_of (numbers from)))
+            (take 8 (drop (8 * block) (map value row.now))) };
 
     /// Sets bit i of the result if lane i of `block` is above `above` and at most `upto`.
     fn bits_between(block: Self, above: u64, upto: u64) -> u64
@@ -125,6 +126,22 @@ pub trait Block: Copy + Drop {
         requires eight { length (numbers block) ≡ 8 }
         requires fits { number ≤ GREATEST }
         ensures { result ≡ mask_l (map (λ x. x == number) (numbers block)) };
+
+    /// Sets bit i of the result if number i of the 16 numbers of `row` from number 16 * `pair` on is above `above` and at
+    /// most `upto`. Two blocks share what turns lanes into bits.
+    fn pair_between(row: &[Self::Number], pair: usize, above: u64, upto: u64) -> u64
+        requires within { 16 * (pair + 1) ≤ length row.now }
+        requires above { above ≤ GREATEST }
+        requires upto { upto ≤ GREATEST }
+        ensures { result
+            ≡ mask_l (map (is_between above upto) (take 16 (drop (16 * pair) (map value row.now)))) };
+
+    /// Sets bit i of the result if number i of the 16 numbers of `row` from number 16 * `pair` on equals `number`.
+    fn pair_equal(row: &[Self::Number], pair: usize, number: u64) -> u64
+        requires within { 16 * (pair + 1) ≤ length row.now }
+        requires fits { number ≤ GREATEST }
+        ensures { result
+            ≡ mask_l (map (λ x. x == number) (take 16 (drop (16 * pair) (map value row.now)))) };
 
     ghost has_numbers: { 0 < GREATEST };
 }

@@ -129,8 +129,9 @@ impl Block for Block16 {
     }
 
     #[inline(always)]
-    fn later(block: Self, least: Self, rest: Self) -> Self {
-        Block16(block.0.simd_ge(least.0).select(block.0, rest.0))
+    fn ahead(row: &[u16], block: usize, from: Self) -> Self {
+        let eight = u16x8::from_slice(&row[8 * block..]);
+        Block16(eight - from.0)
     }
 
     #[inline(always)]
@@ -143,5 +144,19 @@ impl Block for Block16 {
     #[inline(always)]
     fn bits_equal(block: Self, number: u64) -> u64 {
         block.0.simd_eq(u16x8::splat(number as u16)).to_bitmask()
+    }
+
+    #[inline(always)]
+    fn pair_between(row: &[u16], pair: usize, above: u64, upto: u64) -> u64 {
+        let numbers = u16x16::from_slice(&row[16 * pair..]);
+        let later = numbers.simd_gt(u16x16::splat(above as u16));
+        let early = numbers.simd_le(u16x16::splat(upto as u16));
+        (later & early).to_bitmask()
+    }
+
+    #[inline(always)]
+    fn pair_equal(row: &[u16], pair: usize, number: u64) -> u64 {
+        let numbers = u16x16::from_slice(&row[16 * pair..]);
+        numbers.simd_eq(u16x16::splat(number as u16)).to_bitmask()
     }
 }

@@ -129,8 +129,9 @@ impl Block for Block64 {
     }
 
     #[inline(always)]
-    fn later(block: Self, least: Self, rest: Self) -> Self {
-        Block64(block.0.simd_ge(least.0).select(block.0, rest.0))
+    fn ahead(row: &[u64], block: usize, from: Self) -> Self {
+        let eight = u64x8::from_slice(&row[8 * block..]);
+        Block64(eight - from.0)
     }
 
     #[inline(always)]
@@ -143,5 +144,19 @@ impl Block for Block64 {
     #[inline(always)]
     fn bits_equal(block: Self, number: u64) -> u64 {
         block.0.simd_eq(u64x8::splat(number)).to_bitmask()
+    }
+
+    #[inline(always)]
+    fn pair_between(row: &[u64], pair: usize, above: u64, upto: u64) -> u64 {
+        let numbers = u64x16::from_slice(&row[16 * pair..]);
+        let later = numbers.simd_gt(u64x16::splat(above));
+        let early = numbers.simd_le(u64x16::splat(upto));
+        (later & early).to_bitmask()
+    }
+
+    #[inline(always)]
+    fn pair_equal(row: &[u64], pair: usize, number: u64) -> u64 {
+        let numbers = u64x16::from_slice(&row[16 * pair..]);
+        numbers.simd_eq(u64x16::splat(number)).to_bitmask()
     }
 }

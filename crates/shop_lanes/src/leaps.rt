@@ -1,28 +1,29 @@
 // Raises a bound to the greatest span from a head in a range. The span from head h is h plus the load L of the
 // operations with no lesser head. Later heads have no greater load, so `leap` skips the heads up to the bound less L.
 ghost use Rattle.std.specs.Prelude.{◌≡◌, ℕ, ◌%◌, ◌<◌, ◌≤◌, max, length, map};
+ghost use Rattle.shop_lanes.specs.Eights.{ahead_of};
+ghost use Rattle.shop_lanes.specs.Folds.{least_up_to};
 ghost use Rattle.shop_lanes.specs.Spans.{spans_between, FitsSpan, IsRaisedBelow};
 ghost use Rattle.shop_lanes.specs.inner.Passes.{lanes_by};
-ghost use Rattle.shop_lanes.specs.inner.LaterHeads.{least_later};
 
 use crate::blocks::Block;
 use crate::folds::least_of;
 use crate::passes::load_of;
 
-/// The least number of `heads` that is at least `from`; `greatest` if there is none.
+/// How far ahead of `from` the nearest of `heads` lies, where 0 follows on `greatest`.
 #[inline(always)]
-fn least_head_of<B: Block>(count: usize, heads: &[B::Number], from: u64, greatest: u64) -> u64
+fn nearest_of<B: Block>(count: usize, heads: &[B::Number], from: u64, greatest: u64) -> u64
     requires count { length heads.now ≡ count }
     requires whole_blocks { count % 8 ≡ 0 }
     requires from { from ≤ B.GREATEST }
     requires greatest { greatest ≡ B.GREATEST }
-    ensures { result ≡ least_later B.GREATEST from (map B.value heads.now) }
+    ensures { result
+        ≡ least_up_to B.GREATEST (map (ahead_of B.GREATEST from) (map B.value heads.now)) }
 {
-    let top = B::splat(greatest);
-    let from = B::splat(from);
-    let mut least = top;
+    let begin = B::splat(from);
+    let mut least = B::splat(greatest);
     for block in 0..count / 8 {
-        least = B::lesser(least, B::later(B::load(heads, block), from, top));
+        least = B::lesser(least, B::ahead(heads, block, begin));
     }
     least_of(least)
 }
@@ -59,10 +60,11 @@ pub(crate) fn leap<B: Block>(
         if upto + load <= bound {
             return bound;
         }
-        let head = least_head_of::<B>(count, heads, settled + 1, greatest);
-        if head > upto {
+        let ahead = nearest_of::<B>(count, heads, settled + 1, greatest);
+        if ahead >= upto - settled {
             return bound;
         }
+        let head = settled + 1 + ahead;
         bound = bound.max(head + load);
         if bound >= limit {
             return bound;

@@ -1,7 +1,7 @@
 // Passes over rows of numbers, eight at a time: find the load of a machine, the least number of a row, and (as bits of
 // a mask) which numbers lie in a range or equal a number.
 ghost use Rattle.std.specs.Prelude.{◌≡◌, ℕ, ◌+◌, ◌*◌, ◌/◌, ◌%◌, ◌^◌, ◌<◌, ◌≤◌, ◌==◌, length, map};
-ghost use Rattle.std.specs.Prelude.{slice_index};
+ghost use Rattle.std.specs.Prelude.{drop, slice_index};
 ghost use Rattle.std.specs.Simd.Lanes.{mask_l};
 ghost use Rattle.shop_lanes.specs.Spans.{FitsSpan};
 ghost use Rattle.shop_lanes.specs.Ends.{IsFirstLeast};
@@ -72,8 +72,24 @@ pub(crate) fn load_of<B: Block>(
     greatest_of(B::sum(sums_before(clocks), most))
 }
 
+/// Does `bits_between` for the last block of `heads` if the blocks are an odd number, and else sets no bit.
+#[inline(always)]
+fn odd_between<B: Block>(count: usize, heads: &[B::Number], above: u64, upto: u64) -> u64
+    requires count { length heads.now ≡ count }
+    requires whole_blocks { count % 8 ≡ 0 }
+    requires above { above ≤ B.GREATEST }
+    requires upto { upto ≤ B.GREATEST }
+    ensures { result
+        ≡ mask_l (map (is_between above upto) (drop (16 * (count / 16)) (map B.value heads.now))) }
+{
+    if count % 16 == 0 {
+        return 0;
+    }
+    B::bits_between(B::load(heads, 2 * (count / 16)), above, upto)
+}
+
 /// Sets bit i of the result if number i of `heads` is above `above` and at most `upto`. A literal `count`, the length
-/// of `heads`, unrolls the loop over blocks.
+/// of `heads`, unrolls the loop over pairs of blocks.
 #[inline(always)]
 fn bits_between<B: Block>(count: usize, heads: &[B::Number], above: u64, upto: u64) -> u64
     requires count { length heads.now ≡ count }
@@ -83,11 +99,11 @@ fn bits_between<B: Block>(count: usize, heads: &[B::Number], above: u64, upto: u
     requires upto { upto ≤ B.GREATEST }
     ensures { result ≡ mask_l (map (is_between above upto) (map B.value heads.now)) }
 {
-    let mut bits = 0;
-    let mut block = count / 8;
-    while block > 0 {
-        block -= 1;
-        bits = B::bits_between(B::load(heads, block), above, upto) + 256 * bits;
+    let mut bits = odd_between::<B>(count, heads, above, upto);
+    let mut pair = count / 16;
+    while pair > 0 {
+        pair -= 1;
+        bits = B::pair_between(heads, pair, above, upto) + 65536 * bits;
     }
     bits
 }
@@ -126,6 +142,21 @@ pub(crate) fn bits_up_to<B: Block>(heads: &[B::Number], upto: u64) -> u64
     }
 }
 
+/// Does `bits_equal` for the last block of `numbers` if the blocks are an odd number, and else sets no bit.
+#[inline(always)]
+fn odd_equal<B: Block>(count: usize, numbers: &[B::Number], number: u64) -> u64
+    requires count { length numbers.now ≡ count }
+    requires whole_blocks { count % 8 ≡ 0 }
+    requires fits { number ≤ B.GREATEST }
+    ensures { result
+        ≡ mask_l (map (λ x. x == number) (drop (16 * (count / 16)) (map B.value numbers.now))) }
+{
+    if count % 16 == 0 {
+        return 0;
+    }
+    B::bits_equal(B::load(numbers, 2 * (count / 16)), number)
+}
+
 /// Sets bit i of the result if number i of `numbers` equals `number`. A literal length `count` unrolls the loop.
 #[inline(always)]
 fn bits_equal<B: Block>(count: usize, numbers: &[B::Number], number: u64) -> u64
@@ -135,11 +166,11 @@ fn bits_equal<B: Block>(count: usize, numbers: &[B::Number], number: u64) -> u64
     requires fits { number ≤ B.GREATEST }
     ensures { result ≡ mask_l (map (λ x. x == number) (map B.value numbers.now)) }
 {
-    let mut bits = 0;
-    let mut block = count / 8;
-    while block > 0 {
-        block -= 1;
-        bits = B::bits_equal(B::load(numbers, block), number) + 256 * bits;
+    let mut bits = odd_equal::<B>(count, numbers, number);
+    let mut pair = count / 16;
+    while pair > 0 {
+        pair -= 1;
+        bits = B::pair_equal(numbers, pair, number) + 65536 * bits;
     }
     bits
 }

@@ -14,6 +14,9 @@ use shop_lanes::StateLanes;
 use std::alloc::{AllocError as NoMemory, Global};
 use std::marker::Model;
 
+/// The most machines for which lanes have code of their own for a number of blocks.
+const MOST_MACHINES: usize = 64;
+
 /// The layout of an instance, with times and tails in lanes. Contracts see the layout without lanes.
 #[derive(Drop)]
 pub struct Grid<L: StateLanes> {
@@ -46,7 +49,7 @@ impl<L: StateLanes> Model for Grid<L> {
 }
 
 /// Answers the number of blocks of each machine, or 0 if not all machines have equally many.
-pub(crate) fn even_blocks(blocks: &[u32]) -> usize
+fn even_blocks(blocks: &[u32]) -> usize
     ensures { AreEven blocks.now result }
 {
     if blocks.len() < 2 {
@@ -61,6 +64,17 @@ pub(crate) fn even_blocks(blocks: &[u32]) -> usize
         first += each;
     }
     each
+}
+
+/// Answers the number of blocks of each machine if all of at most 64 machines have equally many, else 0.
+pub(crate) fn fixed_blocks(blocks: &[u32]) -> usize
+    ensures even { AreEven blocks.now result }
+    ensures few { 0 < result → length blocks.now ≤ 65 }
+{
+    if blocks.len() > MOST_MACHINES + 1 {
+        return 0;
+    }
+    even_blocks(blocks)
 }
 
 impl<L: StateLanes> Grid<L> {

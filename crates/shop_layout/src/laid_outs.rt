@@ -1,5 +1,5 @@
 // `LaidOut`: an instance with its layout in lanes of one width.
-ghost use Rattle.std.specs.Prelude.{◌≡◌, IfOk};
+ghost use Rattle.std.specs.Prelude.{◌≡◌, ◌≤◌, ◌<◌, IfOk};
 ghost use Rattle.shop_layout.specs.LaidOuts.{IsReady};
 ghost use Rattle.shop_layout.specs.Positions.{AreEven};
 
@@ -27,13 +27,15 @@ impl<L: StateLanes> Drop for LaidOut<'_, L> {
 }
 
 impl<'a, L: StateLanes> Model for LaidOut<'a, L> {
+    ghost use Rattle.std.specs.Prelude.{◌≤◌, ◌<◌};
     ghost use Rattle.shop_layout.specs.LaidOuts.{IsReady, LaidOutState};
 
     ghost Value = { LaidOutState };
 
     ghost view = { λ l. record { shop = l.instance.now; layout = l.grid } };
 
-    ghost invariant = { λ l. IsReady L.GREATEST l.instance.now l.grid };
+    ghost invariant = { λ l. IsReady L.GREATEST l.instance.now l.grid
+        × (0 < L.EACH → l.instance.now.machines ≤ 64) };
 }
 
 impl<'a, L: StateLanes> LaidOut<'a, L> {
@@ -45,6 +47,7 @@ impl<'a, L: StateLanes> LaidOut<'a, L> {
     ) -> Result<LaidOut<'a, L>, NoMemory>
         requires ready { IsReady L.GREATEST instance.now positions }
         requires even { AreEven positions.blocks L.EACH }
+        requires few { 0 < L.EACH → instance.now.machines ≤ 64 }
         ensures { IfOk result (λ l. l.shop ≡ instance.now) }
     {
         let grid = Grid::of(alloc, positions)?;
@@ -58,11 +61,13 @@ impl<'a, L: StateLanes> LaidOut<'a, L> {
         self.instance
     }
 
-    /// The layout in lanes, which are wide enough for each head and each end that dispatches can reach.
+    /// The layout in lanes, which are wide enough for each head and each end that dispatches can reach. Lanes for a
+    /// fixed number of blocks a machine have at most 64 machines.
     #[inline(always)]
     pub fn grid(&self) -> &Grid<L>
         ensures grid { result.now ≡ self.now.layout }
         ensures ready { IsReady L.GREATEST self.now.shop self.now.layout }
+        ensures few { 0 < L.EACH → self.now.shop.machines ≤ 64 }
     {
         &self.grid
     }

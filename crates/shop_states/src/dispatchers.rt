@@ -52,8 +52,9 @@ impl<'a, L: StateLanes> Dispatching<State<L>> for LaidOut<'a, L> {
         let ready = vec![in alloc; 0; instance.jobs()]?;
         let free = vec![in alloc; 0; instance.machines()]?;
         let beginning = Beginning::new(alloc, self)?;
+        let grid = self.grid();
         let raises = MachineRaises::new(alloc, instance.machines())?;
-        let owns = vec![in alloc; L::narrowed(0); self.grid().positions()]?;
+        let owns = vec![in alloc; L::narrowed(0); grid.positions()]?;
         let ceilings = vec![in alloc; 0; instance.machines()]?;
         Ok(Scratch {
             ready,

@@ -78,6 +78,7 @@ pub(crate) fn see<L: StateLanes>(
     after: u64,
 )
     requires listed { AreListed (raises_in L.value raises.old) raised.old }
+    requires machines_fit { 0 < L.EACH → length raises.old ≤ 64 }
     requires known { machine < length raises.old }
     requires rises { before ≤ after }
     requires fits { after ≤ L.GREATEST }
@@ -87,7 +88,7 @@ pub(crate) fn see<L: StateLanes>(
     ensures listed { AreListed (raises_in L.value raises.new) raised.new }
 {
     let raise = raises[machine as usize];
-    raised.put(machine);
+    raised.put(machine, L::EACH > 0);
     raises[machine as usize] = with_head::<L>(raise, before, after);
 }
 

@@ -30,14 +30,15 @@ pub struct MachineRaises<L: StateLanes> {
 }
 
 impl<L: StateLanes> Model for MachineRaises<L> {
-    ghost use Rattle.std.specs.Prelude.{◌≤◌, List, length};
+    ghost use Rattle.std.specs.Prelude.{◌≤◌, ◌<◌, List, length};
     ghost use Rattle.shop_states.specs.inner.HeadRaises.{Raise, raises_in};
 
     ghost Value = { List Raise };
 
     ghost view = { λ r. raises_in L.value r.raises.items };
 
-    ghost invariant = { λ r. length r.raises.items ≤ 128 };
+    ghost invariant = { λ r. (length r.raises.items ≤ 128)
+        × (0 < L.EACH → length r.raises.items ≤ 64) };
 }
 
 /// Makes empty raises for `machines` machines. Fails with `NoMemory` if memory runs out.
@@ -56,9 +57,11 @@ fn empty_raises<L: StateLanes>(
 }
 
 impl<L: StateLanes> MachineRaises<L> {
-    /// Makes empty raises for `machines` machines, at most 128. Fails with `NoMemory` if memory runs out.
+    /// Makes empty raises for `machines` machines, at most 128, and at most 64 in lanes for a fixed number of blocks a
+    /// machine. Fails with `NoMemory` if memory runs out.
     pub fn new(alloc: Global, machines: usize) -> Result<MachineRaises<L>, NoMemory>
-        requires { machines ≤ 128 }
+        requires most { machines ≤ 128 }
+        requires few { 0 < L.EACH → machines ≤ 64 }
         ensures { IfOk result (λ r. (length r ≡ machines) × AreEmpty r) }
     {
         Ok(MachineRaises {

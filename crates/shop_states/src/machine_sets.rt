@@ -1,5 +1,5 @@
 // Sets of machines, one bit a machine.
-ghost use Rattle.std.specs.Prelude.{◌≡◌, ◌<◌, ◌++◌, ◌^◌, ℕ, List, []};
+ghost use Rattle.std.specs.Prelude.{◌≡◌, ◌<◌, ◌++◌, ◌^◌, ℕ, List, [], IsTrue};
 ghost use Rattle.shop_lanes.specs.Marks.{IsPopped};
 ghost use Rattle.shop_lanes.specs.SetBits.{set_bits};
 ghost use Rattle.shop_states.specs.inner.JobSets.{HasPut};
@@ -30,13 +30,14 @@ impl MachineSet {
         MachineSet { low: 0, high: 0 }
     }
 
-    /// Puts a machine into the set.
+    /// Puts a machine into the set. A literal `are_few`, true where all machines are below 64, spares a test.
     #[inline(always)]
-    pub(crate) fn put(&mut self, machine: u32)
-        requires { machine < 128 }
+    pub(crate) fn put(&mut self, machine: u32, are_few: bool)
+        requires known { machine < 128 }
+        requires few { IsTrue are_few → machine < 64 }
         ensures { HasPut machine self.old self.new }
     {
-        if machine < 64 {
+        if are_few || machine < 64 {
             self.low |= 1 << machine;
             return;
         }

@@ -32,6 +32,7 @@ pub(crate) fn raise_route<L: StateLanes>(
     requires raisable { IsRaisable L.GREATEST routes.now []
         (rows_of routes.now (L.heads lanes.old) (L.ends lanes.old)) (IsPosition position) end }
     requires known { AreKnown routes.now.machines (length raises.old) }
+    requires machines_fit { 0 < L.EACH → length raises.old ≤ 64 }
     requires listed { AreListed (raises_in L.value raises.old) raised.old }
     ensures raises { Raises L.GREATEST routes.now [] (IsPosition position) end
         (rows_of routes.now (L.heads lanes.old) (L.ends lanes.old))
@@ -102,6 +103,7 @@ fn raise_from<L: StateLanes>(
     requires below { slice_index (L.heads lanes.old) position ≤ end }
     requires can { CanRaise L.GREATEST routes.now next.now (IsPosition position) end
         (rows_of routes.now (L.heads lanes.old) (L.ends lanes.old)) (length raises.old) }
+    requires machines_fit { 0 < L.EACH → length raises.old ≤ 64 }
     requires listed { AreListed (raises_in L.value raises.old) raised.old }
     ensures { HasRaised L.GREATEST routes.now next.now (IsPosition position) end
         (rows_of routes.now (L.heads lanes.old) (L.ends lanes.old))
@@ -130,6 +132,7 @@ fn raise_blocks<L: StateLanes>(
     requires within { 8 * to ≤ length (L.heads lanes.old) }
     requires can { CanRaise L.GREATEST routes.now next.now (IsInBlocks from to) end
         (rows_of routes.now (L.heads lanes.old) (L.ends lanes.old)) (length raises.old) }
+    requires machines_fit { 0 < L.EACH → length raises.old ≤ 64 }
     requires listed { AreListed (raises_in L.value raises.old) raised.old }
     ensures { HasRaised L.GREATEST routes.now next.now (IsInBlocks from to) end
         (rows_of routes.now (L.heads lanes.old) (L.ends lanes.old))
@@ -165,6 +168,7 @@ fn raise_even<L: StateLanes>(
     requires machine { HasBlocks grid.now (length (L.heads lanes.old)) machine }
     requires can { CanRaise L.GREATEST grid.now next.now (IsOnMachine grid.now machine) end
         (rows_of grid.now (L.heads lanes.old) (L.ends lanes.old)) (length raises.old) }
+    requires machines_fit { 0 < L.EACH → length raises.old ≤ 64 }
     requires listed { AreListed (raises_in L.value raises.old) raised.old }
     ensures { HasRaised L.GREATEST grid.now next.now (IsOnMachine grid.now machine) end
         (rows_of grid.now (L.heads lanes.old) (L.ends lanes.old))
@@ -191,6 +195,7 @@ fn raise_longer<L: StateLanes>(
     requires machine { HasBlocks grid.now (length (L.heads lanes.old)) machine }
     requires can { CanRaise L.GREATEST grid.now next.now (IsOnMachine grid.now machine) end
         (rows_of grid.now (L.heads lanes.old) (L.ends lanes.old)) (length raises.old) }
+    requires machines_fit { 0 < L.EACH → length raises.old ≤ 64 }
     requires listed { AreListed (raises_in L.value raises.old) raised.old }
     ensures { HasRaised L.GREATEST grid.now next.now (IsOnMachine grid.now machine) end
         (rows_of grid.now (L.heads lanes.old) (L.ends lanes.old))
@@ -224,6 +229,7 @@ pub(crate) fn raise<L: StateLanes>(
     requires machine { HasBlocks grid.now (length (L.heads lanes.old)) machine }
     requires can { CanRaise L.GREATEST grid.now next.now (IsOnMachine grid.now machine) end
         (rows_of grid.now (L.heads lanes.old) (L.ends lanes.old)) (length raises.old) }
+    requires machines_fit { 0 < L.EACH → length raises.old ≤ 64 }
     requires listed { AreListed (raises_in L.value raises.old) raised.old }
     ensures { HasRaised L.GREATEST grid.now next.now (IsOnMachine grid.now machine) end
         (rows_of grid.now (L.heads lanes.old) (L.ends lanes.old))

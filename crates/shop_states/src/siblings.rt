@@ -135,6 +135,7 @@ fn raise_behind<L: StateLanes>(
     requires can { CanRaiseBehind L.GREATEST routes.now
         (rows_of routes.now (L.heads lanes.old) (L.ends lanes.old)) (IsEndAt position free) }
     requires known { AreKnown routes.now.machines (length raises.old) }
+    requires machines_fit { 0 < L.EACH → length raises.old ≤ 64 }
     requires listed { AreListed (raises_in L.value raises.old) raised.old }
     ensures raises { RaisesBehind routes.now (IsEndAt position free)
         (rows_of routes.now (L.heads lanes.old) (L.ends lanes.old))
@@ -196,6 +197,7 @@ pub(crate) fn raise_late<L: StateLanes>(
     requires can { CanRaiseBehind L.GREATEST routes.now
         (rows_of routes.now (L.heads lanes.old) (L.ends lanes.old)) (IsLateIn from to last latest.end latest.second) }
     requires known { AreKnown routes.now.machines (length raises.old) }
+    requires machines_fit { 0 < L.EACH → length raises.old ≤ 64 }
     requires listed { AreListed (raises_in L.value raises.old) raised.old }
     ensures raises { RaisesBehind routes.now (IsLateIn from to last latest.end latest.second)
         (rows_of routes.now (L.heads lanes.old) (L.ends lanes.old))

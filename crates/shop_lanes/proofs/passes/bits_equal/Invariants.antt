@@ -2,10 +2,10 @@ use Rattle.std.proofs.Common.{◌≡◌, ◌≤◌, ◌*◌, ◌==◌, length, m
 use lib.Lanes.{mask_l}
 use Rattle.shop_lanes.proofs.passes.bits_equal.Given as goal
 
-abbrev pub invariant-loop-block : goal.invariant-loop-block
-invariant-loop-block g l =
-    (8 * l.block ≤ length (map g.B.Block.value l.numbers))
-    × (l.bits ≡ mask_l (map (λ x. x == l.number) (drop (8 * l.block) (map g.B.Block.value l.numbers))))
+abbrev pub invariant-loop-pair : goal.invariant-loop-pair
+invariant-loop-pair g l =
+    (16 * l.pair ≤ length (map g.B.Block.value l.numbers))
+    × (l.bits ≡ mask_l (map (λ x. x == l.number) (drop (16 * l.pair) (map g.B.Block.value l.numbers))))
 
-abbrev pub decreases-loop-block : goal.decreases-loop-block
-decreases-loop-block g l = l.block
+abbrev pub decreases-loop-pair : goal.decreases-loop-pair
+decreases-loop-pair g l = l.pair

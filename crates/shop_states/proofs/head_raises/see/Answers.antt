@@ -5,8 +5,8 @@ use Rattle.shop_states.specs.inner.MachineRaises.{AreListed}
 use Rattle.shop_states.proofs.RaisedMachines.{listed_more, widened_in}
 use Rattle.shop_states.proofs.head_raises.see.Goals as goal
 
-pub put-requires : goal.put-requires
-put-requires g c = let few = c.requires.listed.few
+pub put-requires-clause-known : goal.put-requires-clause-known
+put-requires-clause-known g c = let few = c.requires.listed.few
     in let many = length-map c.args.raises.now (raise_in g.L.StateLanes.value) in let known = c.requires.known
     in omega arith
 

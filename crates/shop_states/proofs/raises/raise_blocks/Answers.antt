@@ -34,6 +34,10 @@ raise_from-requires-clause-can g c = record {
       c.loop-position.invariant.machines in let known = c.requires.can.known q here in omega arith;
 }
 
+pub raise_from-requires-clause-machines_fit : goal.raise_from-requires-clause-machines_fit
+raise_from-requires-clause-machines_fit g c = λ fixed. let long = lengths_in g.L.StateLanes.value c.args.raises.now
+    c.loop-position.raises c.loop-position.invariant.machines in let few = c.requires.machines_fit fixed in omega arith
+
 pub loop-position-preserved-then-head-end : goal.loop-position-preserved-then-head-end
 loop-position-preserved-then-head-end g c =
     record {

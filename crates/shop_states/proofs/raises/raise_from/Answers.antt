@@ -30,6 +30,7 @@ raise_route-requires g c =
       below = omega arith;
       raisable = mid_raisable c.requires.can.raisable c.set_end_at.ensures;
       known = c.requires.can.known;
+      machines_fit = c.requires.machines_fit;
       listed = c.requires.listed;
     }
 

@@ -46,6 +46,10 @@ raise_blocks-requires-clause-can g c =
           c.loop-from.invariant.machines in let known = c.requires.can.known q here in omega arith;
     })
 
+pub raise_blocks-requires-clause-machines_fit : goal.raise_blocks-requires-clause-machines_fit
+raise_blocks-requires-clause-machines_fit g c = λ fixed. let long = lengths_in g.L.StateLanes.value c.args.raises.now
+    c.loop-from.raises c.loop-from.invariant.machines in let few = c.requires.machines_fit fixed in omega arith
+
 pub loop-from-preserved : goal.loop-from-preserved
 loop-from-preserved g c =
     let a = c.min.ensures in let b = c.block-behind.ensures in let d = c.loop-from-test.true

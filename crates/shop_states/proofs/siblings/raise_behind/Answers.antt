@@ -65,6 +65,7 @@ raise_route-requires g c =
       raisable = next_raisable c.requires.can c.requires.waits c.behind.ensures.index c.leg-leg.ensures
           c.head_or_greatest-head.ensures (omega arith) c.if-ready-head.false;
       known = λ q here. let known = c.requires.known q here in omega arith;
+      machines_fit = λ fixed. (let few = c.requires.machines_fit fixed in omega arith);
       listed = c.see.ensures.listed;
     }
 

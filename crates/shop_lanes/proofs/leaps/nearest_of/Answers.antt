@@ -1,14 +1,14 @@
 use Rattle.std.proofs.Common.{arith}
 use Rattle.std.proofs.lemmas.List.{length-map}
 use Rattle.shop_lanes.proofs.BlockMasks.{least_begins, least_more, least_ends, length-lesser}
-use Rattle.shop_lanes.proofs.LaterTurns.{later_block}
-use Rattle.shop_lanes.proofs.leaps.least_head_of.Goals as goal
+use Rattle.shop_lanes.proofs.LaterTurns.{ahead_block}
+use Rattle.shop_lanes.proofs.leaps.nearest_of.Goals as goal
 
 pub loop-block-init : goal.loop-block-init
 loop-block-init g c = grind (arith, least_begins)
 
 pub loop-block-preserved : goal.loop-block-preserved
-loop-block-preserved g c = grind (arith, length-map, later_block, length-lesser, least_more)
+loop-block-preserved g c = grind (arith, length-map, ahead_block, length-lesser, least_more)
 
 pub returns : goal.returns
 returns g c = grind (arith, least_ends, length-map)
