@@ -333,9 +333,10 @@ def solve(
     of least bound first, "kept" as they stand. The default plan may look at 25 billion nodes and take hours:
     `rounds=100, budget=1000, order="bound"` takes seconds up to some 50 x 15. With `gantt` the report's text ends with
     a chart."""
-    numbers = (rounds, 100_000), (budget, 10_000_000), (piece, 1_000)
-    if any(not 0 <= number <= most for number, most in numbers):
-        raise ValueError("an option is out of range")
+    limits = ("rounds", rounds, 0, 100_000), ("budget", budget, 1, 10_000_000), ("piece", piece, 1, 1_000)
+    for option, number, least, most in limits:
+        if not least <= number <= most:
+            raise ValueError(f"{option} is {number}, and not {least} to {most}")
     options = _Options(rounds, budget, piece, _number_of(order, ORDERS), gantt)
     number, instance = _instance(text, format)
     arguments = [number, *_name(name), ctypes.byref(options), *instance]

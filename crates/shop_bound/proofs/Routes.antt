@@ -1,4 +1,4 @@
--- How many operations the jobs before one have together.
+-- The number of operations of all jobs before a job.
 use Rattle.std.proofs.Common.{◌≡◌, ℕ, ◌+◌, ◌≤◌, ◌<◌, length, take}
 use Rattle.std.specs.List.{sum_by}
 use Rattle.std.proofs.lemmas.List.Sums.{sum_by_more, sum_by-take-le}

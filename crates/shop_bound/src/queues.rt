@@ -68,8 +68,7 @@ impl Queue {
         }
     }
 
-    /// Takes the operation of least head out of the operations to come if it is released by `clock`, and answers its
-    /// position; `None` if no operation is released by then.
+    /// Takes out the operation to come of least head, and answers its position; `None` if none is released by `clock`.
     fn pop_released(&mut self, clock: u64) -> Option<usize>
         ensures taken { TakesReleased clock (heap_items self.old.coming) (heap_items self.new.coming) result }
         ensures fewer { OnSome result (heap_len self.new.coming + 1 ≡ heap_len self.old.coming) }

@@ -1,4 +1,4 @@
--- A text goes out, and the same where the bytes of source and sink are known.
+-- What was read, made and written is a transfer, also where the bytes of source and sink are known.
 use Rattle.std.proofs.Common.{◌≡◌, ℕ, inr, List, ◌++◌, Option, Some, None, Result, Ok, Err, OnOk, IfErr}
 use Rattle.std.proofs.Common.{subst, rules, arith}
 use Rattle.std.proofs.lemmas.Grind.{common_steps}

@@ -1,4 +1,4 @@
--- A report that is right and that of the answer has the answer's numbers.
+-- A report that is right, and determined by a plan's answer, has the numbers of that answer.
 use Rattle.std.proofs.Common.{◌≡◌, ℕ, zero, suc, ◌≤◌, Bool, List, [], ◌++◌, get_or, drop, map}
 use Rattle.std.proofs.Common.{refl, sym, ◌∙◌, ap, subst, arith}
 use Rattle.std.specs.Prelude.{IsTrue}

@@ -1,4 +1,4 @@
--- Why nothing was had of a source.
+-- Why no text came of a source.
 use Rattle.std.proofs.Common.{◌≡◌, ℕ, ◌≤◌, inl, inr, List, length, Result, Ok, Err, refl, sym, ap, subst}
 use Rattle.std.specs.Result.{IsErrAnd}
 use Rattle.shop_text.specs.Texts.{OrNoMemory}

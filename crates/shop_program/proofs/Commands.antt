@@ -1,4 +1,4 @@
--- What a command reads as where it needs a subcommand.
+-- A command that is set to need a subcommand reads as the simple command that needs one.
 use Rattle.std.proofs.Common.{◌≡◌, ◌∙◌, true, ap}
 use Rattle.clap.specs.Simple.{app_of_fields}
 use Rattle.clap.specs.Words.{App}

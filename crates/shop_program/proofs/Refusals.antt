@@ -1,4 +1,4 @@
--- What is of no plan, and of no arguments.
+-- Rows of clap's matches that give no plan, and those that give no arguments.
 use Rattle.std.proofs.Common.{◌≡◌, ℕ, ap, arith, codes, get_or, nat_eq, true≢false, List, ◌<◌, ◌≤◌, ◌^◌}
 use Rattle.clap.specs.Words.{Row, Text}
 use Rattle.shop_runs.specs.declared.plans.Plan.{Plan}

@@ -1,2 +1,2 @@
--- What only the inside of the crate is told by.
+-- Definitions that only contracts inside the crate name.
 pub mod Arguments

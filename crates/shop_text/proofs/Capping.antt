@@ -1,4 +1,4 @@
--- A row whose numbers are capped is judged as the row itself, and where it is accepted it says the same.
+-- A row whose numbers are capped is judged as the row itself, and capping changes no number of an accepted row.
 use Rattle.std.proofs.Common.{◌≡◌, ℕ, ◌*◌, ◌%◌, ◌<◌, ◌≤◌, inl, inr, Bool, true, false, cond, not, ◌&&◌, leb, ltb}
 use Rattle.std.proofs.Common.{eqb}
 use Rattle.std.proofs.Common.{List, [], ◌∷◌, length, map, Option, Some, None, refl, sym, ap, ◌∙◌, arith}

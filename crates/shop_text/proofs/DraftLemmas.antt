@@ -1,4 +1,4 @@
--- A draft, one number line on.
+-- A draft after one more number line.
 use Rattle.std.proofs.Common.{◌≡◌, ℕ, ◌+◌, ◌<◌, ◌≤◌, false, eqb}
 use Rattle.std.proofs.Common.{List, [], ◌∷◌, ◌++◌, length, map, take, drop, get_or, Option, None, Result, Ok}
 use Rattle.std.proofs.Common.{Err, Vec}

@@ -1,4 +1,4 @@
--- A word that is that of no format in the list of all.
+-- A word that differs from those of all three formats is the word of no format.
 use Rattle.std.proofs.Common.{◌≡◌, ℕ, ◌<◌, List, [], ◌∷◌, false, true, get_or, lit<, refl, subst, sym}
 use Rattle.std.specs.Str.{bytes_eq}
 use Rattle.shop_text.specs.Formats.{word_of, IsNoWord}

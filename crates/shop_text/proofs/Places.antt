@@ -1,4 +1,4 @@
--- The place that lines have come to, one line on: a skipped text line, one more row of the begun part, or its last row.
+-- Where in a part the lines stand after one more: a skipped text line, a row of the part, or its last row.
 use Rattle.std.proofs.Common.{◌≡◌, ℕ, inl, inr, true, false, List, [], ◌∷◌, ◌++◌, None, refl, sym, ap, subst, ◌∙◌}
 use Rattle.std.proofs.Common.{append_assoc}
 use Rattle.std.specs.Prelude.{IsTrue}

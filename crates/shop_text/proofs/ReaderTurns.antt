@@ -1,4 +1,4 @@
--- What is read, one line on.
+-- What a reader has read after one more line.
 use Rattle.std.proofs.Common.{◌≡◌, ℕ, suc, ◌+◌, ◌<◌, ◌⊎◌, inl, inr, true, List, [], ◌∷◌, ◌++◌}
 use Rattle.std.proofs.Common.{length, Option, Some, None, String, string_bytes, refl, sym}
 use Rattle.std.proofs.Common.{ap, ◌∙◌}
