@@ -14,6 +14,7 @@ use std::marker::Model;
 
 /// Puts `word` on top of the stack at a place, or makes a stack of `word` if the place is empty. Fails with `NoMemory`
 /// if memory runs out; the stack has then lost words.
+#[inline(always)]
 fn push_at(alloc: Global, place: &mut Option<Stack>, word: SharedWord) -> Result<(), NoMemory>
     ensures { OnOk result (words_left place.new ≡ word ∷ words_left place.old) }
 {
@@ -122,6 +123,7 @@ impl BoundRow {
     }
 
     /// Puts `node` before all other nodes of its bound. Fails with `NoMemory` if memory runs out.
+    #[inline(always)]
     pub(crate) fn put(&mut self, alloc: Global, node: SharedNode) -> Result<(), NoMemory>
         ensures { OnOk result (self.new ≡ insert_by (λ n. n.bound) node self.old) }
     {

@@ -9,7 +9,7 @@ ghost use Rattle.shop_runs.specs.inner.Outcomes.{left_open, open_of};
 
 use crate::bound_rows::BoundRow;
 use crate::kept_stacks::KeptStack;
-use crate::plans::Order;
+use crate::plans::{MAX_PIECES, Order};
 use crate::stacks::{
     Stack, count_by_bound, keep_by_bound, least_by_bound, pop_by_bound, put_by_bound,
 };
@@ -177,13 +177,14 @@ impl OpenNodes {
         }
     }
 
-    /// Answers for how many nodes `take` makes room: at most `most`, and 0 for `Bound`, which doesn't count its nodes.
+    /// Answers for how many nodes `take` makes room at first: at most `most`. For `Bound`, which doesn't count its nodes,
+    /// that is one for each piece.
     fn room_for(&self, most: usize) -> usize
         ensures { result ≤ most }
     {
         match self {
             OpenNodes::AsKept(nodes) => most.min(nodes.len()),
-            OpenNodes::InRow(_) | OpenNodes::ByBound(_) => 0,
+            OpenNodes::InRow(_) | OpenNodes::ByBound(_) => most.min(MAX_PIECES),
         }
     }
 

@@ -1,5 +1,5 @@
 // Rounds, and how they cut the open nodes of a standing into pieces.
-ghost use Rattle.std.specs.Prelude.{◌≡◌, ◌≤◌, ◌<◌, length, take, drop, true, IfOk, OnOk};
+ghost use Rattle.std.specs.Prelude.{◌≡◌, ◌≤◌, ◌<◌, [], length, take, drop, true, IfOk, OnOk};
 ghost use Rattle.std.specs.Vec.Iter.{into_iter_items};
 ghost use Rattle.shop_nodes.specs.Nodes.{words_of, AreNodes};
 ghost use Rattle.shop_runs.specs.Limits.{IsCountWithin};
@@ -92,6 +92,37 @@ impl<'r> Round<'r> {
         ensures { IfOk result (λ r. told r ≡ round_of instance.now (planned plan.now)
             (stands front) bound (words_of rest.items)) }
     {
+        let mut round = Round::of_front(
+            alloc,
+            instance,
+            plan,
+            front,
+            Vec::new(alloc),
+            bound,
+            layout,
+        )?;
+        round.rest = rest;
+        Ok(round)
+    }
+
+    /// Makes the round of `front` without a rest. Its pieces take over the lists of those in `spare`, as far as there are
+    /// some. Fails with `NoMemory` if memory runs out.
+    pub(crate) fn of_front(
+        alloc: Global,
+        instance: &'r Instance,
+        plan: &Plan,
+        front: Standing,
+        spare: Vec<Piece>,
+        bound: u64,
+        layout: Layout<'r>,
+    ) -> Result<Round<'r>, NoMemory>
+        requires rounds { front.rounds < plan.now.rounds }
+        requires standing { StandsAt instance.now (stands front) front }
+        requires layout { layout ≡ instance.now }
+        requires round { IsRound (round_of instance.now (planned plan.now) (stands front) bound []) }
+        ensures { IfOk result (λ r. told r ≡ round_of instance.now (planned plan.now)
+            (stands front) bound []) }
+    {
         let Standing {
             word,
             makespan,
@@ -99,7 +130,8 @@ impl<'r> Round<'r> {
             rounds,
             nodes,
         } = front;
-        let pieces = cut_pieces(alloc, open, plan.piece)?;
+        let pieces = cut_pieces(alloc, open, plan.piece, spare)?;
+        let rest = Vec::new(alloc);
         Ok(Round {
             instance,
             word,
@@ -133,16 +165,33 @@ pub fn copies_of(alloc: Global, nodes: &[Node]) -> Result<Vec<Node>, NoMemory>
     Ok(copies)
 }
 
-/// Takes the next `size` nodes, or all remaining nodes if they are fewer. Fails with `NoMemory` if memory runs out.
+/// Answers an empty list: that of the last piece of `spare`, which keeps its memory, or a new one if there is none.
+fn spare_list(alloc: Global, spare: &mut Vec<Piece>) -> Vec<Node>
+    ensures { result.items ≡ [] }
+{
+    match spare.pop() {
+        Some(piece) => {
+            let mut nodes = piece.nodes;
+            nodes.clear();
+            nodes
+        }
+        None => Vec::new(alloc),
+    }
+}
+
+/// Takes the next `size` nodes, or all remaining nodes if they are fewer, into a list of `spare`. Fails with `NoMemory`
+/// if memory runs out.
 fn next_piece(
     alloc: Global,
     nodes: &mut IntoIter<Node, Global>,
     size: usize,
+    spare: &mut Vec<Piece>,
 ) -> Result<Vec<Node>, NoMemory>
     ensures taken { IfOk result (λ v. v.items ≡ take size (into_iter_items nodes.old)) }
     ensures left { OnOk result (into_iter_items nodes.new ≡ drop size (into_iter_items nodes.old)) }
 {
-    let mut piece = Vec::with_capacity(alloc, size.min(nodes.len()))?;
+    let mut piece = spare_list(alloc, spare);
+    piece.reserve_exact(size.min(nodes.len()))?;
     for _ in 0..size {
         let Some(node) = nodes.next() else {
             break;
@@ -152,9 +201,14 @@ fn next_piece(
     Ok(piece)
 }
 
-/// Cuts `nodes`, in order, into at most 256 pieces of `size` nodes; the last piece may be shorter. Drops the nodes that
-/// 256 pieces can't hold. Fails with `NoMemory` if memory runs out.
-pub fn cut_pieces(alloc: Global, nodes: Vec<Node>, size: usize) -> Result<Vec<Piece>, NoMemory>
+/// Cuts `nodes`, in order, into at most 256 pieces of `size` nodes; the last piece may be shorter. The pieces take over
+/// the lists of those in `spare`. Drops the nodes that 256 pieces can't hold. Fails with `NoMemory` if memory runs out.
+pub(crate) fn cut_pieces(
+    alloc: Global,
+    nodes: Vec<Node>,
+    size: usize,
+    mut spare: Vec<Piece>,
+) -> Result<Vec<Piece>, NoMemory>
     requires { 0 < size }
     ensures nodes { IfOk result (λ v. nodes_in v.items ≡ cut_into MAX_PIECES size nodes.items) }
     ensures numbers { IfOk result (λ v. numbered 0 v.items ≡ true) }
@@ -162,7 +216,7 @@ pub fn cut_pieces(alloc: Global, nodes: Vec<Node>, size: usize) -> Result<Vec<Pi
     let mut pieces = Vec::with_capacity(alloc, MAX_PIECES.min(nodes.len()))?;
     let mut nodes = nodes.into_iter();
     for number in 0..MAX_PIECES {
-        let piece = next_piece(alloc, &mut nodes, size)?;
+        let piece = next_piece(alloc, &mut nodes, size, &mut spare)?;
         if piece.is_empty() {
             break;
         }

@@ -11,10 +11,12 @@ use crate::rounds::Round;
 use crate::standings::Standing;
 use shop_layout::Layout;
 use shop_model::{Instance, Table, Word, place};
+use shop_nodes::Piece;
 use std::alloc::{AllocError as NoMemory, Global};
 
 /// A run between two rounds: the best word and its makespan, the rounds done, the nodes counted, and the store of the
-/// open nodes, in the order in which the next round takes them.
+/// open nodes, in the order in which the next round takes them. `spare` has the pieces of the last round, whose lists
+/// the next round takes over.
 #[derive(Drop)]
 pub(crate) struct OpenRun {
     pub(crate) word: Word,
@@ -22,6 +24,7 @@ pub(crate) struct OpenRun {
     pub(crate) rounds: u64,
     pub(crate) nodes: u64,
     pub(crate) open: OpenNodes,
+    pub(crate) spare: Vec<Piece>,
     pub(crate) ghost within: { IsCountWithin rounds nodes },
 }
 
@@ -51,6 +54,7 @@ impl OpenRun {
             rounds: standing.rounds,
             nodes: standing.nodes,
             open,
+            spare: Vec::new(alloc),
         })
     }
 
@@ -78,8 +82,7 @@ impl OpenRun {
             rounds: self.rounds,
             nodes: self.nodes,
         };
-        let rest = Vec::new(alloc);
-        let round = Round::of(alloc, instance, plan, standing, rest, bound, layout)?;
+        let round = Round::of_front(alloc, instance, plan, standing, self.spare, bound, layout)?;
         Ok((round, others))
     }
 
@@ -115,6 +118,7 @@ impl OpenRun {
         open.put_left(alloc, makespan, left)?;
         let Round {
             word,
+            pieces,
             rounds,
             layout,
             ..
@@ -125,6 +129,7 @@ impl OpenRun {
             rounds: rounds + 1,
             nodes,
             open,
+            spare: pieces,
         };
         Ok((next, layout))
     }

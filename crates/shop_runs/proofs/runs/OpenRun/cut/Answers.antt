@@ -8,8 +8,8 @@ use Rattle.shop_runs.proofs.FrontCuts.{is_front_cut, front_told, front_round, fr
 use Rattle.shop_runs.proofs.KeptBelow.{all_below}
 use Rattle.shop_runs.proofs.runs.OpenRun.cut.Goals as goal
 
-pub of-requires-clause-standing : goal.of-requires-clause-standing
-of-requires-clause-standing c = record {
+pub of_front-requires-clause-standing : goal.of_front-requires-clause-standing
+of_front-requires-clause-standing c = record {
   stands_at = refl;
   makespan = c.requires.search.makespan;
   bounds = front_nodes c.args.instance.now (planned c.args.plan.now) c.args.self c.least_bound-bound.result
@@ -18,13 +18,9 @@ of-requires-clause-standing c = record {
       c.least_bound-bound.ensures c.in_ok-front.ensures.1);
 }
 
-pub of-requires-clause-rest : goal.of-requires-clause-rest
-of-requires-clause-rest c =
-    subst (AreNodes c.args.instance.now) (sym c.new-rest.ensures.items) (λ k d h. absurd (omega arith))
-
-pub of-requires-clause-round : goal.of-requires-clause-round
-of-requires-clause-round c = front_round c.args.instance.now (planned c.args.plan.now) c.args.self
-    c.least_bound-bound.result c.in_ok-front.front.items c.new-rest.result.items c.new-rest.ensures.items c.requires.search
+pub of_front-requires-clause-round : goal.of_front-requires-clause-round
+of_front-requires-clause-round c = front_round c.args.instance.now (planned c.args.plan.now) c.args.self
+    c.least_bound-bound.result c.in_ok-front.front.items [] refl c.requires.search
     (is_front_cut c.args.plan.now c.args.self c.least_bound-bound.result c.in_ok-front.front.items
     c.least_bound-bound.ensures c.in_ok-front.ensures.1)
 
@@ -37,7 +33,7 @@ returns c =
     in let others = c.in_ok-front.ensures.2
     in record {
       round = c.in_ok-round.ensures ∙ front_told shop plan c.args.self c.least_bound-bound.result
-          c.in_ok-front.front.items c.new-rest.result.items c.new-rest.ensures.items c.requires.search cut;
+          c.in_ok-front.front.items [] refl c.requires.search cut;
       rest = others_are shop plan c.args.self (open_list c.take.new.self) c.requires.search others;
       bounds = subst (AreNodes shop) (sym others)
           (All-drop (IsNode shop) (256 * plan.piece) (open_list c.args.self.open) c.requires.search.bounds);
