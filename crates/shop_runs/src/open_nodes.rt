@@ -9,7 +9,7 @@ ghost use Rattle.shop_runs.specs.inner.Outcomes.{left_open, open_of};
 
 use crate::bound_rows::BoundRow;
 use crate::kept_stacks::KeptStack;
-use crate::plans::{MAX_PIECES, Order};
+use crate::plans::Order;
 use crate::stacks::{
     Stack, count_by_bound, keep_by_bound, least_by_bound, pop_by_bound, put_by_bound,
 };
@@ -177,22 +177,28 @@ impl OpenNodes {
         }
     }
 
-    /// Answers for how many nodes `take` makes room at first: at most `most`. For `Bound`, which doesn't count its nodes,
-    /// that is one for each piece.
-    fn room_for(&self, most: usize) -> usize
+    /// Answers for how many nodes `take` makes room at first: at most `most`. `Bound` doesn't count its nodes, and goes by
+    /// `guess`.
+    fn room_for(&self, most: usize, guess: usize) -> usize
         ensures { result ≤ most }
     {
         match self {
             OpenNodes::AsKept(nodes) => most.min(nodes.len()),
-            OpenNodes::InRow(_) | OpenNodes::ByBound(_) => most.min(MAX_PIECES),
+            OpenNodes::InRow(_) | OpenNodes::ByBound(_) => most.min(guess),
         }
     }
 
-    /// Takes the first `most` nodes, or all if fewer are open. Fails with `NoMemory` if memory runs out.
-    pub(crate) fn take(&mut self, alloc: Global, most: usize) -> Result<Vec<Node>, NoMemory>
+    /// Takes the first `most` nodes, or all if fewer are open. `guess` says how many these may be, for the room that they
+    /// are given. Fails with `NoMemory` if memory runs out.
+    pub(crate) fn take(
+        &mut self,
+        alloc: Global,
+        most: usize,
+        guess: usize,
+    ) -> Result<Vec<Node>, NoMemory>
         ensures { IfOk result (λ v. IsTaken most v.items self.old self.new) }
     {
-        let mut taken = Vec::with_capacity(alloc, self.room_for(most))?;
+        let mut taken = Vec::with_capacity(alloc, self.room_for(most, guess))?;
         for _ in 0..most {
             let Some(node) = self.pop()? else {
                 break;

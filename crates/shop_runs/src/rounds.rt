@@ -67,7 +67,8 @@ impl<'r> Round<'r> {
         let layout = Layout::of(alloc, instance)?;
         let search = OpenRun::of(alloc, instance, plan.order, standing)?;
         let (mut round, mut others) = search.cut(alloc, instance, layout, plan)?;
-        let rest = others.take(alloc, others.count()?)?;
+        let count = others.count()?;
+        let rest = others.take(alloc, count, count)?;
         round.rest = rest;
         Ok(round)
     }

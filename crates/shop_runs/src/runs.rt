@@ -74,7 +74,7 @@ impl OpenRun {
     {
         let mut others = self.open;
         let bound = others.least_bound(self.makespan);
-        let front = others.take(alloc, MAX_PIECES * plan.piece)?;
+        let front = others.take(alloc, MAX_PIECES * plan.piece, self.spare.len())?;
         let standing = Standing {
             word: self.word,
             makespan: self.makespan,

@@ -21,13 +21,13 @@ returns-clause-cut c =
     in let many = c.in_ok-count.ensures.count
     in with_rest c.args.instance.now c.args.plan.now (stands c.args.standing) c.in_ok-search.search c.in_ok-round.round
     c.in_ok-round.others c.in_ok-rest.rest.items c.in_ok-search.ensures c.in_ok-round.ensures
-    (c.in_ok-rest.ensures.1 ∙ take_all c.in_ok-count.field-0 others (omega arith))
+    (c.in_ok-rest.ensures.1 ∙ take_all c.in_ok-count.count others (omega arith))
 
 pub invariant_of-round-clause-nodes_of_rest : goal.invariant_of-round-clause-nodes_of_rest
 invariant_of-round-clause-nodes_of_rest c =
     let others = open_list c.in_ok-round.others
     in let many = c.in_ok-count.ensures.count
-    in let all = c.in_ok-rest.ensures.1 ∙ take_all c.in_ok-count.field-0 others (omega arith)
+    in let all = c.in_ok-rest.ensures.1 ∙ take_all c.in_ok-count.count others (omega arith)
     in let same = ap (λ (q : Told). q.shop) c.in_ok-round.ensures.round
     in subst (λ q. AreNodes q c.in_ok-rest.rest.items) (sym same)
     (subst (AreNodes c.args.instance.now) (sym all) c.in_ok-round.ensures.bounds)
@@ -39,7 +39,7 @@ invariant_of-round-clause-is_round c =
     in let s = stands c.args.standing
     in let is = with_rest c.args.instance.now c.args.plan.now s c.in_ok-search.search c.in_ok-round.round
     c.in_ok-round.others c.in_ok-rest.rest.items c.in_ok-search.ensures c.in_ok-round.ensures
-    (c.in_ok-rest.ensures.1 ∙ take_all c.in_ok-count.field-0 others (omega arith))
+    (c.in_ok-rest.ensures.1 ∙ take_all c.in_ok-count.count others (omega arith))
     in subst IsRound (sym is) (cut_is_round c.args.instance.now (planned c.args.plan.now) s c.requires.standing.1)
 
 pub returns-clause-covers : goal.returns-clause-covers
