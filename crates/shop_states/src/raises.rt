@@ -210,16 +210,7 @@ fn raise_longer<L: StateLanes>(
     let mut machines = mem::replace(raised, MachineSet::none());
     while from < behind {
         let to = from + (behind - from).min(8);
-        raise_blocks(
-            lanes,
-            raises,
-            &mut machines,
-            &routes,
-            next,
-            from,
-            to,
-            end,
-        );
+        raise_blocks(lanes, raises, &mut machines, &routes, next, from, to, end);
         from = to;
     }
     *raised = machines;
