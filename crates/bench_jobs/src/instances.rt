@@ -12,7 +12,7 @@ pub struct Size {
     pub machines: usize,
 }
 
-/// A step of a job on a machine for a time.
+/// A step of a job: its machine, and its time.
 #[derive(Clone, Copy)]
 pub struct Step {
     pub machine: usize,

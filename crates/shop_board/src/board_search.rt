@@ -17,7 +17,7 @@ use shop_workers::{
 use std::alloc::{AllocError as NoMemory, Global};
 use std::thread::Threads;
 
-/// Claims each piece of the board in order. Searches a piece that the seat wins, or skips it if the makespan of an
+/// Claims each piece of the board in order. Searches a piece that the seat wins, or passes it if the makespan of an
 /// earlier one is known to equal the opening bound. Answers the seat, which keeps all that it knew, and the entries of
 /// the pieces that it won in this call, in number order, or `NoMemory` if memory runs out. Waits only for the gate.
 pub fn work<'r, G: SeatGate>(

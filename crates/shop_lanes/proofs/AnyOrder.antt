@@ -82,3 +82,10 @@ module _ {A : Type 0} (f : A → ℕ) (heads times tails : List A) (count : ℕ)
       → min (from + ahead) top ≡ least_head top from (lanes_by f heads times tails)
   nearest_of_rows top from ahead le is = ap (λ (n : ℕ). min (from + n) top) is
       ∙ nearest_is_least top from (map f heads) le ∙ least_of_rows top from
+
+  -- where it isn't past some number below the greatest one, the nearest head ahead is the least
+  pub next_head : (top from ahead upto : ℕ) → upto < top
+      → ahead ≡ least_up_to top (map (ahead_of top from) (map f heads)) → from + ahead ≤ upto
+      → from + ahead ≡ least_head top from (lanes_by f heads times tails)
+  next_head top from ahead upto below is under =
+      let near = nearest_of_rows top from ahead (omega arith) is in omega arith

@@ -35,7 +35,8 @@ mask-append (x ∷ xs) ys =
     in omega (arith, rest, power)
 
 -- the elements from pair b on are those of the pair and those behind it
-pair_split : {A : Type 0} (b : ℕ) (xs : List A) → drop (16 * b) xs ≡ take 16 (drop (16 * b) xs) ++ drop (16 * (b + 1)) xs
+pair_split : {A : Type 0} (b : ℕ) (xs : List A)
+    → drop (16 * b) xs ≡ take 16 (drop (16 * b) xs) ++ drop (16 * (b + 1)) xs
 pair_split b xs =
     let next : 16 * b + 16 ≡ 16 * (b + 1) = omega arith
     in sym (take-append-drop 16 (drop (16 * b) xs))

@@ -1,4 +1,4 @@
--- What all columns come to one after the other, from what each comes to by itself.
+-- The load of columns served one after the other, from the load of each by itself.
 use Rattle.std.proofs.Common.{◌≡◌, ℕ, zero, suc, ◌+◌, ◌*◌, ◌<◌, ◌≤◌, max, List, [], ◌∷◌, ◌++◌}
 use Rattle.std.proofs.Common.{take, drop, get_or, refl, ap, sym, ◌∙◌, arith, take-append-drop, subst}
 use Rattle.std.proofs.Math.Seq.{take-suc, take-add}

@@ -3,7 +3,7 @@ use Rattle.std.proofs.Common.{arith, ◌≡◌, ℕ, ◌+◌, ◌*◌, ◌≤◌
 use Rattle.std.proofs.Common.{take, drop}
 use Rattle.std.proofs.lemmas.Bool.Decides.{nat_tests}
 use Rattle.std.proofs.lemmas.List.{take-map, drop-map}
-use Rattle.shop_lanes.specs.Eights.{ahead_of, later_head}
+use Rattle.shop_lanes.specs.Eights.{ahead_of}
 use Rattle.shop_lanes.specs.Folds.{least_up_to}
 use Rattle.shop_lanes.specs.inner.LaterHeads.{least_later}
 

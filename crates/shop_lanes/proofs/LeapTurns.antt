@@ -71,10 +71,6 @@ least_span top from xs le lt =
     in let some = some_waits top from head xs lt
     in omega (arith, same, later, some)
 
--- the nearest number ahead is the least head where it is below the greatest number
-pub nearest_below : (top upto : ℕ) → {head least : ℕ} → min head top ≡ least → head ≤ upto → upto < top → head ≡ least
-nearest_below top upto near under below = omega arith
-
 -- it is among the spans from the heads above another
 pub least_among : (top from above upto : ℕ) (all xs : List Lane) (head : ℕ) → head ≡ least_head top from xs → head < top
     → above < head → head ≤ upto → span head head all ≤ spans_from above upto all xs

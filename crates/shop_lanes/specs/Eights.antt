@@ -4,7 +4,7 @@
 --     halves, quarters, neighbours     with halves, quarters or neighbours exchanged
 --     waiting least heads xs           the numbers whose head is at least `least`, 0 in other lanes
 --     later_head rest least head       `head` if it is at least `least`, else `rest`
---     ahead_of greatest from x         how far x lies ahead of `from`, where 0 follows on `greatest`
+--     ahead_of greatest from x         how far x lies ahead of `from`; 0 follows on `greatest`
 --     is_between above upto x          x is above `above` and at most `upto`
 use Rattle.std.specs.Prelude.{◌≡◌, ℕ, ◌+◌, ◌-◌, ◌≤◌, Bool, ◌&&◌, List, [], ◌∷◌, ◌++◌, length}
 use Rattle.std.specs.Prelude.{replicate, map, nat_le, nat_lt, if◌then◌else◌, slice_index}

@@ -127,8 +127,8 @@ pub trait Block: Copy + Drop {
         requires fits { number ≤ GREATEST }
         ensures { result ≡ mask_l (map (λ x. x == number) (numbers block)) };
 
-    /// Sets bit i of the result if number i of the 16 numbers of `row` from number 16 * `pair` on is above `above` and at
-    /// most `upto`. Two blocks share what turns lanes into bits.
+    /// Sets bit i of the result if number i of the 16 numbers of `row` from number 16 * `pair` on is above `above` and
+    /// at most `upto`. Two blocks share what turns lanes into bits.
     fn pair_between(row: &[Self::Number], pair: usize, above: u64, upto: u64) -> u64
         requires within { 16 * (pair + 1) ≤ length row.now }
         requires above { above ≤ GREATEST }

@@ -1,4 +1,4 @@
--- No two slots of a machine are the same step of a job, and they are not too many.
+-- Each step of a job has one slot, and the slots of a machine are at most its operations.
 use Rattle.std.proofs.Common.{◌≡◌, ℕ, zero, suc, ◌+◌, ◌*◌, ◌≤◌, ◌<◌, List, [], ◌∷◌, length, map}
 use Rattle.std.proofs.Common.{get_or, refl, sym, arith, eqb}
 use Rattle.std.specs.List.{AllByRecursion, filter, flat_map, range_with_len}

@@ -161,8 +161,8 @@ impl<L: StateLanes> Grid<L> {
         self.positions.blocks[machine] as usize
     }
 
-    /// The number of blocks of each machine, or 0 if not all machines have equally many. A constant of the code where
-    /// the lanes fix it.
+    /// The number of blocks of each machine, or 0 if not all machines have equally many. Lanes for a fixed number make
+    /// it a constant.
     #[inline(always)]
     pub fn blocks_each(&self) -> usize
         ensures { AreEven self.now.blocks result }

@@ -1,4 +1,4 @@
--- Sheets.
+-- Of which search a sheet is, and what it keeps.
 --     IsSheetOf sheet shop piece best budget     the sheet was made of these
 --     walk_of sheet                              the sheet as what a walk carries
 --     KeepsTables shop piece best sheet          the search of the piece lost no table

@@ -1,4 +1,4 @@
--- What only the inside of the crate is told by.
+-- Definitions that no public law uses.
 pub mod Choosing
 pub mod HeldNodes
 pub mod Places

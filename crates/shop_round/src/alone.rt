@@ -9,12 +9,12 @@ use shop_runs::{Crew, Entry, PieceSearch, Round};
 use std::alloc::{AllocError as NoMemory, Global};
 
 /// The crew of the calling thread alone. It searches the pieces of a round in order until one's makespan equals the
-/// opening bound, and skips the rest.
+/// opening bound, and passes the rest.
 #[derive(Clone, Copy)]
 pub struct Alone;
 
 impl Alone {
-    /// Searches the pieces of `round` in order until one's makespan equals the opening bound, and skips the rest.
+    /// Searches the pieces of `round` in order until one's makespan equals the opening bound, and passes the rest.
     /// Answers one entry for each piece, in number order. Fails with `NoMemory` if memory runs out.
     pub fn search_round<'r>(
         self,

@@ -1,4 +1,4 @@
-// Searches the pieces of a round in order until one's makespan equals the opening bound, and skips the rest.
+// Searches the pieces of a round in order until one's makespan equals the opening bound, and passes the rest.
 ghost use Rattle.std.specs.Prelude.{◌≡◌, ◌+◌, ◌<◌, length, IfOk, OnOk};
 ghost use Rattle.shop_runs.specs.Entries.{told};
 ghost use Rattle.shop_runs.specs.Crews.{OneForEach, StopsAtHit};
@@ -7,7 +7,7 @@ ghost use Rattle.shop_round.specs.inner.Hits.{IsEntryUpToHit, IsFirstHitBelow};
 use shop_runs::{Entry, PieceSearch};
 use std::alloc::{AllocError as NoMemory, Global};
 
-// Answers the entry of piece `number`. Skips the piece if `hit` holds an earlier one. Otherwise searches it, and sets
+// Answers the entry of piece `number`. Passes the piece if `hit` holds an earlier one. Otherwise searches it, and sets
 // `hit` to `number` if the makespan of its sheet equals the opening bound.
 fn entry_up_to_hit<'r, P: PieceSearch<'r>>(
     alloc: Global,
@@ -33,7 +33,7 @@ fn entry_up_to_hit<'r, P: PieceSearch<'r>>(
     Ok(Entry::done(round, sheet))
 }
 
-/// Searches the pieces of a round in order until one's makespan equals the opening bound, and skips the rest. Answers
+/// Searches the pieces of a round in order until one's makespan equals the opening bound, and passes the rest. Answers
 /// one entry for each piece, in number order. Fails with `NoMemory` if memory runs out.
 pub fn search_up_to_hit<'r, P: PieceSearch<'r>>(
     alloc: Global,

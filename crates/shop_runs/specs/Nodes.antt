@@ -1,4 +1,4 @@
--- What contracts know of a round, of its fields.
+-- A round as contracts see it, by its fields.
 use Rattle.std.specs.Prelude.{ℕ, ◌+◌, ◌&&◌, Bool, true, List, [], ◌∷◌, map, All, ◌==◌}
 use Rattle.shop_model.specs.Shop.{Shop}
 use Rattle.shop_nodes.specs.Nodes.{words_of, AreNodes}

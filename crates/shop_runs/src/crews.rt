@@ -13,7 +13,7 @@ pub trait Crew<R> {
     /// What a caller of `search` must prove: that threads may share values, or nothing if the crew has no threads.
     ghost ready: { Type 0 };
 
-    /// Searches the pieces of `round`, and may skip those behind one whose sheet's makespan equals the opening bound.
+    /// Searches the pieces of `round`, and may pass those behind one whose sheet's makespan equals the opening bound.
     /// Answers one entry for each piece, in number order. Fails with `NoMemory` if memory runs out.
     fn search<'r>(
         &mut self,

@@ -1,4 +1,4 @@
-// Entries, which say for each piece of a round whether a crew searched it or skipped it.
+// Entries, which say for each piece of a round whether a crew searched it or passed it.
 ghost use Rattle.shop_runs.specs.Entries.{told, Fits, Fits-prop};
 
 use crate::rounds::Round;

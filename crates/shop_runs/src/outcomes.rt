@@ -47,7 +47,7 @@ impl<'r> RoundResult<'r> {
 }
 
 /// Makes the result of `round` from `entries`, one for each piece in order. Stops at the first sheet whose makespan
-/// equals the opening bound, so it never reaches a piece that a crew skipped. Fails with `NoMemory` if memory runs out.
+/// equals the opening bound, so it never reaches a piece that a crew passed. Fails with `NoMemory` if memory runs out.
 pub fn outcome_of<'r>(
     alloc: Global,
     round: &'r Round<'r>,

@@ -1,4 +1,4 @@
--- Raises cover what the heads after one more operation bound.
+-- The raises of a dispatch cover all heads by which the bound of the child may exceed that of its parent.
 use Rattle.std.proofs.Common.{◌≡◌, ℕ, ◌+◌, ◌≤◌, ◌<◌, ◌⊎◌, inl, inr, List, [], ◌∷◌, ◌++◌, get_or, refl, sym, ap, arith}
 use Rattle.std.proofs.lemmas.Bool.{cases_lt}
 use Rattle.shop_lanes.specs.Rows.{Rows, lanes_of}

@@ -1,4 +1,4 @@
--- The conflict set as what is chosen and what is gathered by lanes.
+-- The conflict set is the chosen job and the jobs that are gathered from the lanes.
 use Rattle.std.proofs.Common.{◌≡◌, ℕ, zero, suc, ◌+◌, ◌-◌, ◌≤◌, ◌<◌, max, ◌⊎◌, inl, inr, Bool, true, false, ◌||◌, List}
 use Rattle.std.proofs.Common.{[], ◌∷◌, length, get_or, refl, sym, ◌∙◌, ap, subst, arith, eqb, ltb}
 use Rattle.std.specs.List.{filter, range_with_len, best_of}

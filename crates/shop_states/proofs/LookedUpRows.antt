@@ -1,5 +1,5 @@
 -- The lanes of a machine, whose rows and blocks were looked up before.
-use Rattle.std.proofs.Common.{◌≡◌, ℕ, ◌+◌, List, get_or, length, subst, sym, ◌∙◌, ap, refl}
+use Rattle.std.proofs.Common.{◌≡◌, ℕ, ◌+◌, List, get_or, length, ◌∙◌, refl}
 use Rattle.shop_lanes.specs.Rows.{AreBlocks, AreBlocksOf, lanes_of}
 use Rattle.shop_layout.specs.Lanes.{lanes_on, rows_of}
 use Rattle.shop_layout.specs.Positions.{LayoutState}

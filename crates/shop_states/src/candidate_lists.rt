@@ -18,8 +18,8 @@ use crate::states::State;
 use shop_lanes::{Marks, StateLanes};
 use shop_layout::Grid;
 
-/// Answers the own span in `owns[place]`: how late that operation, and the others of its machine with their tails, end
-/// if it goes first.
+/// Answers the own span in `owns[place]`: how late the operations of the machine end, tails included, if the one at
+/// `place` goes first.
 #[inline(always)]
 fn own_at<L: StateLanes>(owns: &[L::Number], place: usize) -> u64
     requires { place < length owns.now }
@@ -125,7 +125,8 @@ fn list_words<L: StateLanes>(
     others
 }
 
-/// Of all next operations that of job `chosen` can end first: at `end`, one higher like heads in lanes, on `machine`.
+/// The next operation that can end first: that of job `chosen`, on `machine`. `end` is its end, one higher, like heads in
+/// lanes.
 #[derive(Clone, Copy)]
 pub(crate) struct FirstEnd {
     pub chosen: usize,

@@ -10,8 +10,8 @@ use crate::job_sets::JobSet;
 use shop_lanes::{Marks, StateLanes};
 use shop_layout::Grid;
 
-/// Where a conflict set lies: in blocks `from` up to `behind` (excluded), those of one machine. Of all next operations
-/// that of `chosen`, which is there, can end first, at `end`, one higher like heads in lanes. `below` marks the heads
+/// Where a conflict set lies: in blocks `from` up to `behind` (excluded), those of one machine. The next operation that
+/// can end first is there: that of `chosen`. `end` is its end, one higher, like heads in lanes. `below` marks the heads
 /// below `end` in the blocks before `to`.
 #[derive(Drop)]
 pub(crate) struct ConflictBlocks {

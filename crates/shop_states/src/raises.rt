@@ -13,6 +13,7 @@ use crate::head_raises::{LaneRaise, see};
 use crate::machine_sets::MachineSet;
 use shop_lanes::StateLanes;
 use shop_layout::{Grid, Routes};
+use std::mem;
 
 /// Raises the head at `position` to `end`, then every later head on its route that is now too early. Notes in `raises`
 /// how far each later head rose, and puts its machine into `raised`. Takes a step for each head that rises; the legs of
@@ -205,11 +206,14 @@ fn raise_longer<L: StateLanes>(
     let routes = grid.routes();
     let behind = grid.block(machine + 1);
     let mut from = grid.block(machine);
+    // taken out, so that the set stays in registers
+    let mut machines = mem::replace(raised, MachineSet::none());
     while from < behind {
         let to = from + (behind - from).min(8);
-        raise_blocks(lanes, raises, raised, &routes, next, from, to, end);
+        raise_blocks(lanes, raises, &mut machines, &routes, next, from, to, end);
         from = to;
     }
+    *raised = machines;
 }
 
 /// Raises each head below `end` on `machine` to `end`, then every later head on its route that is now too early. Notes

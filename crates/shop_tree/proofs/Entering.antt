@@ -1,4 +1,4 @@
--- Where a walk comes to that goes on from a word.
+-- What a walk finds when it goes on from a word.
 use Rattle.std.proofs.Common.{◌≡◌, ℕ, zero, suc, ◌-◌, ◌≤◌, ◌<◌, inl, inr, false, Option, Some, List, [], ◌∷◌, ◌++◌}
 use Rattle.std.proofs.Common.{length, map, refl, sym, ◌∙◌, ap, subst, arith, leb, length-append}
 use Rattle.std.specs.List.{AllByRecursion, fold}

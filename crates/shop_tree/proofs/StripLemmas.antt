@@ -1,4 +1,4 @@
--- A kept child whose state was taken is kept still, and each state is room for one.
+-- A child that is kept stays so without its state, and each state has room for a word.
 use Rattle.std.proofs.Common.{◌≡◌, ℕ, ◌+◌, ◌-◌, ◌≤◌, ◌<◌, List, ◌++◌, ◌∷◌, [], length, map, get_or, set, inl, inr}
 use Rattle.std.proofs.Common.{All, None, Some, Option, refl, sym, ◌∙◌, ap, subst, arith}
 use Rattle.std.specs.Global.{Box}

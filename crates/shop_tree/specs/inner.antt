@@ -1,4 +1,4 @@
--- What only the inside of the crate is told by.
+-- Definitions that only contracts inside the crate use.
 pub mod Searching
 pub mod Opens
 pub mod Pushing

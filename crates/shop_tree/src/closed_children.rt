@@ -28,9 +28,8 @@ pub(crate) fn put_rest<S: Drop>(
     Ok(())
 }
 
-/// Sets the number of closed children of a word of `depth` jobs, of which `known` were counted, to `count`, in their
-/// entry at `place`, below the open children. Inserts that entry if `known` is 0. Fails with `NoMemory` if memory runs
-/// out.
+/// Raises the number of closed children of a word of `depth` jobs from `known` to `count`. Their entry lies at `place`,
+/// below the open children; it is inserted if `known` is 0. Fails with `NoMemory` if memory runs out.
 pub(crate) fn set_rest_below<S: Drop>(
     stack: &mut Vec<Held<S>>,
     place: usize,

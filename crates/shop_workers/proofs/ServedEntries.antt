@@ -1,4 +1,4 @@
--- A seat that served what it had won has served all, where each entry of what it won since is served.
+-- A seat has served all that it won, if it had served what it had won before and serves what it wins since.
 use Rattle.std.proofs.Common.{◌≡◌, ◌⊎◌, ℕ, ◌<◌, List, [], ◌∷◌, ◌++◌, reverse, Bool, true}
 use Rattle.std.proofs.Common.{sym, ◌∙◌, subst, inl, inr, ⊎_elim, arith, true≢false}
 use Rattle.std.proofs.lemmas.List.{reverse-append}

@@ -12,7 +12,7 @@ use shop_runs::{Entry, PieceSearch, Round};
 use std::alloc::{AllocError as NoMemory, Global};
 use std::sync::{Mutex, Wait};
 
-// Searches piece `number`, or skips it if `low` is lower, and answers its entry. Sets `low` to `number` if the piece's
+// Searches piece `number`, or passes it if `low` is lower, and answers its entry. Sets `low` to `number` if the piece's
 // makespan equals the opening bound. Before the worker's first such piece, `low` is the number of pieces.
 fn search_or_pass<'r, P: PieceSearch<'r>, G: Gate>(
     alloc: Global,
@@ -52,7 +52,7 @@ fn next_piece<R: Wait>(rt: &R, pool: &Mutex<Pool>, pieces: usize) -> Option<usiz
     if number < pieces { Some(number) } else { None }
 }
 
-// Takes piece numbers from `pool` until it is empty, searches or skips these pieces, and answers their entries.
+// Takes piece numbers from `pool` until it is empty, searches or passes these pieces, and answers their entries.
 fn serve_with<'r, P: PieceSearch<'r>, R: Wait, G: Gate>(
     rt: &R,
     alloc: Global,
@@ -79,7 +79,7 @@ fn serve_with<'r, P: PieceSearch<'r>, R: Wait, G: Gate>(
 }
 
 /// Searches the pieces whose numbers worker `worker` takes from `pool`, and answers their entries. Once one's makespan
-/// equals the opening bound, skips the worker's pieces of higher numbers. Fails with `NoMemory` if memory runs out.
+/// equals the opening bound, passes the worker's pieces of higher numbers. Fails with `NoMemory` if memory runs out.
 pub fn serve<'r, P: PieceSearch<'r>, R: Wait, G: Gate>(
     rt: &R,
     alloc: Global,

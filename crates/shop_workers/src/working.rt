@@ -43,7 +43,7 @@ fn search_won<'r, P: PieceSearch<'r>, G: SeatGate>(
 }
 
 // Reads the least number of a marked piece, then claims piece `number`. If the seat wins piece `number`, searches it,
-// or skips it if the number read is lower. Answers the entry of piece `number`, or `None` if the seat didn't win it.
+// or passes it if the number read is lower. Answers the entry of piece `number`, or `None` if the seat didn't win it.
 fn claim_and_search<'r, P: PieceSearch<'r>, G: SeatGate>(
     alloc: Global,
     board: &Board,
@@ -74,7 +74,7 @@ fn claim_and_search<'r, P: PieceSearch<'r>, G: SeatGate>(
     Ok(Some(entry))
 }
 
-/// Claims each piece of the board in order. Searches a piece that the seat wins, or skips it if the board shows an
+/// Claims each piece of the board in order. Searches a piece that the seat wins, or passes it if the board shows an
 /// earlier piece as marked. Marks a searched piece whose sheet's makespan equals the opening bound. Answers the entries
 /// of the pieces that the seat won in this call, in number order. Fails with `NoMemory` if memory runs out; the seat
 /// then keeps what it won. Waits only for the gate.

@@ -1,6 +1,6 @@
 use Rattle.std.proofs.Common.{◌+◌, arith, rules}
-use Rattle.shop_lanes.proofs.LeapTurns.{leaps_end, leaps_reached, leaps_within, leaps_past, load_fits, leap, nearest_below}
-use Rattle.shop_lanes.proofs.AnyOrder.{nearest_of_rows}
+use Rattle.shop_lanes.proofs.LeapTurns.{leaps_end, leaps_reached, leaps_within, leaps_past, load_fits, leap}
+use Rattle.shop_lanes.proofs.AnyOrder.{nearest_of_rows, next_head}
 use Rattle.shop_lanes.proofs.leaps.leap.Goals as goal
 
 pub overflow_add-upto : goal.overflow_add-upto
@@ -11,40 +11,37 @@ overflow_add-upto g c =
 pub overflow_add-head-in-loop-settled-2 : goal.overflow_add-head-in-loop-settled-2
 overflow_add-head-in-loop-settled-2 g c =
     let fits = load_fits c.loop-settled.invariant c.load_of-load.ensures g.B.Block.GREATEST c.requires.fits
-    in omega (arith, fits, c.GREATEST-greatest.ensures, c.GREATEST-greatest.type_inv, c.if-ahead-upto.false,
-    c.loop-settled-test.true)
+    in let near = c.if-ahead-upto.false in let left = c.loop-settled-test.true
+    in omega (arith, fits, c.GREATEST-greatest.ensures, c.GREATEST-greatest.type_inv, near, left)
 
 pub returns-then-upto-load : goal.returns-then-upto-load
 returns-then-upto-load g c =
     leaps_within c.loop-settled.invariant c.load_of-load.ensures c.if-upto-load.true c.args.limit
 
 pub returns-then-ahead-upto : goal.returns-then-ahead-upto
-returns-then-ahead-upto g c =
-    leaps_past c.loop-settled.invariant c.load_of-load.ensures g.B.Block.GREATEST (nearest_of_rows g.B.Block.value c.args.heads.now c.args.times.now c.args.tails.now c.args.count c.requires.count
+returns-then-ahead-upto g c = leaps_past c.loop-settled.invariant c.load_of-load.ensures g.B.Block.GREATEST
+    (nearest_of_rows g.B.Block.value c.args.heads.now c.args.times.now c.args.tails.now c.args.count c.requires.count
     c.requires.whole_blocks c.requires.times c.requires.tails g.B.Block.GREATEST (c.loop-settled.settled + 1)
-    c.nearest_of-ahead.result (let below = c.requires.below in let left = c.loop-settled-test.true in omega arith)
-    c.nearest_of-ahead.ensures)
+    c.nearest_of-ahead.result
+    (let below = c.requires.below in let left = c.loop-settled-test.true in omega arith) c.nearest_of-ahead.ensures)
     (let far = c.if-ahead-upto.true in let below = c.requires.below in omega arith) c.args.limit
 
 pub returns-then-bound-limit : goal.returns-then-bound-limit
-returns-then-bound-limit g c =
-    leaps_reached (leap c.loop-settled.invariant c.load_of-load.ensures g.B.Block.GREATEST (nearest_below g.B.Block.GREATEST
-    c.args.upto (nearest_of_rows g.B.Block.value c.args.heads.now c.args.times.now c.args.tails.now c.args.count c.requires.count
+returns-then-bound-limit g c = leaps_reached (leap c.loop-settled.invariant c.load_of-load.ensures g.B.Block.GREATEST
+    (next_head g.B.Block.value c.args.heads.now c.args.times.now c.args.tails.now c.args.count c.requires.count
     c.requires.whole_blocks c.requires.times c.requires.tails g.B.Block.GREATEST (c.loop-settled.settled + 1)
-    c.nearest_of-ahead.result (let below = c.requires.below in let left = c.loop-settled-test.true in omega arith)
-    c.nearest_of-ahead.ensures)
-    (let near = c.if-ahead-upto.false in let left = c.loop-settled-test.true in omega arith) c.requires.below)
+    c.nearest_of-ahead.result c.args.upto c.requires.below
+    c.nearest_of-ahead.ensures (let near = c.if-ahead-upto.false in let left = c.loop-settled-test.true in omega arith))
     c.loop-settled-test.true (let near = c.if-ahead-upto.false in let left = c.loop-settled-test.true in omega arith)
-    c.requires.below c.max-bound.result (search rules)) c.args.limit c.if-bound-limit.true
+    c.requires.below c.max-bound.result (search rules))
+    c.args.limit c.if-bound-limit.true
 
 pub loop-settled-preserved : goal.loop-settled-preserved
-loop-settled-preserved g c =
-    leap c.loop-settled.invariant c.load_of-load.ensures g.B.Block.GREATEST (nearest_below g.B.Block.GREATEST
-    c.args.upto (nearest_of_rows g.B.Block.value c.args.heads.now c.args.times.now c.args.tails.now c.args.count c.requires.count
+loop-settled-preserved g c = leap c.loop-settled.invariant c.load_of-load.ensures g.B.Block.GREATEST
+    (next_head g.B.Block.value c.args.heads.now c.args.times.now c.args.tails.now c.args.count c.requires.count
     c.requires.whole_blocks c.requires.times c.requires.tails g.B.Block.GREATEST (c.loop-settled.settled + 1)
-    c.nearest_of-ahead.result (let below = c.requires.below in let left = c.loop-settled-test.true in omega arith)
-    c.nearest_of-ahead.ensures)
-    (let near = c.if-ahead-upto.false in let left = c.loop-settled-test.true in omega arith) c.requires.below)
+    c.nearest_of-ahead.result c.args.upto c.requires.below
+    c.nearest_of-ahead.ensures (let near = c.if-ahead-upto.false in let left = c.loop-settled-test.true in omega arith))
     c.loop-settled-test.true (let near = c.if-ahead-upto.false in let left = c.loop-settled-test.true in omega arith)
     c.requires.below c.max-bound.result (search rules)
 

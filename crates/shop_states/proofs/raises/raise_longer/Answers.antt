@@ -1,7 +1,8 @@
-use Rattle.std.proofs.Common.{ℕ, ◌+◌, ◌≤◌, ◌∙◌, get_or, length, refl, subst, sym, arith}
+use Rattle.std.proofs.Common.{ℕ, ◌+◌, ◌∙◌, get_or, length, refl, subst, sym, arith}
 use Rattle.shop_layout.specs.Lanes.{rows_of}
 use Rattle.shop_layout.specs.Positions.{LayoutState}
 use Rattle.shop_states.specs.inner.HeadRaises.{raises_in}
+use Rattle.shop_states.specs.inner.MachineRaises.{AreListed}
 use Rattle.shop_states.specs.inner.RaiseCalls.{CanRaise, HasRaised}
 use Rattle.shop_states.specs.inner.Raises.{Raises, IsInBlocks, IsOnMachine}
 use Rattle.shop_states.proofs.RaisedMachines.{lengths_in}
@@ -26,7 +27,8 @@ loop-from-init g c = record {
       c.requires.can.raisable);
   seen = sees_none;
   machines = refl;
-  listed = c.requires.listed;
+  listed = subst (AreListed (raises_in g.L.StateLanes.value c.args.raises.now)) (sym c.replace-machines.ensures.value)
+      c.requires.listed;
 }
 
 pub raise_blocks-requires-clause-can : goal.raise_blocks-requires-clause-can

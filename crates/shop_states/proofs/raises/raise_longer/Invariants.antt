@@ -18,7 +18,7 @@ invariant-loop-from g l = record {
       (raises_in g.L.StateLanes.value l.raises);
   machines : length (raises_in g.L.StateLanes.value l.raises)
       ≡ length (raises_in g.L.StateLanes.value l.fn.raises);
-  listed : AreListed (raises_in g.L.StateLanes.value l.raises) l.raised;
+  listed : AreListed (raises_in g.L.StateLanes.value l.raises) l.machines;
 }
 
 abbrev pub decreases-loop-from : goal.decreases-loop-from

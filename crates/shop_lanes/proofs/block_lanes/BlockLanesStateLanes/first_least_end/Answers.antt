@@ -1,4 +1,4 @@
-use Rattle.std.proofs.Common.{◌≡◌, ◌∙◌, ◌+◌, arith, ap, sym, subst, map, drop}
+use Rattle.std.proofs.Common.{◌∙◌, ◌+◌, arith, ap, sym, subst, map, drop}
 use Rattle.std.proofs.lemmas.List.{drop-map, get_or-take, length-take}
 use Rattle.shop_lanes.specs.Ends.{IsFirstLeast}
 use Rattle.shop_lanes.proofs.Padding.{first_least_seen}

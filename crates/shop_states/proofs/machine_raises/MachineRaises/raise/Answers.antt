@@ -1,4 +1,4 @@
-use Rattle.std.proofs.Common.{◌∙◌, List, ap, length, subst, sym}
+use Rattle.std.proofs.Common.{◌∙◌, List, ap, subst, sym}
 use Rattle.shop_layout.proofs.Written.{written_vec}
 use Rattle.shop_layout.specs.Lanes.{rows_of}
 use Rattle.shop_states.specs.declared.head_raises.LaneRaise.{LaneRaise}
