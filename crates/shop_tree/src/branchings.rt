@@ -10,4 +10,6 @@ pub(crate) struct Branching<'b> {
     pub(crate) limit: u64,
     pub(crate) candidates: &'b [Candidate],
     pub(crate) closed: usize,
+    /// whether the budget lasts for a child: else no child needs a state
+    pub(crate) goes_on: bool,
 }

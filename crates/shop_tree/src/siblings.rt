@@ -14,9 +14,9 @@ use shop_states::Dispatching;
 use std::alloc::{AllocError as NoMemory, Global};
 
 impl<'l, D: Dispatching<S>, S: Drop> WalkStates<'l, D, S> {
-    /// Gives the child on top of the stack a state, if the child lies from index `from` on and has none: dispatches its
-    /// job in the current state, which the walk no longer needs. The child stays without a state if no
-    /// other one can take the place of the current state. Fails with `NoMemory` if memory runs out.
+    /// Gives the child on top of the stack a state, if the walk goes on to it, and it lies from index `from` on and has
+    /// none: dispatches its job in the current state, which the walk no longer needs. The child stays without a state if
+    /// no other one can take the place of the current state. Fails with `NoMemory` if memory runs out.
     fn give_current(
         &mut self,
         alloc: Global,
@@ -37,6 +37,9 @@ impl<'l, D: Dispatching<S>, S: Drop> WalkStates<'l, D, S> {
             → HasGiven (D.IsStateOf self.old.dispatcher.now) w from stack.old.items stack.new.items) }
         ensures dispatcher { self.new.dispatcher.now ≡ self.old.dispatcher.now }
     {
+        if !branching.goes_on {
+            return Ok(());
+        }
         let Some(child) = bare_top(stack, from) else {
             return Ok(());
         };
@@ -103,7 +106,8 @@ impl<'l, D: Dispatching<S>, S: Drop> WalkStates<'l, D, S> {
                 others += 1;
                 continue;
             };
-            self.put_tried(alloc, stack, from, Open { depth, job, bound })?;
+            let child = Open { depth, job, bound };
+            self.put_tried(alloc, stack, from, child, branching.goes_on)?;
         }
         self.give_current(alloc, stack, from, branching)?;
         Ok(others)

@@ -176,8 +176,8 @@ impl<'l, D: Dispatching<S>, S: Drop> WalkStates<'l, D, S> {
     }
 
     /// Puts `child`, whose state is the trial's, among its siblings on the stack, which lie from index `from` on. The
-    /// child stays without a state if no other one can take the place of the trial's. Fails with `NoMemory` if memory
-    /// runs out.
+    /// child gets no state unless it `keeps` it and another one can take the trial's place. Fails with `NoMemory` if
+    /// memory runs out.
     #[inline(always)]
     pub(crate) fn put_tried(
         &mut self,
@@ -185,6 +185,7 @@ impl<'l, D: Dispatching<S>, S: Drop> WalkStates<'l, D, S> {
         stack: &mut Vec<Held<S>>,
         from: usize,
         child: Open,
+        keeps: bool,
     ) -> Result<(), NoMemory>
         requires sound { HoldSlots D.IsSlot D.IsScratch self.old }
         requires slots { AreSlotsFrom (D.IsSlot self.old.dispatcher.now) from stack.old.items }
@@ -196,6 +197,9 @@ impl<'l, D: Dispatching<S>, S: Drop> WalkStates<'l, D, S> {
         ensures scratch { OnOk result (self.new.scratch ≡ self.old.scratch) }
         ensures dispatcher { self.new.dispatcher.now ≡ self.old.dispatcher.now }
     {
+        if !keeps {
+            return put(stack, from, child, None);
+        }
         self.make_room(stack, from, child.bound)?;
         let state = self.take_trial(alloc)?;
         put(stack, from, child, state)
@@ -237,7 +241,8 @@ impl<'l, D: Dispatching<S>, S: Drop> WalkStates<'l, D, S> {
                 continue;
             };
             let job = candidate.job;
-            self.put_tried(alloc, stack, from, Open { depth, job, bound })?;
+            let child = Open { depth, job, bound };
+            self.put_tried(alloc, stack, from, child, branching.goes_on)?;
         }
         Ok(others)
     }
