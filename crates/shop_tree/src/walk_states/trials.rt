@@ -176,8 +176,8 @@ impl<'l, D: Dispatching<S>, S: Drop> WalkStates<'l, D, S> {
     }
 
     /// Puts `child`, whose state is the trial's, among its siblings on the stack, which lie from index `from` on. The
-    /// child gets no state unless it `keeps` it and another one can take the trial's place. Fails with `NoMemory` if
-    /// memory runs out.
+    /// child stays without a state if none is spare to take the trial's place, and none may be made or not `makes`.
+    /// Fails with `NoMemory` if memory runs out.
     #[inline(always)]
     pub(crate) fn put_tried(
         &mut self,
@@ -185,7 +185,7 @@ impl<'l, D: Dispatching<S>, S: Drop> WalkStates<'l, D, S> {
         stack: &mut Vec<Held<S>>,
         from: usize,
         child: Open,
-        keeps: bool,
+        makes: bool,
     ) -> Result<(), NoMemory>
         requires sound { HoldSlots D.IsSlot D.IsScratch self.old }
         requires slots { AreSlotsFrom (D.IsSlot self.old.dispatcher.now) from stack.old.items }
@@ -197,11 +197,8 @@ impl<'l, D: Dispatching<S>, S: Drop> WalkStates<'l, D, S> {
         ensures scratch { OnOk result (self.new.scratch ≡ self.old.scratch) }
         ensures dispatcher { self.new.dispatcher.now ≡ self.old.dispatcher.now }
     {
-        if !keeps {
-            return put(stack, from, child, None);
-        }
         self.make_room(stack, from, child.bound)?;
-        let state = self.take_trial(alloc)?;
+        let state = self.take_trial(alloc, makes)?;
         put(stack, from, child, state)
     }
 
@@ -227,7 +224,9 @@ impl<'l, D: Dispatching<S>, S: Drop> WalkStates<'l, D, S> {
         ensures dispatcher { self.new.dispatcher.now ≡ self.old.dispatcher.now }
     {
         if let Some(top) = self.bound_children(branching) {
-            return self.settle_candidates(alloc, stack, branching, top);
+            // A copy, since a record that is lent to a call doesn't stay in registers.
+            let branching = *branching;
+            return self.settle_candidates(alloc, stack, &branching, top);
         }
         let (from, depth) = (stack.len(), branching.word.len() as u32);
         let candidates = branching.candidates;
