@@ -10,6 +10,4 @@ pub(crate) struct Branching<'b> {
     pub(crate) limit: u64,
     pub(crate) candidates: &'b [Candidate],
     pub(crate) closed: usize,
-    /// whether the budget lasts for a child: else no state is made for children
-    pub(crate) goes_on: bool,
 }

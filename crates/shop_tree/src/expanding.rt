@@ -168,15 +168,15 @@ impl<'l, 'a, D: Dispatching<S>, S: Drop> Walker<'l, 'a, D, S> {
         Ok(())
     }
 
-    /// Takes states from the lowest entries of the stack if fewer are free than the children of this word want, and the
-    /// budget lasts for a child. Fails with `NoMemory` if memory runs out.
+    /// Takes states from the lowest entries of the stack if fewer are free than the children of this word want. Fails
+    /// with `NoMemory` if memory runs out.
     #[inline(always)]
     fn reclaim(&mut self) -> Result<(), NoMemory>
         requires states { HasStates self.old }
         ensures stands { OnOk result (StandsAs self.old self.new) }
     {
         let children = self.candidates.len();
-        if self.states.free() < children && self.progress.budget > 0 {
+        if self.states.free() < children {
             return self.strip_lowest(children.min(MOST_WANTED));
         }
         Ok(())
@@ -203,7 +203,6 @@ impl<'l, 'a, D: Dispatching<S>, S: Drop> Walker<'l, 'a, D, S> {
             limit: self.progress.best,
             candidates: self.candidates.as_slice(),
             closed,
-            goes_on: self.progress.budget > 0,
         };
         let all = self
             .states

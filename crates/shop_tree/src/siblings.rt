@@ -14,9 +14,9 @@ use shop_states::Dispatching;
 use std::alloc::{AllocError as NoMemory, Global};
 
 impl<'l, D: Dispatching<S>, S: Drop> WalkStates<'l, D, S> {
-    /// Gives the child on top of the stack a state, if the walk goes on to it, and it lies from index `from` on and has
-    /// none: dispatches its job in the current state, which the walk no longer needs. The child stays without a state if
-    /// no other one can take the place of the current state. Fails with `NoMemory` if memory runs out.
+    /// Gives the child on top of the stack a state, if the child lies from index `from` on and has none, and another
+    /// state can take the place of the current one: dispatches its job in the current state, which the walk no longer
+    /// needs. Fails with `NoMemory` if memory runs out.
     fn give_current(
         &mut self,
         alloc: Global,
@@ -37,7 +37,7 @@ impl<'l, D: Dispatching<S>, S: Drop> WalkStates<'l, D, S> {
             → HasGiven (D.IsStateOf self.old.dispatcher.now) w from stack.old.items stack.new.items) }
         ensures dispatcher { self.new.dispatcher.now ≡ self.old.dispatcher.now }
     {
-        if !branching.goes_on {
+        if self.free() == 0 {
             return Ok(());
         }
         let Some(child) = bare_top(stack, from) else {
@@ -106,8 +106,7 @@ impl<'l, D: Dispatching<S>, S: Drop> WalkStates<'l, D, S> {
                 others += 1;
                 continue;
             };
-            let child = Open { depth, job, bound };
-            self.put_tried(alloc, stack, from, child, branching.goes_on)?;
+            self.put_tried(alloc, stack, from, Open { depth, job, bound })?;
         }
         self.give_current(alloc, stack, from, branching)?;
         Ok(others)

@@ -160,10 +160,10 @@ impl<'l, D: Dispatching<S>, S: Drop> WalkStates<'l, D, S> {
         Ok(())
     }
 
-    /// Answers a spare state, else, if `makes`, a new one, else `None`; also if the walk may allocate no more. Fails with
-    /// `NoMemory` if memory runs out.
+    /// Answers a spare state, else a new one, else `None` if the walk may allocate no more. Fails with `NoMemory` if
+    /// memory runs out.
     #[inline(always)]
-    fn spare_state(&mut self, alloc: Global, makes: bool) -> Result<Option<Box<S>>, NoMemory>
+    fn spare_state(&mut self, alloc: Global) -> Result<Option<Box<S>>, NoMemory>
         requires sound { HoldSlots D.IsSlot D.IsScratch self.old }
         ensures sound { OnOk result (HoldSlots D.IsSlot D.IsScratch self.new) }
         ensures slot { IfOk result (IsHeldOf (λ _ s. D.IsSlot self.old.dispatcher.now s) []) }
@@ -174,9 +174,6 @@ impl<'l, D: Dispatching<S>, S: Drop> WalkStates<'l, D, S> {
     {
         if let Some(state) = self.spare.pop() {
             return Ok(Some(state));
-        }
-        if !makes {
-            return Ok(None);
         }
         self.new_state(alloc)
     }
@@ -199,13 +196,9 @@ impl<'l, D: Dispatching<S>, S: Drop> WalkStates<'l, D, S> {
         Ok(Some(Box::new(alloc, self.dispatcher.slot(alloc)?)?))
     }
 
-    /// Takes out the trial's state, and puts a spare one or, if `makes`, a new one in its place. Answers `None` if
-    /// neither can be had. Fails with `NoMemory` if memory runs out.
-    pub(crate) fn take_trial(
-        &mut self,
-        alloc: Global,
-        makes: bool,
-    ) -> Result<Option<Box<S>>, NoMemory>
+    /// Takes out the trial's state, and puts a spare or new one in its place. Answers `None` if neither can be had.
+    /// Fails with `NoMemory` if memory runs out.
+    pub(crate) fn take_trial(&mut self, alloc: Global) -> Result<Option<Box<S>>, NoMemory>
         requires sound { HoldSlots D.IsSlot D.IsScratch self.old }
         ensures sound { OnOk result (HoldSlots D.IsSlot D.IsScratch self.new) }
         ensures taken { IfOk result (IsHeldOf (λ _ s. s ≡ self.old.trial.value) []) }
@@ -213,7 +206,7 @@ impl<'l, D: Dispatching<S>, S: Drop> WalkStates<'l, D, S> {
         ensures scratch { self.new.scratch ≡ self.old.scratch }
         ensures dispatcher { self.new.dispatcher.now ≡ self.old.dispatcher.now }
     {
-        let Some(spare) = self.spare_state(alloc, makes)? else {
+        let Some(spare) = self.spare_state(alloc)? else {
             return Ok(None);
         };
         Ok(Some(mem::replace(&mut self.trial, spare)))
@@ -227,7 +220,7 @@ impl<'l, D: Dispatching<S>, S: Drop> WalkStates<'l, D, S> {
         ensures taken { IfOk result (IsHeldOf (λ _ s. s ≡ self.old.current.value) []) }
         ensures dispatcher { self.new.dispatcher.now ≡ self.old.dispatcher.now }
     {
-        let Some(spare) = self.spare_state(alloc, true)? else {
+        let Some(spare) = self.spare_state(alloc)? else {
             return Ok(None);
         };
         Ok(Some(mem::replace(&mut self.current, spare)))

@@ -176,8 +176,7 @@ impl<'l, D: Dispatching<S>, S: Drop> WalkStates<'l, D, S> {
     }
 
     /// Puts `child`, whose state is the trial's, among its siblings on the stack, which lie from index `from` on. The
-    /// child stays without a state if none is spare to take the trial's place, and none may be made or not `makes`.
-    /// Fails with `NoMemory` if memory runs out.
+    /// child stays without a state if no other one can take the trial's place. Fails with `NoMemory` if memory runs out.
     #[inline(always)]
     pub(crate) fn put_tried(
         &mut self,
@@ -185,7 +184,6 @@ impl<'l, D: Dispatching<S>, S: Drop> WalkStates<'l, D, S> {
         stack: &mut Vec<Held<S>>,
         from: usize,
         child: Open,
-        makes: bool,
     ) -> Result<(), NoMemory>
         requires sound { HoldSlots D.IsSlot D.IsScratch self.old }
         requires slots { AreSlotsFrom (D.IsSlot self.old.dispatcher.now) from stack.old.items }
@@ -198,7 +196,7 @@ impl<'l, D: Dispatching<S>, S: Drop> WalkStates<'l, D, S> {
         ensures dispatcher { self.new.dispatcher.now ≡ self.old.dispatcher.now }
     {
         self.make_room(stack, from, child.bound)?;
-        let state = self.take_trial(alloc, makes)?;
+        let state = self.take_trial(alloc)?;
         put(stack, from, child, state)
     }
 
@@ -240,8 +238,7 @@ impl<'l, D: Dispatching<S>, S: Drop> WalkStates<'l, D, S> {
                 continue;
             };
             let job = candidate.job;
-            let child = Open { depth, job, bound };
-            self.put_tried(alloc, stack, from, child, branching.goes_on)?;
+            self.put_tried(alloc, stack, from, Open { depth, job, bound })?;
         }
         Ok(others)
     }
