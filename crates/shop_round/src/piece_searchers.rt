@@ -1,9 +1,21 @@
 // Searches pieces of a round by their number, for the workers of any crew.
+ghost use Rattle.std.specs.Prelude.{◌≡◌};
+
 use shop_nodes::Sheet;
 use shop_runs::{PieceSearch, Round};
 use shop_tree::Searcher;
 use std::alloc::{AllocError as NoMemory, Global};
 use std::marker::Model;
+
+/// Makes a searcher for the pieces of `round`. With a budget of one node no child is walked, so none needs a state.
+fn searcher_for<'r>(round: &'r Round<'r>) -> Searcher<'r, 'r>
+    ensures { result ≡ round.now.instance.now }
+{
+    if round.budget > 1 {
+        return Searcher::over(round.instance, round.layout());
+    }
+    Searcher::with_states(round.instance, round.layout(), 0)
+}
 
 /// Searches pieces of a round one after the other, over the round's layout. Contracts see the round.
 #[derive(Drop)]
@@ -29,7 +41,7 @@ impl<'r> PieceSearch<'r> for PieceSearcher<'r> {
     fn over(round: &'r Round<'r>) -> PieceSearcher<'r> {
         PieceSearcher {
             round,
-            searcher: Searcher::over(round.instance, round.layout()),
+            searcher: searcher_for(round),
         }
     }
 

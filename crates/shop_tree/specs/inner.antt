@@ -5,7 +5,6 @@ pub mod Pushing
 pub mod Walkers
 pub mod Held
 pub mod Tried
-pub mod Branchings
 pub mod Slots
 pub mod StateWalkers
 pub mod LaneWalkers

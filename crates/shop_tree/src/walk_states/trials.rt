@@ -1,14 +1,13 @@
 // Trials of a word's children: each in a copy of the state of the word, or in this state itself.
-ghost use Rattle.std.specs.Prelude.{◌≡◌, ℕ, ◌≤◌, false, IsTrue, List, [], ◌∷◌, ◌++◌, All, IfOk, IfSome, OnOk, length};
-ghost use Rattle.std.specs.Prelude.{OnSome};
+ghost use Rattle.std.specs.Prelude.{◌≡◌, ℕ, ◌≤◌, false, IsTrue, List, [], ◌∷◌, ◌++◌, All, IfOk, IfSome, OnOk};
+ghost use Rattle.std.specs.Prelude.{OnSome, length};
 ghost use Rattle.shop_bound.specs.Bound.{lb};
-ghost use Rattle.shop_states.specs.States.{CanDispatch, Settles, TellsBoundBelow};
-ghost use Rattle.shop_tree.specs.inner.Branchings.{IsBranching};
+ghost use Rattle.shop_states.specs.States.{ListsBelow, CanDispatch, HasListed, Settles, TellsBoundBelow};
+ghost use Rattle.shop_nodes.specs.Branching.{conflict};
 ghost use Rattle.shop_tree.specs.inner.Slots.{HoldSlots};
 ghost use Rattle.shop_tree.specs.inner.Tried.{AreSlotsFrom, HasMadeRoom, HasPutChildren, HasPutTried};
 
 use super::WalkStates;
-use crate::branchings::Branching;
 use crate::held::Held;
 use crate::open_children::{put, strip_top};
 use shop_nodes::Open;
@@ -62,19 +61,27 @@ impl<'l, D: Dispatching<S>, S: Drop> WalkStates<'l, D, S> {
         self.dispatcher.dispatch_below(&mut self.scratch, &mut self.trial, candidate, bound, limit)
     }
 
-    /// Bounds the children of the current word together, as `Dispatching::bound_children` does. Uses up the trial's
-    /// state.
+    /// Bounds the children of the current word by `candidates`, as `Dispatching::bound_children` does. Uses up the
+    /// trial's state. `bound` is the bound of the current word.
     #[inline(always)]
-    fn bound_children(&mut self, branching: &Branching) -> Option<u64>
+    fn bound_children(&mut self, candidates: &[Candidate], bound: u64) -> Option<u64>
         requires sound { HoldSlots D.IsSlot D.IsScratch self.old }
-        requires state { D.IsStateOf self.old.dispatcher.now branching.now.word.now self.old.current.value }
-        requires listed { IsBranching (D.IsCandidate self.old.dispatcher.now)
-            (D.shop self.old.dispatcher.now) branching.now }
+        requires can { HasListed (D.shop self.old.dispatcher.now)
+            (λ w. D.IsStateOf self.old.dispatcher.now w self.old.current.value)
+            (D.IsCandidate self.old.dispatcher.now) candidates.now bound }
         ensures sound { HoldSlots D.IsSlot D.IsScratch self.new }
-        ensures settled { IfSome result (λ top. Settles (D.shop self.old.dispatcher.now)
-            branching.now.word.now branching.now.bound top branching.now.candidates.now) }
-        ensures known { IfSome result (λ top. All (λ c. D.KnowsChild self.old.dispatcher.now
-            self.new.scratch branching.now.word.now c.job) branching.now.candidates.now) }
+        ensures settled { IfSome result (λ top. (w : List ℕ) (limit others : ℕ)
+            → D.IsStateOf self.old.dispatcher.now w self.old.current.value
+            → bound ≡ lb (D.shop self.old.dispatcher.now) w
+            → ListsBelow (D.shop self.old.dispatcher.now) w limit (D.IsCandidate self.old.dispatcher.now w)
+            (conflict (D.shop self.old.dispatcher.now) w) candidates.now others
+            → Settles (D.shop self.old.dispatcher.now) w bound top candidates.now) }
+        ensures known { IfSome result (λ top. (w : List ℕ) (limit others : ℕ)
+            → D.IsStateOf self.old.dispatcher.now w self.old.current.value
+            → bound ≡ lb (D.shop self.old.dispatcher.now) w
+            → ListsBelow (D.shop self.old.dispatcher.now) w limit (D.IsCandidate self.old.dispatcher.now w)
+            (conflict (D.shop self.old.dispatcher.now) w) candidates.now others
+            → All (λ c. D.KnowsChild self.old.dispatcher.now self.new.scratch w c.job) candidates.now) }
         ensures current { self.new.current.value ≡ self.old.current.value }
         ensures dispatcher { self.new.dispatcher.now ≡ self.old.dispatcher.now }
     {
@@ -82,8 +89,8 @@ impl<'l, D: Dispatching<S>, S: Drop> WalkStates<'l, D, S> {
             &mut self.scratch,
             &self.current,
             &mut self.trial,
-            branching.candidates,
-            branching.bound,
+            candidates,
+            bound,
         )
     }
 
@@ -119,30 +126,35 @@ impl<'l, D: Dispatching<S>, S: Drop> WalkStates<'l, D, S> {
         )
     }
 
-    /// Dispatches the candidate with this `job` in the current state itself, after `bound_children`. Answers whether the
-    /// child is open; else the current state may be no word's state any more.
-    pub(crate) fn advance_to(&mut self, job: u16, branching: &Branching) -> bool
+    /// Dispatches the candidate with this `job` in the current state itself, after `bound_children`. Answers whether
+    /// the child's bound is below `limit`; else the current state may be no word's state any more. `bound` is the bound
+    /// of the word before the dispatch.
+    pub(crate) fn advance_to(
+        &mut self,
+        job: u16,
+        candidates: &[Candidate],
+        bound: u64,
+        limit: u64,
+    ) -> bool
         requires sound { HoldSlots D.IsSlot D.IsScratch self.old }
         requires can { All (λ c. CanDispatch (D.shop self.old.dispatcher.now)
             (λ w. D.IsStateOf self.old.dispatcher.now w self.old.current.value
             × D.IsCandidate self.old.dispatcher.now w c
-            × D.KnowsChild self.old.dispatcher.now self.old.scratch w c.job) c.job branching.now.bound)
-            branching.now.candidates.now }
+            × D.KnowsChild self.old.dispatcher.now self.old.scratch w c.job) c.job bound) candidates.now }
         ensures sound { HoldSlots D.IsSlot D.IsScratch self.new }
         ensures state { IsTrue result → (w : List ℕ)
             → D.IsStateOf self.old.dispatcher.now w self.old.current.value
-            → All (D.IsCandidate self.old.dispatcher.now w) branching.now.candidates.now
+            → All (D.IsCandidate self.old.dispatcher.now w) candidates.now
             → D.IsStateOf self.old.dispatcher.now (w ++ job ∷ []) self.new.current.value }
         ensures dispatcher { self.new.dispatcher.now ≡ self.old.dispatcher.now }
     {
-        let candidates = branching.candidates;
         for index in 0..candidates.len() {
             let candidate = candidates[index];
             if candidate.job == job {
                 let (scratch, state) = (&mut self.scratch, &mut self.current);
                 return self
                     .dispatcher
-                    .dispatch_child_below(scratch, state, candidate, branching.bound, branching.limit)
+                    .dispatch_child_below(scratch, state, candidate, bound, limit)
                     .is_some();
             }
         }
@@ -176,8 +188,7 @@ impl<'l, D: Dispatching<S>, S: Drop> WalkStates<'l, D, S> {
     }
 
     /// Puts `child`, whose state is the trial's, among its siblings on the stack, which lie from index `from` on. The
-    /// child stays without a state if no other one can take the place of the trial's. Fails with `NoMemory` if memory
-    /// runs out.
+    /// child stays without a state if no other one can take the trial's place. Fails with `NoMemory` if memory runs out.
     #[inline(always)]
     pub(crate) fn put_tried(
         &mut self,
@@ -201,38 +212,44 @@ impl<'l, D: Dispatching<S>, S: Drop> WalkStates<'l, D, S> {
         put(stack, from, child, state)
     }
 
-    /// Tries each candidate of the current word, and puts its open children on the stack: by bound, then by job,
-    /// the first on top, each with its state while there is room. Answers how many children are closed: those tried in
-    /// vain, and those without a listed candidate. Where the dispatcher bounds all children at once,
-    /// `settle_candidates` goes on in place of the trials. Fails with `NoMemory` if memory runs out.
+    /// Tries each of `candidates`, and puts the children of `word` with bounds below `limit` on the stack: by bound,
+    /// then by job, the first on top, each with its state while there is room. Answers how many children are closed:
+    /// those tried in vain, and `closed` others without a listed candidate. Where the dispatcher bounds all children at
+    /// once, `settle_candidates` goes on in place of the trials. Fails with `NoMemory` if memory runs out.
     pub(crate) fn try_candidates(
         &mut self,
         alloc: Global,
         stack: &mut Vec<Held<S>>,
-        branching: &Branching,
+        candidates: &[Candidate],
+        closed: usize,
+        word: &[u16],
+        bound: u64,
+        limit: u64,
     ) -> Result<usize, NoMemory>
         requires sound { HoldSlots D.IsSlot D.IsScratch self.old }
-        requires state { D.IsStateOf self.old.dispatcher.now branching.now.word.now self.old.current.value }
-        requires listed { IsBranching (D.IsCandidate self.old.dispatcher.now)
-            (D.shop self.old.dispatcher.now) branching.now }
+        requires state { D.IsStateOf self.old.dispatcher.now word.now self.old.current.value }
+        requires bound { bound ≡ lb (D.shop self.old.dispatcher.now) word.now }
+        requires listed { ListsBelow (D.shop self.old.dispatcher.now) word.now limit
+            (D.IsCandidate self.old.dispatcher.now word.now)
+            (conflict (D.shop self.old.dispatcher.now) word.now) candidates.now closed }
         ensures sound { OnOk result (HoldSlots D.IsSlot D.IsScratch self.new) }
         ensures children { IfOk result (λ n. HasPutChildren (D.IsStateOf self.old.dispatcher.now)
-            (D.shop self.old.dispatcher.now) branching.now.limit branching.now.word.now
-            stack.old.items stack.new.items n) }
-        ensures more { IfOk result (λ n. branching.now.closed ≤ n) }
+            (D.shop self.old.dispatcher.now) limit word.now stack.old.items stack.new.items n) }
+        ensures more { IfOk result (λ n. closed ≤ n) }
         ensures dispatcher { self.new.dispatcher.now ≡ self.old.dispatcher.now }
     {
-        if let Some(top) = self.bound_children(branching) {
-            return self.settle_candidates(alloc, stack, branching, top);
+        if let Some(top) = self.bound_children(candidates, bound) {
+            return self.settle_candidates(
+                alloc, stack, candidates, closed, word, bound, limit, top,
+            );
         }
-        let (from, depth) = (stack.len(), branching.word.len() as u32);
-        let candidates = branching.candidates;
-        let mut others = branching.closed;
+        let (from, depth) = (stack.len(), word.len() as u32);
+        let mut others = closed;
         // Tries the last job first, so that of equal bounds the lower job lies above.
         for index in (0..candidates.len()).rev() {
             let candidate = candidates[index];
             let is_last = index == 0;
-            let Some(bound) = self.try_candidate(candidate, is_last, branching.bound, branching.limit) else {
+            let Some(bound) = self.try_candidate(candidate, is_last, bound, limit) else {
                 others += 1;
                 continue;
             };

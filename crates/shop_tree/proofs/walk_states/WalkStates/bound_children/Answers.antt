@@ -1,26 +1,26 @@
-use Rattle.std.proofs.Common.{sym, subst}
-use Rattle.std.proofs.lemmas.Option.{IfSome_then}
+use Rattle.std.proofs.Common.{◌≡◌, ℕ, List, All, IfSome, subst}
+use Rattle.shop_bound.specs.Bound.{lb}
+use Rattle.shop_nodes.specs.Branching.{conflict}
+use Rattle.shop_states.specs.States.{ListsBelow, Settles}
 use Rattle.shop_tree.proofs.walk_states.WalkStates.bound_children.Goals as goal
 
-pub bound_children-requires-clause-can : goal.bound_children-requires-clause-can
-bound_children-requires-clause-can g c = record {
-  word = c.args.branching.now.word.now;
-  is_word = subst (g.D.Dispatching.IsStateOf c.args.self.now.dispatcher.now c.args.branching.now.word.now)
-      (sym c.deref.ensures) c.requires.state;
-  limit = c.args.branching.now.limit;
-  others = c.args.branching.now.closed;
-  listed = c.requires.listed.listed;
-  bound_is = c.requires.listed.bound;
-}
-
 pub returns-clause-settled : goal.returns-clause-settled
-returns-clause-settled g c = IfSome_then c.bound_children.result c.bound_children.ensures.settled
-    (λ top settles. settles c.args.branching.now.word.now c.args.branching.now.limit c.args.branching.now.closed
-    (subst (g.D.Dispatching.IsStateOf c.args.self.now.dispatcher.now c.args.branching.now.word.now)
-    (sym c.deref.ensures) c.requires.state) c.requires.listed.bound c.requires.listed.listed)
+returns-clause-settled g c =
+    let d = c.args.self.now.dispatcher.now
+    in let shop = g.D.Dispatching.shop d
+    in let cs = c.args.candidates.now
+    in subst (λ s. IfSome c.bound_children.result (λ top. (w : List ℕ) → (limit : ℕ) → (others : ℕ)
+    → g.D.Dispatching.IsStateOf d w s → c.args.bound ≡ lb shop w
+    → ListsBelow shop w limit (g.D.Dispatching.IsCandidate d w) (conflict shop w) cs others
+    → Settles shop w c.args.bound top cs)) c.deref.ensures c.bound_children.ensures.settled
 
 pub returns-clause-known : goal.returns-clause-known
-returns-clause-known g c = IfSome_then c.bound_children.result c.bound_children.ensures.known
-    (λ top known. known c.args.branching.now.word.now c.args.branching.now.limit c.args.branching.now.closed
-    (subst (g.D.Dispatching.IsStateOf c.args.self.now.dispatcher.now c.args.branching.now.word.now)
-    (sym c.deref.ensures) c.requires.state) c.requires.listed.bound c.requires.listed.listed)
+returns-clause-known g c =
+    let d = c.args.self.now.dispatcher.now
+    in let shop = g.D.Dispatching.shop d
+    in let cs = c.args.candidates.now
+    in subst (λ s. IfSome c.bound_children.result (λ top. (w : List ℕ) → (limit : ℕ) → (others : ℕ)
+    → g.D.Dispatching.IsStateOf d w s → c.args.bound ≡ lb shop w
+    → ListsBelow shop w limit (g.D.Dispatching.IsCandidate d w) (conflict shop w) cs others
+    → All (λ x. g.D.Dispatching.KnowsChild d c.bound_children.new._scratch w x.job) cs)) c.deref.ensures
+    c.bound_children.ensures.known

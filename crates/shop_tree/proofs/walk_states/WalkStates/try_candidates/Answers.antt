@@ -1,7 +1,8 @@
-use Rattle.std.proofs.Common.{◌≡◌, ◌+◌, ◌<◌, ◌-◌, [], ◌∷◌, ◌++◌, get_or, sym, ◌∙◌, ap, subst}
+use Rattle.std.proofs.Common.{◌≡◌, All, ◌+◌, ◌<◌, ◌-◌, [], ◌∷◌, ◌++◌, get_or, sym, ◌∙◌, ap, subst}
 use Rattle.std.proofs.Common.{append-nil, arith, length}
 use Rattle.shop_model.proofs.WordLengths.{word_length}
 use Rattle.shop_bound.specs.Bound.{lb}
+use Rattle.shop_states.specs.States.{Settles}
 use Rattle.shop_tree.specs.inner.Tried.{AreSlotsFrom, HasPutChildren}
 use Rattle.shop_tree.proofs.StripLemmas.{are_slots, many, tried_kept}
 use Rattle.shop_tree.proofs.AddLemmas.{conflict_few}
@@ -12,25 +13,39 @@ use Rattle.shop_tree.proofs.walk_states.WalkStates.try_candidates.Goals as goal
 pub overflow_cast-depth : goal.overflow_cast-depth
 overflow_cast-depth g c =
     let d = c.args.self.now.dispatcher.now
-    in let a = word_length (g.D.Dispatching.shop d) c.args.branching.now.word.now
-    (g.met.D.Dispatching.state_is_within_limits d c.args.branching.now.word.now _ c.requires.state)
-    (g.met.D.Dispatching.state_is_of_word d c.args.branching.now.word.now _ c.requires.state)
+    in let a = word_length (g.D.Dispatching.shop d) c.args.word.now
+    (g.met.D.Dispatching.state_is_within_limits d c.args.word.now _ c.requires.state)
+    (g.met.D.Dispatching.state_is_of_word d c.args.word.now _ c.requires.state)
     in omega arith
+
+pub settle_candidates-requires-clause-settled : goal.settle_candidates-requires-clause-settled
+settle_candidates-requires-clause-settled g c =
+    subst (λ x. Settles (g.D.Dispatching.shop x) c.args.word.now c.args.bound c.in-Some.top c.args.candidates.now)
+    (sym c.bound_children.ensures.dispatcher)
+    (c.in-Some.ensures.settled c.args.word.now c.args.limit c.args.closed c.requires.state c.requires.bound
+    c.requires.listed)
+
+pub settle_candidates-requires-clause-known : goal.settle_candidates-requires-clause-known
+settle_candidates-requires-clause-known g c =
+    subst (λ x. All (λ k. g.D.Dispatching.KnowsChild x c.bound_children.new.self.scratch c.args.word.now k.job)
+    c.args.candidates.now) (sym c.bound_children.ensures.dispatcher)
+    (c.in-Some.ensures.known c.args.word.now c.args.limit c.args.closed c.requires.state c.requires.bound
+    c.requires.listed)
 
 pub loop-index-init : goal.loop-index-init
 loop-index-init g c =
-    let word = c.args.branching.now.word.now
+    let word = c.args.word.now
     in let same = c.bound_children.ensures.dispatcher
     in record {
       kids = [];
       stack = sym (append-nil _);
       trying = subst (λ x. IsTrying (g.D.Dispatching.IsStateOf x) (g.D.Dispatching.IsCandidate x word)
-          (g.D.Dispatching.shop x) c.args.branching.now.limit word c.args.branching.now.candidates.now (length c.args.branching.now.candidates.now) []
-          c.args.branching.now.closed c.bound_children.new.self.current.value) (sym same)
-          (trying_begins c.requires.listed.listed
+          (g.D.Dispatching.shop x) c.args.limit word c.args.candidates.now (length c.args.candidates.now) []
+          c.args.closed c.bound_children.new.self.current.value) (sym same)
+          (trying_begins c.requires.listed
           (subst (λ s. g.D.Dispatching.IsStateOf c.args.self.now.dispatcher.now word s)
           (sym c.bound_children.ensures.current) c.requires.state));
-      bound = c.requires.listed.bound ∙ ap (λ x. lb (g.D.Dispatching.shop x) word) (sym same);
+      bound = c.requires.bound ∙ ap (λ x. lb (g.D.Dispatching.shop x) word) (sym same);
       more = omega arith;
       sound = c.bound_children.ensures.sound;
       same = same;
@@ -42,13 +57,13 @@ overflow_add-others g c =
     in let now = c.loop-index.invariant
     in let a = now.trying.few
     in let some : 0 < c.loop-index.index = (let a = c.loop-index-test.true in omega arith)
-    in let limits = g.met.D.Dispatching.state_is_within_limits d c.args.branching.now.word.now _ (now.trying.wanted some)
-    in let b = conflict_few (g.D.Dispatching.shop d) c.args.branching.now.word.now in let e = limits.jobs in omega arith
+    in let limits = g.met.D.Dispatching.state_is_within_limits d c.args.word.now _ (now.trying.wanted some)
+    in let b = conflict_few (g.D.Dispatching.shop d) c.args.word.now in let e = limits.jobs in omega arith
 
 pub try_candidate-requires-clause-can : goal.try_candidate-requires-clause-can
 try_candidate-requires-clause-can g c =
     let now = c.loop-index.invariant
-    in let word = c.args.branching.now.word.now
+    in let word = c.args.word.now
     in let some : 0 < c.loop-index.index = (let a = c.loop-index-test.true in omega arith)
     in let state = now.trying.wanted some
     in record {
@@ -63,13 +78,13 @@ pub loop-index-preserved-in_default-try_candidate : goal.loop-index-preserved-in
 loop-index-preserved-in_default-try_candidate g c =
     let now = c.loop-index.invariant
     in let d = c.loop-index.self.dispatcher.now
-    in let word = c.args.branching.now.word.now
-    in let cs = c.args.branching.now.candidates.now
+    in let word = c.args.word.now
+    in let cs = c.args.candidates.now
     in let i = c.loop-index.index
     in let some : 0 < i = (let a = c.loop-index-test.true in omega arith)
     in let job = (get_or cs (i - 1) (record { job = 0; own = 0 })).job
     in let state = now.trying.wanted some
-    in let high = told_high c.args.branching.now.limit (lb (g.D.Dispatching.shop d) (word ++ job ∷ [])) c.try_candidate.result
+    in let high = told_high c.args.limit (lb (g.D.Dispatching.shop d) (word ++ job ∷ [])) c.try_candidate.result
     c.in_default-try_candidate.is (c.try_candidate.ensures.told word state (next_own some now.trying) now.bound)
     in let left = c.try_candidate.new.self.current.value
     in let same = c.try_candidate.ensures.dispatcher
@@ -77,7 +92,7 @@ loop-index-preserved-in_default-try_candidate g c =
       kids = now.kids;
       stack = now.stack;
       trying = subst (λ x. IsTrying (g.D.Dispatching.IsStateOf x) (g.D.Dispatching.IsCandidate x word)
-          (g.D.Dispatching.shop x) c.args.branching.now.limit word cs (i - 1) now.kids (c.loop-index.others + 1) left) (sym same)
+          (g.D.Dispatching.shop x) c.args.limit word cs (i - 1) now.kids (c.loop-index.others + 1) left) (sym same)
           (turn_counted some now.trying left high
           (still_wanted (g.D.Dispatching.IsStateOf d word) i c.try_candidate.ensures.current state));
       bound = now.bound ∙ ap (λ x. lb (g.D.Dispatching.shop x) word) (sym same);
@@ -100,7 +115,7 @@ put_tried-requires g c =
       slots = subst (λ x. AreSlotsFrom (g.D.Dispatching.IsSlot x) c.len-from.result stack)
           (sym c.try_candidate.ensures.dispatcher)
           (are_slots old now.kids c.len-from.result e stack now.stack (g.D.Dispatching.IsStateOf d)
-          c.args.branching.now.word.now now.trying.states (g.D.Dispatching.IsSlot d)
+          c.args.word.now now.trying.states (g.D.Dispatching.IsSlot d)
           (λ w s. g.met.D.Dispatching.state_is_slot d w s));
       from = omega arith;
     }
@@ -110,7 +125,7 @@ loop-index-preserved g c =
     let now = c.loop-index.invariant
     in let d = c.loop-index.self.dispatcher.now
     in let is = g.D.Dispatching.IsStateOf d
-    in let word = c.args.branching.now.word.now
+    in let word = c.args.word.now
     in let i = c.loop-index.index
     in let some : 0 < i = (let a = c.loop-index-test.true in omega arith)
     in let state = now.trying.wanted some
@@ -127,7 +142,7 @@ loop-index-preserved g c =
       kids = kept.kids;
       stack = kept.stack;
       trying = subst (λ x. IsTrying (g.D.Dispatching.IsStateOf x) (g.D.Dispatching.IsCandidate x word)
-          (g.D.Dispatching.shop x) c.args.branching.now.limit word c.args.branching.now.candidates.now (i - 1) kept.kids
+          (g.D.Dispatching.shop x) c.args.limit word c.args.candidates.now (i - 1) kept.kids
           c.loop-index.others left) (sym same) kept.trying;
       bound = now.bound ∙ ap (λ x. lb (g.D.Dispatching.shop x) word) (sym same);
       more = now.more;
@@ -137,11 +152,11 @@ loop-index-preserved g c =
 
 pub returns-clause-children : goal.returns-clause-children
 returns-clause-children g c =
-    let word = c.args.branching.now.word.now
+    let word = c.args.word.now
     in let old = c.args.stack.now.items
     in let new = c.loop-index.stack.items
     in let now = c.loop-index.invariant
-    in subst (λ x. HasPutChildren (g.D.Dispatching.IsStateOf x) (g.D.Dispatching.shop x) c.args.branching.now.limit word old new
+    in subst (λ x. HasPutChildren (g.D.Dispatching.IsStateOf x) (g.D.Dispatching.shop x) c.args.limit word old new
     c.loop-index.others) now.same
     (all_tried c.loop-index.index now.kids c.loop-index.others c.loop-index.self.current.value old new
     (let a = c.loop-index-test.false in omega arith) now.stack now.trying)
