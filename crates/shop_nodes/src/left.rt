@@ -73,8 +73,9 @@ impl<'r> Left<'r> {
         }
     }
 
-    /// Answers the makespan, the halt, if the walk halted, and the nodes that weren't taken. What waits at the halt, the
-    /// last entry first, and then these nodes are the open ones where their bounds are below the makespan.
+    /// Answers the makespan, where the walk halted (`None` if it didn't), and the nodes that weren't taken. The open
+    /// nodes are the children that wait there, the last entry first, and then these nodes, as far as their bounds are
+    /// below the makespan.
     pub fn parts(&self) -> (u64, &Option<Halt>, &[Node])
         ensures open { open_nodes self.now.shop self.now.makespan self.now.words
             ≡ nodes_below result.0 (halted_nodes result.1.now ++ result.2.now) }

@@ -76,8 +76,8 @@ impl OpenNodes {
         }
     }
 
-    /// Puts `nodes` whose bounds are below `limit` into the store, from the last to the first. Their words share the jobs
-    /// of those in `nodes`, or copy them if they aren't shared. Fails with `NoMemory` if memory runs out.
+    /// Puts those of `nodes` whose bounds are below `limit` into the store, from the last to the first. Jobs that are
+    /// shared stay shared; others are copied. Fails with `NoMemory` if memory runs out.
     pub(crate) fn put_nodes(
         &mut self,
         alloc: Global,
@@ -98,7 +98,7 @@ impl OpenNodes {
         Ok(())
     }
 
-    /// Puts the node of `waiting` into the store if it is an open child with a bound below `limit`; its word begins with
+    /// Puts the node of `waiting` into the store if it is an open child with a bound below `limit`. Its word shares the
     /// jobs of `path`. Fails with `NoMemory` if memory runs out.
     #[inline(always)]
     fn put_if_open(
@@ -135,8 +135,8 @@ impl OpenNodes {
         Ok(())
     }
 
-    /// Puts the nodes that a search left open and whose bounds are below `makespan` into the store, from the last to the
-    /// first. Fails with `NoMemory` if memory runs out.
+    /// Puts the nodes that a search left open and whose bounds are below `makespan` into the store, from the last one
+    /// to the first. Fails with `NoMemory` if memory runs out.
     fn put_open(&mut self, alloc: Global, makespan: u64, left: &Left) -> Result<(), NoMemory>
         ensures { OnOk result (ArePut (nodes_below makespan (open_of left.now)) self.old self.new) }
     {
@@ -149,8 +149,8 @@ impl OpenNodes {
         }
     }
 
-    /// Puts each node that searches left open and whose bound is below `makespan` into the store, from the end of `left`
-    /// to its start. Fails with `NoMemory` if memory runs out.
+    /// Puts each node that searches left open and whose bound is below `makespan` into the store, from the end of
+    /// `left` to its start. Fails with `NoMemory` if memory runs out.
     pub(crate) fn put_left(
         &mut self,
         alloc: Global,
@@ -177,8 +177,8 @@ impl OpenNodes {
         }
     }
 
-    /// Answers for how many nodes `take` makes room at first: at most `most`. `Bound` doesn't count its nodes, and goes by
-    /// `guess`.
+    /// Answers for how many nodes `take` makes room at first: at most `most`. By bound, where nodes aren't counted,
+    /// that is at most `guess`.
     fn room_for(&self, most: usize, guess: usize) -> usize
         ensures { result ≤ most }
     {
@@ -188,8 +188,8 @@ impl OpenNodes {
         }
     }
 
-    /// Takes the first `most` nodes, or all if fewer are open. `guess` says how many these may be, for the room that they
-    /// are given. Fails with `NoMemory` if memory runs out.
+    /// Takes the first `most` nodes, or all if fewer are open. `guess` tells for how many to make room where nodes
+    /// aren't counted. Fails with `NoMemory` if memory runs out.
     pub(crate) fn take(
         &mut self,
         alloc: Global,

@@ -106,8 +106,8 @@ impl<'r> Round<'r> {
         Ok(round)
     }
 
-    /// Makes the round of `front` without a rest. Its pieces take over the lists of those in `spare`, as far as there are
-    /// some. Fails with `NoMemory` if memory runs out.
+    /// Makes the round of `front` without a rest. Its pieces take over the lists of the pieces in `spare`. Fails with
+    /// `NoMemory` if memory runs out.
     pub(crate) fn of_front(
         alloc: Global,
         instance: &'r Instance,

@@ -3,7 +3,7 @@
 --     child_nodes word x          the open child that an entry stands for; none for closed ones
 --     stack_nodes word stack      the open children of all entries, the last entry first
 --     halted_nodes h              those of what waited where a walk halted, if anything did
---     IsWithin word x             the word of an open child goes no further than this word and a job
+--     IsWithin word x             an open child takes over at most all jobs of this word
 --     AreWithin word stack        so do those of all entries
 --     IsHaltWithin h              and those of what waited where a walk halted
 --     AreSharable nodes           the words of the nodes can share their jobs

@@ -19,7 +19,8 @@ loop-left-preserved-in_ok-put c =
     in let within = now.within
     in let one : c.loop-left.left ≡ k + 1 = omega arith
     in let more : take c.loop-left.left ns ≡ take k ns ++ n ∷ [] =
-    ap (λ m. take m ns) one ∙ (take_more ns k n (omega arith) ∙ ap (λ m. take k ns ++ m ∷ []) (sym c.index-nodes-left.is))
+    ap (λ m. take m ns) one
+    ∙ (take_more ns k n (omega arith) ∙ ap (λ m. take k ns ++ m ∷ []) (sym c.index-nodes-left.is))
     in let low : n.bound < limit = c.if-node-limit.true
     in let put = c.in_ok-put.ensures
     in let here : open_list c.put.new.self ≡ put_before order n nodes =

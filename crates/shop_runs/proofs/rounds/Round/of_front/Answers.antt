@@ -18,7 +18,8 @@ invariant_of-result c =
     in record {
       layout_of = c.requires.layout;
       numbered = c.in_ok-pieces.ensures.numbers;
-      nodes_of_pieces = made_pieces shop plan c.args.front c.args.bound ps c.new-rest.result.items c.requires.standing cut;
+      nodes_of_pieces = made_pieces shop plan c.args.front c.args.bound ps c.new-rest.result.items
+          c.requires.standing cut;
       nodes_of_rest = subst (AreNodes shop) (sym none) (λ k d h. absurd (omega arith));
       few_pieces = made_few shop plan c.args.front c.args.bound ps c.new-rest.result.items c.requires.standing cut;
       small_budget = within.2;
