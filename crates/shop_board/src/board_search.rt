@@ -12,7 +12,8 @@ use crate::waiting::map_waiting;
 use shop_round::PieceSearcher;
 use shop_runs::{Entry, PieceSearch, Round};
 use shop_workers::{
-    Board, Lent, Returned, Seat, SeatGate, claim_and_search_all, complete_returned, seats_for_workers,
+    Board, Lent, Returned, Seat, SeatGate, claim_and_search_all, complete_returned,
+    seats_for_workers,
 };
 use std::alloc::{AllocError as NoMemory, Global};
 use std::thread::Threads;

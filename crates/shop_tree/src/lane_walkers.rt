@@ -1,6 +1,5 @@
 // A walk in lanes of 16, 32 or 64 bits.
 ghost use Rattle.std.specs.Prelude.{◌≡◌, ◌<◌, ◌^◌, IfOk, OnOk};
-ghost use Rattle.shop_model.specs.Shop.{Shop};
 ghost use Rattle.shop_nodes.specs.Nodes.{AreNodes};
 ghost use Rattle.shop_tree.specs.Searches.{Searches};
 

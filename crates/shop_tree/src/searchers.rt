@@ -1,6 +1,5 @@
 // The search of a piece, in lanes of the width of its layout.
-ghost use Rattle.std.specs.Prelude.{◌≡◌, ◌≤◌, ◌<◌, ◌^◌, IfOk, IfSome};
-ghost use Rattle.std.specs.Global.{Box};
+ghost use Rattle.std.specs.Prelude.{◌≡◌, ◌≤◌, ◌<◌, ◌^◌, IfOk};
 ghost use Rattle.shop_nodes.specs.Nodes.{AreNodes};
 ghost use Rattle.shop_tree.specs.Searches.{Searches};
 
