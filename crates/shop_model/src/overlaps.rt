@@ -15,12 +15,7 @@ use crate::tables::Table;
 
 /// Finds the first operation after step `k` of job `j`, by job and step, that overlaps with it; `None` if there is
 /// none.
-fn first_overlap_with(
-    instance: &Instance,
-    table: &Table,
-    j: usize,
-    k: usize,
-) -> Option<OperationId>
+fn first_overlap_with(instance: &Instance, table: &Table, j: usize, k: usize) -> Option<OperationId>
     requires shape { HasShape instance.now table.now }
     requires operation { IsOperation instance.now j k }
     ensures { TellsFirstAfter instance.now (starts_of table.now) j k result }
