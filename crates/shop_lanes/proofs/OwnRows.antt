@@ -43,7 +43,7 @@ own_in_blocks hs ts qs from to q a b le lt =
 module _ {A : Type 0} (f : A → ℕ) {rows cut : LaneRows A} {from to : ℕ} (are : AreCutFrom rows from to cut)
     {heads times tails : List ℕ} (heads_are : map f rows.heads.now ≡ heads) (times_are : map f rows.times.now ≡ times)
     (tails_are : map f rows.tails.now ≡ tails) (of : AreBlocksOf heads times tails from to) where
-  pub owns_of_cut : (owns : List A) → AreOwnSpansOf f cut.heads.now cut.times.now cut.tails.now owns
+  pub owns_of_cut : (owns : List A) → AreOwnSpansOf f cut owns
       → AreOwnSpans heads times tails from to (map f owns)
   owns_of_cut owns h q low high waits =
       let i = q - 8 * from

@@ -9,7 +9,7 @@
 --     lanes_of heads times tails     the lanes of blocks of three rows, in order of rank
 --     lanes_by value heads ..        the lanes of three rows of whole blocks, in order of rank, where
 --                                    `value` reads an element as a number
---     lanes_in value rows            the same of rows that stand together
+--     lanes_in value rows            `lanes_by` of the heads, times and tails of a `LaneRows`
 --     with_head, with_end            rows with one head, or one end, replaced
 use Rattle.std.specs.Prelude.{◌≡◌, ℕ, zero, suc, ◌+◌, ◌*◌, ◌-◌, ◌/◌, ◌%◌, ◌≤◌, List, [], ◌∷◌, ◌++◌}
 use Rattle.std.specs.Prelude.{length, map, take, drop, slice_set}

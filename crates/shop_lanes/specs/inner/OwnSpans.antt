@@ -56,11 +56,11 @@ own_span_at count heads times tails p =
     let end = slice_index heads p + slice_index times p
     in max end (span 1 end (by_columns count (lanes (slice_set heads p 0) times tails)))
 
-abbrev pub AreOwnSpansOf : {A : Type 0} → (A → ℕ) → List A → List A → List A → List A → Type 0
-AreOwnSpansOf value heads times tails owns =
-    (p : ℕ) → p < length heads → 0 < slice_index (map value heads) p
-    → slice_index (map value owns) p
-    ≡ own_span_at (length heads / 8) (map value heads) (map value times) (map value tails) p
+abbrev pub AreOwnSpansOf : {A : Type 0} → (A → ℕ) → LaneRows A → List A → Type 0
+AreOwnSpansOf value rows owns =
+    let row = map value
+    in (p : ℕ) → p < length rows.heads.now → 0 < slice_index (row rows.heads.now) p → slice_index (row owns) p
+    ≡ own_span_at (length rows.heads.now / 8) (row rows.heads.now) (row rows.times.now) (row rows.tails.now) p
 
 pub record CanOwn {A : Type 0} (value : A → ℕ) (greatest : ℕ) (rows : LaneRows A) (owns : List A) : Type 0 where
   pub whole_blocks : length rows.heads.now % 8 ≡ 0
@@ -69,4 +69,4 @@ pub record CanOwn {A : Type 0} (value : A → ℕ) (greatest : ℕ) (rows : Lane
 
 pub record WritesOwnSpans {A : Type 0} (value : A → ℕ) (rows : LaneRows A) (old new : List A) : Type 0 where
   pub long : length new ≡ length old
-  pub owns : AreOwnSpansOf value rows.heads.now rows.times.now rows.tails.now new
+  pub owns : AreOwnSpansOf value rows new

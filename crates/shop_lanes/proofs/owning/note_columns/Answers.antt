@@ -7,7 +7,8 @@ serve-after-requires-clause-fits g c =
     let cols = columns_in g.B.Block.value c.args.rows.now c.args.count c.requires.count
     c.requires.can.whole_blocks
     in let fit = both_fit cols (parts cols) 1 c.loop-block-test.true c.load.ensures c.load-in-loop-block.ensures
-    c.load-in-loop-block-2.ensures c.splat-one.ensures c.loop-block.invariant.served g.B.Block.GREATEST c.requires.can.fits.whole
+    c.load-in-loop-block-2.ensures c.splat-one.ensures c.loop-block.invariant.served g.B.Block.GREATEST
+    c.requires.can.fits.whole
     in record { clocks_fit = fit.0; ends_fit = fit.1 }
 
 pub loop-block-preserved : goal.loop-block-preserved

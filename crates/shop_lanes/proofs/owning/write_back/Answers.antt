@@ -18,7 +18,8 @@ greater-first-requires g c =
     c.requires.can.whole_blocks
     in ap length c.requires.ends.before ∙ sym (begun_long cols c.requires.can.fits (c.loop-block.block - 1)
     (omega (arith, c.loop-block-test.true)) c.loop-block.invariant c.load-head.ensures c.load-time.ensures
-    c.load-tail.ensures c.load-noted.ensures c.splat-one.ensures c.requires.ends.begins c.requires.ends.before c.sum.ensures)
+    c.load-tail.ensures c.load-noted.ensures c.splat-one.ensures c.requires.ends.begins c.requires.ends.before
+    c.sum.ensures)
 
 pub own_ends-requires-clause-begins : goal.own_ends-requires-clause-begins
 own_ends-requires-clause-begins g c =
@@ -69,7 +70,8 @@ pub less-clocks-requires : goal.less-clocks-requires
 less-clocks-requires g c =
     let cols = columns_in g.B.Block.value c.args.rows.now c.args.count c.requires.count
     c.requires.can.whole_blocks
-    in ap length c.loop-block.invariant.clocks_are ∙ sym (ap length (served_eight cols c.requires.can.fits (c.loop-block.block - 1)
+    in ap length c.loop-block.invariant.clocks_are ∙ sym (ap length
+    (served_eight cols c.requires.can.fits (c.loop-block.block - 1)
     (omega (arith, c.loop-block-test.true)) c.loop-block.invariant c.load-head.ensures c.load-time.ensures
     c.load-tail.ensures c.load-noted.ensures c.splat-one.ensures c.requires.ends.begins c.requires.ends.before
     c.sum.ensures c.greater-first.ensures
@@ -83,7 +85,8 @@ loop-block-preserved g c =
     (omega (arith, c.loop-block-test.true)) c.loop-block.invariant c.load-head.ensures c.load-time.ensures
     c.load-tail.ensures c.load-noted.ensures c.splat-one.ensures c.requires.ends.begins c.requires.ends.before
     c.sum.ensures c.greater-first.ensures
-    c.own_ends.ensures c.waiting.ensures c.sum-late.ensures c.waiting-in-loop-block.ensures c.store.ensures c.greater-behind.ensures
+    c.own_ends.ensures c.waiting.ensures c.sum-late.ensures c.waiting-in-loop-block.ensures c.store.ensures
+    c.greater-behind.ensures
     c.less-clocks.ensures
 
 pub own_ends-requires-clause-before : goal.own_ends-requires-clause-before
