@@ -1,14 +1,14 @@
 -- The least and the greatest of lanes are the same in any order.
 use Rattle.std.proofs.Common.{◌≡◌, ℕ, zero, suc, ◌*◌, ◌/◌, ◌%◌, ◌<◌, ◌≤◌, List, [], ◌∷◌, length, map}
-use Rattle.std.proofs.Common.{◌+◌, ap, get_or, min, ◌∙◌, arith}
+use Rattle.std.proofs.Common.{◌+◌, ap, get_or, min, sym, ◌∙◌, arith}
 use Rattle.std.specs.List.{All}
 use Rattle.std.proofs.lemmas.List.{length-map}
 use Rattle.shop_lanes.specs.Eights.{ahead_of, later_head}
 use Rattle.shop_lanes.specs.Folds.{least_up_to}
-use Rattle.shop_lanes.specs.Rows.{Lane, lanes, by_columns}
+use Rattle.shop_lanes.specs.Rows.{Lane, lanes, by_columns, lanes_in}
+use Rattle.shop_lanes.specs.declared.lane_rows.LaneRows.{LaneRows}
 use Rattle.shop_lanes.specs.Spans.{greatest_by}
 use Rattle.shop_lanes.specs.inner.LaterHeads.{least_later}
-use Rattle.shop_lanes.specs.inner.Passes.{lanes_by}
 use Rattle.shop_lanes.proofs.Columns.{All-by_columns, All-by_places}
 use Rattle.shop_lanes.proofs.LaneLists.{length-lanes}
 use Rattle.shop_lanes.proofs.LaterTurns.{nearest_is_least}
@@ -62,30 +62,36 @@ module _ (count : ℕ) (xs : List Lane) (whole : length xs ≡ 8 * count) where
       (λ k d lt. least_each top from ranked k d lt))
       in omega (arith, a, b)
 
-module _ {A : Type 0} (f : A → ℕ) (heads times tails : List A) (count : ℕ) (e : length heads ≡ count)
-    (whole : count % 8 ≡ 0) (a : length times ≡ length heads) (b : length tails ≡ length heads) where
+module _ {A : Type 0} (f : A → ℕ) (rows : LaneRows A) (whole : length rows.heads.now % 8 ≡ 0) where
   abbrev raw : List Lane
-  raw = lanes (map f heads) (map f times) (map f tails)
+  raw = lanes (map f rows.heads.now) (map f rows.times.now) (map f rows.tails.now)
 
-  raw_long : length raw ≡ length heads
-  raw_long = grind (arith, length-lanes, as_long, length-map)
+  raw_long : length raw ≡ length rows.heads.now
+  raw_long =
+      length-lanes (map f rows.heads.now) (map f rows.times.now) (map f rows.tails.now)
+      (as_long f rows.times.now rows.heads.now rows.times_are_as_many)
+      (as_long f rows.tails.now rows.heads.now rows.tails_are_as_many)
+      ∙ length-map rows.heads.now f
 
-  raw_whole : length raw ≡ 8 * (length heads / 8)
-  raw_whole = raw_long ∙ omega (arith, e, whole)
+  raw_whole : length raw ≡ 8 * (length rows.heads.now / 8)
+  raw_whole = raw_long ∙ omega (arith, whole)
 
-  pub least_of_rows : (top from : ℕ)
-      → least_later top from (map f heads) ≡ least_head top from (lanes_by f heads times tails)
-  least_of_rows top from = grind (arith, least_head_is, as_long, least-by_columns, raw_whole)
+  least_in : (top from : ℕ) → least_later top from (map f rows.heads.now) ≡ least_head top from (lanes_in f rows)
+  least_in top from =
+      least_head_is top from (map f rows.heads.now) (map f rows.times.now) (map f rows.tails.now)
+      (as_long f rows.times.now rows.heads.now rows.times_are_as_many)
+      (as_long f rows.tails.now rows.heads.now rows.tails_are_as_many)
+      ∙ sym (least-by_columns (length rows.heads.now / 8) raw raw_whole top from)
 
-  pub nearest_of_rows : (top from ahead : ℕ) → from ≤ top
-      → ahead ≡ least_up_to top (map (ahead_of top from) (map f heads))
-      → min (from + ahead) top ≡ least_head top from (lanes_by f heads times tails)
-  nearest_of_rows top from ahead le is = ap (λ (n : ℕ). min (from + n) top) is
-      ∙ nearest_is_least top from (map f heads) le ∙ least_of_rows top from
+  pub nearest_in : (top from ahead : ℕ) → from ≤ top
+      → ahead ≡ least_up_to top (map (ahead_of top from) (map f rows.heads.now))
+      → min (from + ahead) top ≡ least_head top from (lanes_in f rows)
+  nearest_in top from ahead le is = ap (λ (n : ℕ). min (from + n) top) is
+      ∙ nearest_is_least top from (map f rows.heads.now) le ∙ least_in top from
 
   -- where it isn't past some number below the greatest one, the nearest head ahead is the least
   pub next_head : (top from ahead upto : ℕ) → upto < top
-      → ahead ≡ least_up_to top (map (ahead_of top from) (map f heads)) → from + ahead ≤ upto
-      → from + ahead ≡ least_head top from (lanes_by f heads times tails)
+      → ahead ≡ least_up_to top (map (ahead_of top from) (map f rows.heads.now)) → from + ahead ≤ upto
+      → from + ahead ≡ least_head top from (lanes_in f rows)
   next_head top from ahead upto below is under =
-      let near = nearest_of_rows top from ahead (omega arith) is in omega arith
+      let near = nearest_in top from ahead (omega arith) is in omega arith

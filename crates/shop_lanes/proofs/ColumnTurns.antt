@@ -7,9 +7,10 @@ use Rattle.std.proofs.lemmas.Simd.{get_or-chunk}
 use lib.Lanes.{zip2}
 use Rattle.shop_lanes.specs.Eights.{added, waiting, AddsFit}
 use Rattle.shop_lanes.proofs.Eights.{on_eight, same_eight}
-use Rattle.shop_lanes.specs.Rows.{Lane, lanes, by_columns}
+use Rattle.shop_lanes.specs.Rows.{Lane, lanes, by_columns, lanes_in}
+use Rattle.shop_lanes.specs.declared.lane_rows.LaneRows.{LaneRows}
 use Rattle.shop_lanes.specs.Spans.{span, greatest_by, FitsSpan}
-use Rattle.shop_lanes.specs.inner.Passes.{clock_after, eight, lanes_by}
+use Rattle.shop_lanes.specs.inner.Passes.{clock_after, eight}
 use Rattle.shop_lanes.proofs.BlockMasks.{length-block}
 use Rattle.shop_lanes.proofs.Columns.{rank_below, length-by_columns, by_columns-at, place_of_rank}
 use Rattle.shop_lanes.proofs.LaneLists.{lane_at, length-lanes, get_or-lanes}
@@ -85,13 +86,15 @@ columns_of count hs ts qs whole a b =
     }
 
 -- of rows of some width
-pub columns_by : {A : Type 0} (f : A → ℕ) (heads times tails : List A) (count : ℕ) → length heads ≡ count
-    → count % 8 ≡ 0 → length times ≡ length heads → length tails ≡ length heads
-    → AreColumnsOf (count / 8) (map f heads) (map f times) (map f tails) (lanes_by f heads times tails)
-columns_by f heads times tails count e whole a b =
-    subst (λ n. AreColumnsOf (n / 8) (map f heads) (map f times) (map f tails) (lanes_by f heads times tails)) e
+pub columns_in : {A : Type 0} (f : A → ℕ) (rows : LaneRows A) (count : ℕ) → length rows.heads.now ≡ count
+    → length rows.heads.now % 8 ≡ 0
+    → AreColumnsOf (count / 8) (map f rows.heads.now) (map f rows.times.now) (map f rows.tails.now) (lanes_in f rows)
+columns_in f rows count e whole =
+    let heads = rows.heads.now in let times = rows.times.now in let tails = rows.tails.now
+    in subst (λ n. AreColumnsOf (n / 8) (map f heads) (map f times) (map f tails) (lanes_in f rows)) e
     (columns_of (length heads / 8) (map f heads) (map f times) (map f tails)
-    (length-map heads f ∙ omega (arith, e, whole)) (as_long f times heads a) (as_long f tails heads b))
+    (length-map heads f ∙ omega (arith, whole)) (as_long f times heads rows.times_are_as_many)
+    (as_long f tails heads rows.tails_are_as_many))
 
 -- the first j lanes of column k, and all lanes up to there
 abbrev pub part_of : ℕ → List Lane → ℕ → ℕ → List Lane

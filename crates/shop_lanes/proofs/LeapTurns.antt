@@ -1,5 +1,5 @@
 -- Spans from heads on, and how far one load settles them.
-use Rattle.std.proofs.Common.{◌≡◌, ℕ, ◌+◌, ◌-◌, ◌<◌, ◌≤◌, min, max, true, false, leb, ltb, ◌&&◌, List, []}
+use Rattle.std.proofs.Common.{◌≡◌, ℕ, ◌+◌, ◌-◌, ◌<◌, ◌≤◌, min, max, true, leb, ltb, ◌&&◌, List, []}
 use Rattle.std.proofs.Common.{◌∷◌}
 use Rattle.std.proofs.Common.{length, refl, ap, sym, ◌∙◌, arith, inl, inr}
 use Rattle.std.proofs.lemmas.Bool.Decides.{nat_tests}
@@ -9,9 +9,6 @@ use Rattle.shop_lanes.specs.Spans.{span, spans_from, spans_between, FitsSpan, Is
 use Rattle.shop_lanes.specs.Eights.{later_head}
 use Rattle.shop_lanes.specs.inner.LaterHeads.{least_later}
 use Rattle.shop_lanes.proofs.Loads.{span_from_start, load_le, work_le}
-
-true_false : true ≡ false → ⊥
-true_false e = cc
 
 -- fewer lanes that begin earlier end no later
 pub span_falls : (lower upper s t : ℕ) (xs : List Lane) → lower ≤ upper → s ≤ t → span upper s xs ≤ span lower t xs

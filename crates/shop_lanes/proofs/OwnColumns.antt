@@ -281,7 +281,8 @@ module _ {count : ℕ} {hs ts qs : List ℕ} {rows : List Lane} (cols : AreColum
         begins_fit =
             subst (λ l. AddsFit limit l times) (sym heads_eight)
             (subst (AddsFit limit (eight (λ k. get_or hs (8 * j + k) 0))) (sym times_eight)
-            (eight_fit limit (λ k. get_or hs (8 * j + k) 0) (λ k. get_or ts (8 * j + k) 0) (λ k lt. (here_fits k lt).0)))
+            (eight_fit limit (λ k. get_or hs (8 * j + k) 0) (λ k. get_or ts (8 * j + k) 0)
+            (λ k lt. (here_fits k lt).0)))
 
         own_rest : zip2 max first (lessened behind times)
             ≡ eight (λ k. max (get_or first k 0) (get_or behind k 0 - get_or ts (8 * j + k) 0))
@@ -314,13 +315,15 @@ module _ {count : ℕ} {hs ts qs : List ℕ} {rows : List Lane} (cols : AreColum
         abbrev served_tails : List ℕ
         served_tails = waiting (get_or one 0 0) heads tails
 
-        served_tails_eight : served_tails ≡ eight (λ k. cond (leb 1 (get_or hs (8 * j + k) 0)) (get_or qs (8 * j + k) 0) 0)
+        served_tails_eight : served_tails
+            ≡ eight (λ k. cond (leb 1 (get_or hs (8 * j + k) 0)) (get_or qs (8 * j + k) 0) 0)
         served_tails_eight = grind (arith, one_at, heads_eight, tails_eight)
 
         pub tails_fit : {waits : List ℕ} → waits ≡ served_tails → AddsFit limit clocks waits
         tails_fit waits_are =
             subst (AddsFit limit clocks) (sym waits_are) (subst (λ l. AddsFit limit l served_tails) (sym clocks_eight)
-            (subst (AddsFit limit (eight (λ k. clock_after 1 0 (front_of count rows k (suc j))))) (sym served_tails_eight)
+            (subst (AddsFit limit (eight (λ k. clock_after 1 0 (front_of count rows k (suc j)))))
+            (sym served_tails_eight)
             (eight_fit limit (λ k. clock_after 1 0 (front_of count rows k (suc j)))
             (λ k. cond (leb 1 (get_or hs (8 * j + k) 0)) (get_or qs (8 * j + k) 0) 0)
             (λ k lt.
@@ -382,7 +385,8 @@ module _ {count : ℕ} {hs ts qs : List ℕ} {rows : List Lane} (cols : AreColum
               in let number : get_or more k 0 ≡ max (get_or behind k 0) (clock_after 1 0 (take (suc r) rows)
               + cond (leb 1 (get_or hs (8 * j + k) 0)) (get_or qs (8 * j + k) 0) 0) =
               ap (λ l. get_or l k 0) more_is
-              ∙ get_or-zip2 max behind late k 0 0 0 (omega (arith, lt, so_far.behind_long)) (omega (arith, lt, late_long))
+              ∙ get_or-zip2 max behind late k 0 0 0 (omega (arith, lt, so_far.behind_long))
+              (omega (arith, lt, late_long))
               ∙ ap (λ l. max (get_or behind k 0) (get_or l k 0)) (late_eight waits_are late_is)
               ∙ ap (max (get_or behind k 0)) (in_eight (λ i. clock_after 1 0 (front_of count rows i (suc j))
               + cond (leb 1 (get_or hs (8 * j + i) 0)) (get_or qs (8 * j + i) 0) 0) k lt)

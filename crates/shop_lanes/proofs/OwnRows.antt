@@ -1,14 +1,14 @@
 -- Own spans in blocks that were sliced out of rows are those of the rows.
-use Rattle.std.proofs.Common.{◌≡◌, ℕ, zero, suc, ◌+◌, ◌-◌, ◌*◌, ◌/◌, ◌<◌, ◌≤◌, List, [], ◌∷◌, length, map, take}
+use Rattle.std.proofs.Common.{◌≡◌, ℕ, zero, suc, ◌+◌, ◌-◌, ◌*◌, ◌<◌, ◌≤◌, List, [], ◌∷◌, length, map, take}
 use Rattle.std.proofs.Common.{drop, set, get_or, refl, ap, sym, ◌∙◌, arith, length-set}
-use Rattle.std.proofs.lemmas.List.{length-map}
 use Rattle.std.proofs.lemmas.Simd.{get_or-chunk}
-use Rattle.shop_lanes.specs.Rows.{lanes, blocks}
+use Rattle.shop_lanes.specs.Rows.{AreBlocksOf, AreCutFrom, lanes, blocks}
+use Rattle.shop_lanes.specs.declared.lane_rows.LaneRows.{LaneRows}
 use Rattle.shop_lanes.specs.Spans.{own_span, AreOwnSpans}
 use Rattle.shop_lanes.specs.inner.OwnSpans.{own_span_at, AreOwnSpansOf}
-use Rattle.shop_lanes.proofs.LaneLists.{lanes-blocks, length-blocks}
+use Rattle.shop_lanes.proofs.LaneLists.{lanes-blocks}
 use Rattle.shop_lanes.proofs.Padding.{take-set}
-use Rattle.shop_lanes.proofs.RowValues.{values_of_blocks}
+use Rattle.shop_lanes.proofs.RowValues.{count_cut, heads_cut, long_cut, tails_cut, times_cut}
 
 drop-set : (k i x : ℕ) (xs : List ℕ) → drop k (set xs (k + i) x) ≡ set (drop k xs) i x
 drop-set zero i x xs = grind arith
@@ -40,25 +40,22 @@ own_in_blocks hs ts qs from to q a b le lt =
     omega (arith, head, time)
     in grind (arith, i, at, inside, time, out, many, whole, end)
 
-module _ {A : Type 0} (f : A → ℕ) {heads times tails : List A} (hs ts qs : List A) (from to : ℕ) (eh : hs ≡ heads)
-    (et : ts ≡ times) (eq : qs ≡ tails) where
-  abbrev slice : List A → List A
-  slice xs = take (8 * to - 8 * from) (drop (8 * from) xs)
-
-  pub owns_of_rows : length (map f times) ≡ length (map f heads) → length (map f tails) ≡ length (map f heads)
-      → 8 * to ≤ length (map f heads) → (owns : List A) → AreOwnSpansOf f (slice hs) (slice ts) (slice qs) owns
-      → AreOwnSpans (map f heads) (map f times) (map f tails) from to (map f owns)
-  owns_of_rows a b room owns h q low high waits =
+module _ {A : Type 0} (f : A → ℕ) {rows cut : LaneRows A} {from to : ℕ} (are : AreCutFrom rows from to cut)
+    {heads times tails : List ℕ} (heads_are : map f rows.heads.now ≡ heads) (times_are : map f rows.times.now ≡ times)
+    (tails_are : map f rows.tails.now ≡ tails) (of : AreBlocksOf heads times tails from to) where
+  pub owns_of_cut : (owns : List A) → AreOwnSpansOf f cut owns
+      → AreOwnSpans heads times tails from to (map f owns)
+  owns_of_cut owns h q low high waits =
       let i = q - 8 * from
-      in let h_is = values_of_blocks f hs heads from to eh
-      in let t_is = values_of_blocks f ts times from to et
-      in let q_is = values_of_blocks f qs tails from to eq
+      in let h_is = heads_cut f are heads_are times_are tails_are of
+      in let t_is = times_cut f are heads_are times_are tails_are of
+      in let q_is = tails_cut f are heads_are times_are tails_are of
+      in let many = long_cut f are heads_are times_are tails_are of
+      in let count = count_cut f are heads_are times_are tails_are of
       in let whole : 8 * from + i ≡ q = omega arith
-      in let many : length (slice hs) ≡ 8 * to - 8 * from =
-      sym (length-map (slice hs) f) ∙ ap length h_is ∙ length-blocks from to (map f heads) room
-      in let head : get_or (map f (slice hs)) i 0 ≡ get_or (map f heads) q 0 =
+      in let head : get_or (map f cut.heads.now) i 0 ≡ get_or heads q 0 =
       ap (λ l. get_or l i 0) h_is
-      ∙ get_or-chunk (8 * from) (8 * to - 8 * from) (map f heads) i 0 (omega arith)
-      ∙ ap (λ k. get_or (map f heads) k 0) whole
-      in let count : length (slice hs) / 8 ≡ to - from = omega (arith, many)
-      in grind (arith, i, h_is, t_is, q_is, whole, many, count, own_in_blocks)
+      ∙ get_or-chunk (8 * from) (8 * to - 8 * from) heads i 0 (omega arith)
+      ∙ ap (λ k. get_or heads k 0) whole
+      in let as_many = of.times_are_as_many in let tails_as_many = of.tails_are_as_many
+      in grind (arith, i, h_is, t_is, q_is, whole, many, count, as_many, tails_as_many, own_in_blocks)

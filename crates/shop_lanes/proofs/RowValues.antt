@@ -1,11 +1,9 @@
 -- Rows of numbers of some width, seen as numbers.
-use Rattle.std.proofs.Common.{◌≡◌, ℕ, ◌-◌, ◌*◌, ◌++◌, List, length, map, take, drop, sym, ◌∙◌, arith}
-use Rattle.std.proofs.lemmas.List.{length-map, length-take}
-use Rattle.std.proofs.lemmas.List.{take-map, drop-map}
+use Rattle.std.proofs.Common.{◌≡◌, ℕ, ◌-◌, ◌*◌, ◌/◌, ◌++◌, List, length, map, take, sym, ap, ◌∙◌, arith}
+use Rattle.std.proofs.lemmas.List.{length-map, take-map, drop-map}
 use Rattle.std.proofs.Math.Seq.{take-append_seam}
-use Rattle.std.proofs.Common.{length-drop}
-use Rattle.shop_lanes.specs.Rows.{blocks, lanes_of, AreBlocksOf}
-use Rattle.shop_lanes.specs.inner.Passes.{lanes_by}
+use Rattle.shop_lanes.specs.Rows.{AreBlocksOf, AreCutFrom, Lane, blocks, by_columns, lanes_in, lanes_of}
+use Rattle.shop_lanes.specs.declared.lane_rows.LaneRows.{LaneRows}
 use Rattle.shop_lanes.proofs.LaneLists.{lanes-blocks, length-blocks}
 
 module _ {A : Type 0} (f : A → ℕ) where
@@ -13,34 +11,34 @@ module _ {A : Type 0} (f : A → ℕ) where
   as_long xs ys e = length-map xs f ∙ e ∙ sym (length-map ys f)
 
   -- the values of blocks that were sliced out of a row
-  pub values_of_blocks : (xs row : List A) (from to : ℕ) → xs ≡ row
-      → map f (take (8 * to - 8 * from) (drop (8 * from) xs)) ≡ blocks from to (map f row)
-  values_of_blocks xs row from to e = grind (arith, drop-map, take-map)
-
-  pub as_short : (xs ys : List A) → length (map f xs) ≡ length (map f ys) → length xs ≡ length ys
-  as_short xs ys e = sym (length-map xs f) ∙ e ∙ length-map ys f
-
-  -- the lanes of blocks that were sliced out of rows
-  pub lanes_of_rows : {heads times tails : List A} (hs ts qs : List A) (from to : ℕ) → hs ≡ heads → ts ≡ times
-      → qs ≡ tails → AreBlocksOf (map f heads) (map f times) (map f tails) from to
-      → lanes_by f (take (8 * to - 8 * from) (drop (8 * from) hs)) (take (8 * to - 8 * from) (drop (8 * from) ts))
-      (take (8 * to - 8 * from) (drop (8 * from) qs))
-      ≡ lanes_of (map f heads) (map f times) (map f tails) from to
-  lanes_of_rows {heads} {times} {tails} hs ts qs from to eh et eq rows = grind (
-    arith,
-    values_of_blocks,
-    length-map,
-    length-blocks,
-    lanes-blocks,
-  )
-
-  -- blocks of rows that are as long are as many
-  pub blocks_as_long : {row heads : List A} (xs hs : List A) (from to : ℕ) → xs ≡ row → hs ≡ heads
-      → length (map f row) ≡ length (map f heads)
-      → length (take (8 * to - 8 * from) (drop (8 * from) xs)) ≡ length (take (8 * to - 8 * from) (drop (8 * from) hs))
-  blocks_as_long {row} {heads} xs hs from to e eh a = grind (arith, as_short, length-take, length-drop)
+  pub values_of_blocks : (xs : List A) (from to : ℕ) → map f (blocks from to xs) ≡ blocks from to (map f xs)
+  values_of_blocks xs from to = grind (arith, drop-map, take-map)
 
   -- a row that was lent as a slice, in which these numbers were written
   pub row_written : (n : ℕ) (numbers : List ℕ) (new rest : List A) → map f new ≡ numbers → length numbers ≡ n
       → map f (take n (new ++ rest)) ≡ numbers
   row_written n numbers new rest e h = grind (arith, length-map, take-append_seam)
+
+  -- blocks that were cut out of rows whose values are known
+  module _ {rows cut : LaneRows A} {from to : ℕ} (are : AreCutFrom rows from to cut) {heads times tails : List ℕ}
+      (heads_are : map f rows.heads.now ≡ heads) (times_are : map f rows.times.now ≡ times)
+      (tails_are : map f rows.tails.now ≡ tails) (of : AreBlocksOf heads times tails from to) where
+    pub heads_cut : map f cut.heads.now ≡ blocks from to heads
+    heads_cut = ap (map f) are.heads ∙ values_of_blocks rows.heads.now from to ∙ ap (blocks from to) heads_are
+
+    pub times_cut : map f cut.times.now ≡ blocks from to times
+    times_cut = ap (map f) are.times ∙ values_of_blocks rows.times.now from to ∙ ap (blocks from to) times_are
+
+    pub tails_cut : map f cut.tails.now ≡ blocks from to tails
+    tails_cut = ap (map f) are.tails ∙ values_of_blocks rows.tails.now from to ∙ ap (blocks from to) tails_are
+
+    pub long_cut : length cut.heads.now ≡ 8 * to - 8 * from
+    long_cut = sym (length-map cut.heads.now f) ∙ ap length heads_cut ∙ length-blocks from to heads of.within
+
+    pub count_cut : length cut.heads.now / 8 ≡ to - from
+    count_cut = omega (arith, long_cut)
+
+    pub lanes_of_cut : lanes_in f cut ≡ lanes_of heads times tails from to
+    lanes_of_cut = rw (count_cut, heads_cut, times_cut, tails_cut)
+        (ap (λ (xs : List Lane). by_columns (to - from) xs)
+        (lanes-blocks heads times tails from to of.times_are_as_many of.tails_are_as_many))

@@ -7,9 +7,13 @@
 --     lanes_between rows from to     the lanes of the blocks from `from` on and before `to`, in order
 --                                    of rank
 --     lanes_of heads times tails     the lanes of blocks of three rows, in order of rank
+--     lanes_by value heads ..        the lanes of three rows of whole blocks, in order of rank, where
+--                                    `value` reads an element as a number
+--     lanes_in value rows            `lanes_by` of the heads, times and tails of a `LaneRows`
 --     with_head, with_end            rows with one head, or one end, replaced
 use Rattle.std.specs.Prelude.{◌≡◌, ℕ, zero, suc, ◌+◌, ◌*◌, ◌-◌, ◌/◌, ◌%◌, ◌≤◌, List, [], ◌∷◌, ◌++◌}
-use Rattle.std.specs.Prelude.{length, take, drop, slice_set}
+use Rattle.std.specs.Prelude.{length, map, take, drop, slice_set}
+use Rattle.shop_lanes.specs.declared.lane_rows.LaneRows.{LaneRows}
 
 -- heads, times and tails stand by position, ends by job
 pub record Rows : Type 0 where
@@ -51,6 +55,19 @@ lanes_between rows from to =
 
 abbrev pub lanes_of : List ℕ → List ℕ → List ℕ → ℕ → ℕ → List Lane
 lanes_of heads times tails from to = by_columns (to - from) (blocks from to (lanes heads times tails))
+
+abbrev pub lanes_by : {N : Type 0} → (N → ℕ) → List N → List N → List N → List Lane
+lanes_by value heads times tails =
+    by_columns (length heads / 8) (lanes (map value heads) (map value times) (map value tails))
+
+abbrev pub lanes_in : {N : Type 0} → (N → ℕ) → LaneRows N → List Lane
+lanes_in value rows = lanes_by value rows.heads.now rows.times.now rows.tails.now
+
+-- `cut` has the blocks from `from` on and before `to` of each row
+pub record AreCutFrom {N : Type 0} (rows : LaneRows N) (from to : ℕ) (cut : LaneRows N) : Type 0 where
+  pub heads : cut.heads.now ≡ blocks from to rows.heads.now
+  pub times : cut.times.now ≡ blocks from to rows.times.now
+  pub tails : cut.tails.now ≡ blocks from to rows.tails.now
 
 -- the blocks lie within the heads, and each head has a time and a tail
 pub record AreBlocksOf (heads times tails : List ℕ) (from to : ℕ) : Type 0 where

@@ -4,6 +4,7 @@ ghost use Rattle.std.specs.Prelude.{map, take, drop, replicate, slice_index, All
 ghost use Rattle.shop_lanes.specs.inner.Passes.{IsPadded};
 
 use crate::blocks::Block;
+use crate::lane_rows::{HeadRange, LaneRows};
 use crate::leaps::{leap, leap_over};
 use crate::marking::Marks;
 use crate::owning::own_spans;
@@ -196,41 +197,26 @@ impl<B: Block, const EACH: usize> StateLanes for BlockLanes<B, EACH> {
     }
 
     #[inline(always)]
-    fn head_row(&self) -> &[B::Number] {
-        self.heads()
-    }
-
-    #[inline(always)]
-    fn time_row(fixed: &FixedBlocks<B>) -> &[B::Number] {
-        &fixed.times
-    }
-
-    #[inline(always)]
-    fn tail_row(fixed: &FixedBlocks<B>) -> &[B::Number] {
-        &fixed.tails
+    fn rows<'a>(&'a self, fixed: &'a FixedBlocks<B>) -> LaneRows<'a, B::Number> {
+        LaneRows {
+            heads: self.heads(),
+            times: &fixed.times,
+            tails: &fixed.tails,
+        }
     }
 
     #[inline(always)]
     fn bound_raised(
-        head_row: &[B::Number],
-        time_row: &[B::Number],
-        tail_row: &[B::Number],
+        rows: &LaneRows<B::Number>,
         count: usize,
-        from: usize,
-        to: usize,
-        above: u64,
-        upto: u64,
+        range: HeadRange,
         most: u64,
         limit: u64,
     ) -> u64 {
-        let (first, end) = (8 * from, 8 * to);
-        let heads = &head_row[first..end];
-        let times = &time_row[first..end];
-        let tails = &tail_row[first..end];
         if count == 0 {
-            return leap_over::<B>(heads, times, tails, above, upto, most, limit);
+            return leap_over::<B>(rows, range, most, limit);
         }
-        leap::<B>(8 * count, heads, times, tails, above, upto, most, limit)
+        leap::<B>(8 * count, rows, range, most, limit)
     }
 
     #[inline(always)]
@@ -245,10 +231,6 @@ impl<B: Block, const EACH: usize> StateLanes for BlockLanes<B, EACH> {
 
     #[inline(always)]
     fn own_spans(&self, fixed: &FixedBlocks<B>, from: usize, to: usize, owns: &mut [B::Number]) {
-        let (first, end) = (8 * from, 8 * to);
-        let heads = &self.heads()[first..end];
-        let times = &fixed.times[first..end];
-        let tails = &fixed.tails[first..end];
-        own_spans::<B>(heads, times, tails, owns)
+        own_spans::<B>(&self.rows(fixed).blocks(from, to), owns)
     }
 }

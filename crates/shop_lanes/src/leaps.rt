@@ -3,11 +3,12 @@
 ghost use Rattle.std.specs.Prelude.{◌≡◌, ℕ, ◌%◌, ◌<◌, ◌≤◌, max, length, map};
 ghost use Rattle.shop_lanes.specs.Eights.{ahead_of};
 ghost use Rattle.shop_lanes.specs.Folds.{least_up_to};
+ghost use Rattle.shop_lanes.specs.Rows.{lanes_in};
 ghost use Rattle.shop_lanes.specs.Spans.{spans_between, FitsSpan, IsRaisedBelow};
-ghost use Rattle.shop_lanes.specs.inner.Passes.{lanes_by};
 
 use crate::blocks::Block;
 use crate::folds::least_of;
+use crate::lane_rows::{HeadRange, LaneRows};
 use crate::passes::load_of;
 
 /// How far ahead of `from` the nearest of `heads` lies, where 0 follows on `greatest`.
@@ -28,39 +29,34 @@ fn nearest_of<B: Block>(count: usize, heads: &[B::Number], from: u64, greatest: 
     least_of(least)
 }
 
-/// Answers `most` or, if greater, the greatest span from a head above `above` and at most `upto`. The span from a head
-/// is the greatest end, tail included, of the operations with no lesser head, served by rank from that head on. Stops
-/// early once the bound reaches `limit`. A literal `count`, the number of positions, unrolls the loops over blocks.
+/// Answers `most` or, if greater, the greatest span from a head in `range`. The span from a head is the greatest end,
+/// tail included, of the operations with no lesser head, served by rank from that head on. Stops early once the bound
+/// reaches `limit`. A literal `count`, the number of positions, unrolls the loops over blocks.
 #[inline(always)]
 pub(crate) fn leap<B: Block>(
     count: usize,
-    heads: &[B::Number],
-    times: &[B::Number],
-    tails: &[B::Number],
-    above: u64,
-    upto: u64,
+    rows: &LaneRows<B::Number>,
+    range: HeadRange,
     most: u64,
     limit: u64,
 ) -> u64
-    requires count { length heads.now ≡ count }
-    requires whole_blocks { count % 8 ≡ 0 }
-    requires times { length times.now ≡ length heads.now }
-    requires tails { length tails.now ≡ length heads.now }
-    requires below { upto < B.GREATEST }
-    requires fits { FitsSpan B.GREATEST upto
-        (lanes_by B.value heads.now times.now tails.now) }
-    ensures { IsRaisedBelow limit (max most (spans_between above upto
-        (lanes_by B.value heads.now times.now tails.now))) result }
+    requires count { length rows.now.heads.now ≡ count }
+    requires whole_blocks { length rows.now.heads.now % 8 ≡ 0 }
+    requires below { range.upto < B.GREATEST }
+    requires fits { FitsSpan B.GREATEST range.upto (lanes_in B.value rows.now) }
+    ensures { IsRaisedBelow limit
+        (max most (spans_between range.above range.upto (lanes_in B.value rows.now))) result }
 {
     let greatest = B::GREATEST;
+    let upto = range.upto;
     let mut bound = most;
-    let mut settled = above;
+    let mut settled = range.above;
     while settled < upto {
-        let load = load_of::<B>(count, heads, times, tails, settled + 1);
+        let load = load_of::<B>(count, rows, settled + 1);
         if upto + load <= bound {
             return bound;
         }
-        let ahead = nearest_of::<B>(count, heads, settled + 1, greatest);
+        let ahead = nearest_of::<B>(count, rows.heads, settled + 1, greatest);
         if ahead >= upto - settled {
             return bound;
         }
@@ -77,32 +73,26 @@ pub(crate) fn leap<B: Block>(
 /// Calls `leap` for any number of blocks, with a literal `count` for one to eight blocks. Kept out of line.
 #[inline(never)]
 pub(crate) fn leap_over<B: Block>(
-    heads: &[B::Number],
-    times: &[B::Number],
-    tails: &[B::Number],
-    above: u64,
-    upto: u64,
+    rows: &LaneRows<B::Number>,
+    range: HeadRange,
     most: u64,
     limit: u64,
 ) -> u64
-    requires whole_blocks { length heads.now % 8 ≡ 0 }
-    requires times { length times.now ≡ length heads.now }
-    requires tails { length tails.now ≡ length heads.now }
-    requires below { upto < B.GREATEST }
-    requires fits { FitsSpan B.GREATEST upto
-        (lanes_by B.value heads.now times.now tails.now) }
-    ensures { IsRaisedBelow limit (max most (spans_between above upto
-        (lanes_by B.value heads.now times.now tails.now))) result }
+    requires whole_blocks { length rows.now.heads.now % 8 ≡ 0 }
+    requires below { range.upto < B.GREATEST }
+    requires fits { FitsSpan B.GREATEST range.upto (lanes_in B.value rows.now) }
+    ensures { IsRaisedBelow limit
+        (max most (spans_between range.above range.upto (lanes_in B.value rows.now))) result }
 {
-    match heads.len() {
-        8 => leap::<B>(8, heads, times, tails, above, upto, most, limit),
-        16 => leap::<B>(16, heads, times, tails, above, upto, most, limit),
-        24 => leap::<B>(24, heads, times, tails, above, upto, most, limit),
-        32 => leap::<B>(32, heads, times, tails, above, upto, most, limit),
-        40 => leap::<B>(40, heads, times, tails, above, upto, most, limit),
-        48 => leap::<B>(48, heads, times, tails, above, upto, most, limit),
-        56 => leap::<B>(56, heads, times, tails, above, upto, most, limit),
-        64 => leap::<B>(64, heads, times, tails, above, upto, most, limit),
-        _ => leap::<B>(heads.len(), heads, times, tails, above, upto, most, limit),
+    match rows.heads.len() {
+        8 => leap::<B>(8, rows, range, most, limit),
+        16 => leap::<B>(16, rows, range, most, limit),
+        24 => leap::<B>(24, rows, range, most, limit),
+        32 => leap::<B>(32, rows, range, most, limit),
+        40 => leap::<B>(40, rows, range, most, limit),
+        48 => leap::<B>(48, rows, range, most, limit),
+        56 => leap::<B>(56, rows, range, most, limit),
+        64 => leap::<B>(64, rows, range, most, limit),
+        _ => leap::<B>(rows.heads.len(), rows, range, most, limit),
     }
 }

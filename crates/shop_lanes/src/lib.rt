@@ -7,6 +7,7 @@ mod blocks_of_16;
 mod blocks_of_32;
 mod blocks_of_64;
 mod folds;
+mod lane_rows;
 mod leaps;
 mod marking;
 mod owning;
@@ -18,6 +19,7 @@ use block_lanes::BlockLanes;
 use blocks_of_16::Block16;
 use blocks_of_32::Block32;
 use blocks_of_64::Block64;
+pub use lane_rows::{HeadRange, LaneRows};
 pub use marking::Marks;
 pub use state_lanes::StateLanes;
 

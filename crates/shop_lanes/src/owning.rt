@@ -1,37 +1,41 @@
 // The own span of each waiting operation of a machine: how late the operation, and the others with their tails, end if
 // it goes first. Takes two passes: one goes down the columns and sums each up by itself, one goes back up.
-ghost use Rattle.std.specs.Prelude.{◌≡◌, ◌%◌, ◌/◌, length, max};
+ghost use Rattle.std.specs.Prelude.{◌≡◌, ◌/◌, length, max};
 ghost use Rattle.std.specs.Simd.Lanes.{zip2};
 ghost use Rattle.shop_lanes.specs.Eights.{added, lessened, AddsFit};
-ghost use Rattle.shop_lanes.specs.Spans.{FitsSpan, FitOwnSpans};
-ghost use Rattle.shop_lanes.specs.inner.Passes.{lanes_by, AreColumns};
-ghost use Rattle.shop_lanes.specs.inner.OwnSpans.{AreNoted, AreOwnSpansOf, AreClocks, AreLoadsBefore};
-ghost use Rattle.shop_lanes.specs.inner.OwnSpans.{AreLoadsBehind};
+ghost use Rattle.shop_lanes.specs.Rows.{lanes_in};
+ghost use Rattle.shop_lanes.specs.inner.Passes.{AreColumns};
+ghost use Rattle.shop_lanes.specs.inner.OwnSpans.{AreEnds, AreNoted, CanOwn, WritesOwnSpans};
 
 use crate::blocks::Block;
 use crate::folds::{greatest_before, greatest_behind, sums_before};
+use crate::lane_rows::LaneRows;
 use crate::served_blocks::serve;
+
+/// The ends of columns, with all waiting operations served by rank from time 0 on. `begins` and `clocks` hold the time
+/// when each column begins and ends. `before` and `behind` hold the greatest end, tail included, in the columns before
+/// and behind each column.
+#[derive(Clone, Copy)]
+struct ColumnEnds<B> {
+    begins: B,
+    before: B,
+    clocks: B,
+    behind: B,
+}
 
 /// Serves all waiting operations as `serve_columns` does, down each of eight columns from time 0 on. Writes into
 /// `owns`, for each position, the greatest end, tail included, of the operations before it in its column.
 #[inline(always)]
 fn note_columns<B: Block>(
     count: usize,
-    heads: &[B::Number],
-    times: &[B::Number],
-    tails: &[B::Number],
+    rows: &LaneRows<B::Number>,
     owns: &mut [B::Number],
 ) -> (B, B)
-    requires count { length heads.now ≡ count }
-    requires whole_blocks { count % 8 ≡ 0 }
-    requires times { length times.now ≡ length heads.now }
-    requires tails { length tails.now ≡ length heads.now }
-    requires owns { length owns.old ≡ length heads.now }
-    requires fits { FitsSpan B.GREATEST 0 (lanes_by B.value heads.now times.now tails.now) }
+    requires count { length rows.now.heads.now ≡ count }
+    requires can { CanOwn B.value B.GREATEST rows.now owns.old }
     ensures long { length owns.new ≡ length owns.old }
-    ensures noted { AreNoted B.value heads.now times.now tails.now owns.new }
-    ensures columns { AreColumns B.numbers (count / 8)
-        (lanes_by B.value heads.now times.now tails.now) 1 result }
+    ensures noted { AreNoted B.value rows.now owns.new }
+    ensures columns { AreColumns B.numbers (count / 8) (lanes_in B.value rows.now) 1 result }
 {
     let one = B::splat(1);
     let mut clocks = B::splat(0);
@@ -39,9 +43,9 @@ fn note_columns<B: Block>(
     for block in 0..count / 8 {
         B::store(most, owns, block);
         let (after, later) = serve(
-            B::load(heads, block),
-            B::load(times, block),
-            B::load(tails, block),
+            B::load(rows.heads, block),
+            B::load(rows.times, block),
+            B::load(rows.tails, block),
             one,
             clocks,
             most,
@@ -72,48 +76,33 @@ fn own_ends<B: Block>(heads: B, times: B, before: B, behind: B) -> B
 }
 
 /// Goes back up the columns and replaces what `note_columns` wrote into `owns` by own spans: how late each operation,
-/// and the others with their tails, end if it goes first. With all waiting operations served by rank from time 0 on,
-/// `begins` and `clocks` hold the time when each column begins and ends, and `before` and `behind` the greatest end,
-/// tail included, in the columns before and behind each column.
+/// and the others with their tails, end if it goes first.
 #[inline(always)]
 fn write_back<B: Block>(
     count: usize,
-    heads: &[B::Number],
-    times: &[B::Number],
-    tails: &[B::Number],
-    begins: B,
-    before: B,
-    clocks: B,
-    behind: B,
+    rows: &LaneRows<B::Number>,
+    ends: ColumnEnds<B>,
     owns: &mut [B::Number],
 )
-    requires count { length heads.now ≡ count }
-    requires whole_blocks { count % 8 ≡ 0 }
-    requires times { length times.now ≡ length heads.now }
-    requires tails { length tails.now ≡ length heads.now }
-    requires owns { length owns.old ≡ length heads.now }
-    requires fits { FitOwnSpans B.GREATEST (lanes_by B.value heads.now times.now tails.now) }
-    requires noted { AreNoted B.value heads.now times.now tails.now owns.old }
-    requires begins { AreClocks B.numbers (count / 8)
-        (lanes_by B.value heads.now times.now tails.now) 0 begins }
-    requires before { AreLoadsBefore B.numbers (count / 8)
-        (lanes_by B.value heads.now times.now tails.now) before }
-    requires clocks { AreClocks B.numbers (count / 8)
-        (lanes_by B.value heads.now times.now tails.now) (count / 8) clocks }
-    requires behind { AreLoadsBehind B.numbers (count / 8)
-        (lanes_by B.value heads.now times.now tails.now) (count / 8) behind }
-    ensures long { length owns.new ≡ length owns.old }
-    ensures owns { AreOwnSpansOf B.value heads.now times.now tails.now owns.new }
+    requires count { length rows.now.heads.now ≡ count }
+    requires can { CanOwn B.value B.GREATEST rows.now owns.old }
+    requires noted { AreNoted B.value rows.now owns.old }
+    requires ends { AreEnds B.numbers (count / 8) (lanes_in B.value rows.now) ends }
+    ensures { WritesOwnSpans B.value rows.now owns.old owns.new }
 {
     let one = B::splat(1);
-    let mut clocks = clocks;
-    let mut behind = behind;
+    let ColumnEnds {
+        begins,
+        before,
+        mut clocks,
+        mut behind,
+    } = ends;
     let mut block = count / 8;
     while block > 0 {
         block -= 1;
-        let head = B::load(heads, block);
-        let time = B::load(times, block);
-        let tail = B::load(tails, block);
+        let head = B::load(rows.heads, block);
+        let time = B::load(rows.times, block);
+        let tail = B::load(rows.tails, block);
         let noted = B::load(owns, block);
         let first = B::greater(before, B::sum(begins, noted));
         let late = B::sum(clocks, B::waiting(tail, head, one));
@@ -125,80 +114,50 @@ fn write_back<B: Block>(
 
 /// Does `own_spans` in two passes. A literal `count`, the number of positions, unrolls the loops over blocks.
 #[inline(always)]
-fn own_spans_of<B: Block>(
-    count: usize,
-    heads: &[B::Number],
-    times: &[B::Number],
-    tails: &[B::Number],
-    owns: &mut [B::Number],
-)
-    requires count { length heads.now ≡ count }
-    requires whole_blocks { count % 8 ≡ 0 }
-    requires times { length times.now ≡ length heads.now }
-    requires tails { length tails.now ≡ length heads.now }
-    requires owns { length owns.old ≡ length heads.now }
-    requires fits { FitOwnSpans B.GREATEST (lanes_by B.value heads.now times.now tails.now) }
-    ensures long { length owns.new ≡ length owns.old }
-    ensures owns { AreOwnSpansOf B.value heads.now times.now tails.now owns.new }
+fn own_spans_of<B: Block>(count: usize, rows: &LaneRows<B::Number>, owns: &mut [B::Number])
+    requires count { length rows.now.heads.now ≡ count }
+    requires can { CanOwn B.value B.GREATEST rows.now owns.old }
+    ensures { WritesOwnSpans B.value rows.now owns.old owns.new }
 {
-    let (work, most) = note_columns::<B>(count, heads, times, tails, owns);
+    let (work, most) = note_columns::<B>(count, rows, owns);
     let begins = sums_before(work);
     let ends = B::sum(begins, most);
-    let before = greatest_before(ends);
-    let clocks = B::sum(begins, work);
-    let behind = greatest_behind(ends);
-    write_back::<B>(
-        count, heads, times, tails, begins, before, clocks, behind, owns,
-    );
+    let columns = ColumnEnds {
+        begins,
+        before: greatest_before(ends),
+        clocks: B::sum(begins, work),
+        behind: greatest_behind(ends),
+    };
+    write_back::<B>(count, rows, columns, owns);
 }
 
 /// Does `own_spans` for four or more blocks, out of line: only the code for up to three blocks is inlined.
 #[inline(never)]
-fn own_spans_of_longer<B: Block>(
-    heads: &[B::Number],
-    times: &[B::Number],
-    tails: &[B::Number],
-    owns: &mut [B::Number],
-)
-    requires whole_blocks { length heads.now % 8 ≡ 0 }
-    requires times { length times.now ≡ length heads.now }
-    requires tails { length tails.now ≡ length heads.now }
-    requires owns { length owns.old ≡ length heads.now }
-    requires fits { FitOwnSpans B.GREATEST (lanes_by B.value heads.now times.now tails.now) }
-    ensures long { length owns.new ≡ length owns.old }
-    ensures owns { AreOwnSpansOf B.value heads.now times.now tails.now owns.new }
+fn own_spans_of_longer<B: Block>(rows: &LaneRows<B::Number>, owns: &mut [B::Number])
+    requires { CanOwn B.value B.GREATEST rows.now owns.old }
+    ensures { WritesOwnSpans B.value rows.now owns.old owns.new }
 {
-    match heads.len() {
-        32 => own_spans_of::<B>(32, heads, times, tails, owns),
-        40 => own_spans_of::<B>(40, heads, times, tails, owns),
-        48 => own_spans_of::<B>(48, heads, times, tails, owns),
-        56 => own_spans_of::<B>(56, heads, times, tails, owns),
-        64 => own_spans_of::<B>(64, heads, times, tails, owns),
-        _ => own_spans_of::<B>(heads.len(), heads, times, tails, owns),
+    match rows.heads.len() {
+        32 => own_spans_of::<B>(32, rows, owns),
+        40 => own_spans_of::<B>(40, rows, owns),
+        48 => own_spans_of::<B>(48, rows, owns),
+        56 => own_spans_of::<B>(56, rows, owns),
+        64 => own_spans_of::<B>(64, rows, owns),
+        _ => own_spans_of::<B>(rows.heads.len(), rows, owns),
     }
 }
 
 /// Writes into `owns` the own span of each waiting operation: how late the operation, and the others with their tails,
 /// end if it starts first, at its head, and they follow by rank.
 #[inline(always)]
-pub(crate) fn own_spans<B: Block>(
-    heads: &[B::Number],
-    times: &[B::Number],
-    tails: &[B::Number],
-    owns: &mut [B::Number],
-)
-    requires whole_blocks { length heads.now % 8 ≡ 0 }
-    requires times { length times.now ≡ length heads.now }
-    requires tails { length tails.now ≡ length heads.now }
-    requires owns { length owns.old ≡ length heads.now }
-    requires fits { FitOwnSpans B.GREATEST (lanes_by B.value heads.now times.now tails.now) }
-    ensures long { length owns.new ≡ length owns.old }
-    ensures owns { AreOwnSpansOf B.value heads.now times.now tails.now owns.new }
+pub(crate) fn own_spans<B: Block>(rows: &LaneRows<B::Number>, owns: &mut [B::Number])
+    requires { CanOwn B.value B.GREATEST rows.now owns.old }
+    ensures { WritesOwnSpans B.value rows.now owns.old owns.new }
 {
-    match heads.len() {
-        8 => own_spans_of::<B>(8, heads, times, tails, owns),
-        16 => own_spans_of::<B>(16, heads, times, tails, owns),
-        24 => own_spans_of::<B>(24, heads, times, tails, owns),
-        _ => own_spans_of_longer::<B>(heads, times, tails, owns),
+    match rows.heads.len() {
+        8 => own_spans_of::<B>(8, rows, owns),
+        16 => own_spans_of::<B>(16, rows, owns),
+        24 => own_spans_of::<B>(24, rows, owns),
+        _ => own_spans_of_longer::<B>(rows, owns),
     }
 }

@@ -3,43 +3,36 @@
 ghost use Rattle.std.specs.Prelude.{◌≡◌, ℕ, ◌+◌, ◌*◌, ◌/◌, ◌%◌, ◌^◌, ◌<◌, ◌≤◌, ◌==◌, length, map};
 ghost use Rattle.std.specs.Prelude.{drop, slice_index};
 ghost use Rattle.std.specs.Simd.Lanes.{mask_l};
-ghost use Rattle.shop_lanes.specs.Spans.{FitsSpan};
+ghost use Rattle.shop_lanes.specs.Rows.{lanes_in};
+ghost use Rattle.shop_lanes.specs.Spans.{span, FitsSpan};
 ghost use Rattle.shop_lanes.specs.Ends.{IsFirstLeast};
 ghost use Rattle.shop_lanes.specs.Eights.{is_between};
 ghost use Rattle.shop_lanes.specs.Folds.{least_up_to};
-ghost use Rattle.shop_lanes.specs.inner.Passes.{lanes_by, span_by, AreColumns, IsFirstOf};
+ghost use Rattle.shop_lanes.specs.inner.Passes.{AreColumns, IsFirstOf};
 
 use crate::blocks::Block;
 use crate::folds::{greatest_of, least_of, sums_before};
+use crate::lane_rows::LaneRows;
 use crate::served_blocks::serve;
 
 /// Serves, down each of eight columns from time 0 on, the operations with a head of at least `least`. Answers when each
 /// column ends, and the greatest end in it, tail included. A literal `count` of positions unrolls the loop over blocks.
 #[inline(always)]
-fn serve_columns<B: Block>(
-    count: usize,
-    heads: &[B::Number],
-    times: &[B::Number],
-    tails: &[B::Number],
-    least: u64,
-) -> (B, B)
-    requires count { length heads.now ≡ count }
-    requires whole_blocks { count % 8 ≡ 0 }
-    requires times { length times.now ≡ length heads.now }
-    requires tails { length tails.now ≡ length heads.now }
+fn serve_columns<B: Block>(count: usize, rows: &LaneRows<B::Number>, least: u64) -> (B, B)
+    requires count { length rows.now.heads.now ≡ count }
+    requires whole_blocks { length rows.now.heads.now % 8 ≡ 0 }
     requires least { least ≤ B.GREATEST }
-    requires fits { FitsSpan B.GREATEST 0 (lanes_by B.value heads.now times.now tails.now) }
-    ensures { AreColumns B.numbers (count / 8)
-        (lanes_by B.value heads.now times.now tails.now) least result }
+    requires fits { FitsSpan B.GREATEST 0 (lanes_in B.value rows.now) }
+    ensures { AreColumns B.numbers (count / 8) (lanes_in B.value rows.now) least result }
 {
     let least = B::splat(least);
     let mut clocks = B::splat(0);
     let mut most = B::splat(0);
     for block in 0..count / 8 {
         let (after, later) = serve(
-            B::load(heads, block),
-            B::load(times, block),
-            B::load(tails, block),
+            B::load(rows.heads, block),
+            B::load(rows.times, block),
+            B::load(rows.tails, block),
             least,
             clocks,
             most,
@@ -53,22 +46,14 @@ fn serve_columns<B: Block>(
 /// The load of the operations with a head of at least `least`: their greatest end, tail included, if they are served by
 /// rank from time 0 on. A literal `count`, the number of positions, unrolls the loop over blocks.
 #[inline(always)]
-pub(crate) fn load_of<B: Block>(
-    count: usize,
-    heads: &[B::Number],
-    times: &[B::Number],
-    tails: &[B::Number],
-    least: u64,
-) -> u64
-    requires count { length heads.now ≡ count }
-    requires whole_blocks { count % 8 ≡ 0 }
-    requires times { length times.now ≡ length heads.now }
-    requires tails { length tails.now ≡ length heads.now }
+pub(crate) fn load_of<B: Block>(count: usize, rows: &LaneRows<B::Number>, least: u64) -> u64
+    requires count { length rows.now.heads.now ≡ count }
+    requires whole_blocks { length rows.now.heads.now % 8 ≡ 0 }
     requires least { least ≤ B.GREATEST }
-    requires fits { FitsSpan B.GREATEST 0 (lanes_by B.value heads.now times.now tails.now) }
-    ensures { result ≡ span_by B.value heads.now times.now tails.now least 0 }
+    requires fits { FitsSpan B.GREATEST 0 (lanes_in B.value rows.now) }
+    ensures { result ≡ span least 0 (lanes_in B.value rows.now) }
 {
-    let (clocks, most) = serve_columns::<B>(count, heads, times, tails, least);
+    let (clocks, most) = serve_columns::<B>(count, rows, least);
     greatest_of(B::sum(sums_before(clocks), most))
 }
 

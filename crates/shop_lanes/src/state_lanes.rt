@@ -1,12 +1,13 @@
 // `StateLanes`: what lanes of any width offer to store the heads and ends of a word's state and to bound the word.
-ghost use Rattle.std.specs.Prelude.{◌≡◌, ℕ, ◌+◌, ◌-◌, ◌*◌, ◌<◌, ◌≤◌, max, List, All, IfOk, length, map};
-ghost use Rattle.std.specs.Prelude.{replicate, slice_index, slice_index_or, slice_set};
-ghost use Rattle.shop_lanes.specs.Rows.{lanes_of, AreBlocksOf};
+ghost use Rattle.std.specs.Prelude.{◌≡◌, ℕ, ◌+◌, ◌-◌, ◌*◌, ◌%◌, ◌<◌, ◌≤◌, max, List, All, IfOk};
+ghost use Rattle.std.specs.Prelude.{length, map, replicate, slice_index, slice_index_or, slice_set};
+ghost use Rattle.shop_lanes.specs.Rows.{lanes_in, lanes_of, AreBlocksOf};
 ghost use Rattle.shop_lanes.specs.Spans.{spans_between, FitsSpan, FitOwnSpans, AreOwnSpans};
 ghost use Rattle.shop_lanes.specs.Spans.{IsRaisedBelow};
 ghost use Rattle.shop_lanes.specs.Marks.{positions_among};
 ghost use Rattle.shop_lanes.specs.Ends.{IsFirstLeast};
 
+use crate::lane_rows::{HeadRange, LaneRows};
 use crate::marking::Marks;
 use std::alloc::{AllocError as NoMemory, Global};
 
@@ -103,44 +104,32 @@ pub trait StateLanes: Drop {
         requires fits { limit ≤ GREATEST }
         ensures { result ≡ positions_among (heads self.now) from to limit };
 
-    /// The head at each position, as `bound_raised` reads it.
-    fn head_row(&self) -> &[Self::Number]
-        ensures { map value result.now ≡ heads self.now };
-
-    /// The time of the operation at each position, as `bound_raised` reads it.
-    fn time_row(fixed: &Self::Fixed) -> &[Self::Number]
-        ensures { map value result.now ≡ times fixed.now };
-
-    /// The tail of the operation at each position, as `bound_raised` reads it.
-    fn tail_row(fixed: &Self::Fixed) -> &[Self::Number]
-        ensures { map value result.now ≡ tails fixed.now };
-
-    /// Answers `most` or, if greater, the greatest span from a head above `above` and at most `upto` in blocks `from`
-    /// up to `to` (excluded). The span from a head is the greatest end, tail included, of the operations with no lesser
-    /// head, served by rank from that head on. Stops early once the bound reaches `limit`. `count` is `to` - `from`, or
-    /// 0 if unknown; a literal `count` unrolls loops. The rows are lent, so that who bounds many machines looks them up
+    /// The head, the time and the tail of the operation at each position. Who bounds many machines looks the rows up
     /// once.
+    fn rows<'a>(&'a self, fixed: &'a Self::Fixed) -> LaneRows<'a, Self::Number>
+        requires times { length (times fixed.now) ≡ length (heads self.now) }
+        requires tails { length (tails fixed.now) ≡ length (heads self.now) }
+        ensures heads { map value result.heads.now ≡ heads self.now }
+        ensures times { map value result.times.now ≡ times fixed.now }
+        ensures tails { map value result.tails.now ≡ tails fixed.now };
+
+    /// Answers `most` or, if greater, the greatest span from a head in `range`. The span from a head is the greatest
+    /// end, tail included, of the operations of `rows` with no lesser head, served by rank from that head on. Stops
+    /// early once the bound reaches `limit`. `count` is the number of blocks, or 0 if unknown; a literal `count`
+    /// unrolls loops.
     fn bound_raised(
-        head_row: &[Self::Number],
-        time_row: &[Self::Number],
-        tail_row: &[Self::Number],
+        rows: &LaneRows<Self::Number>,
         count: usize,
-        from: usize,
-        to: usize,
-        above: u64,
-        upto: u64,
+        range: HeadRange,
         most: u64,
         limit: u64,
     ) -> u64
-        requires blocks { AreBlocksOf (map value head_row.now) (map value time_row.now)
-            (map value tail_row.now) from to }
-        requires count { 0 < count → to ≡ from + count }
-        requires most { most ≤ GREATEST }
-        requires below { upto < GREATEST }
-        requires fits { FitsSpan GREATEST upto
-            (lanes_of (map value head_row.now) (map value time_row.now) (map value tail_row.now) from to) }
-        ensures { IsRaisedBelow limit (max most (spans_between above upto
-            (lanes_of (map value head_row.now) (map value time_row.now) (map value tail_row.now) from to))) result };
+        requires whole_blocks { length rows.now.heads.now % 8 ≡ 0 }
+        requires count { 0 < count → length rows.now.heads.now ≡ 8 * count }
+        requires below { range.upto < GREATEST }
+        requires fits { FitsSpan GREATEST range.upto (lanes_in value rows.now) }
+        ensures { IsRaisedBelow limit
+            (max most (spans_between range.above range.upto (lanes_in value rows.now))) result };
 
     fn narrowed(number: u64) -> Self::Number
         requires { number ≤ GREATEST }

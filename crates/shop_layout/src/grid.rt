@@ -10,7 +10,7 @@ ghost use Rattle.shop_layout.specs.inner.RouteRows.{AreBelow};
 use crate::legs::{Leg, Legs};
 use crate::positions::Positions;
 use crate::routes::Routes;
-use shop_lanes::StateLanes;
+use shop_lanes::{LaneRows, StateLanes};
 use std::alloc::{AllocError as NoMemory, Global};
 use std::marker::Model;
 
@@ -222,20 +222,16 @@ impl<L: StateLanes> Grid<L> {
         self.positions.following.len()
     }
 
-    /// The time of the operation at each position, in lanes.
+    /// The head, the time and the tail of the operation at each position, in lanes.
     #[inline(always)]
-    pub fn time_row(&self) -> &[L::Number]
-        ensures { map L.value result.now ≡ self.now.times }
+    pub fn rows<'a>(&'a self, lanes: &'a L) -> LaneRows<'a, L::Number>
+        requires times { length self.now.times ≡ length (L.heads lanes.now) }
+        requires tails { length self.now.tails ≡ length self.now.times }
+        ensures heads { map L.value result.heads.now ≡ L.heads lanes.now }
+        ensures times { map L.value result.times.now ≡ self.now.times }
+        ensures tails { map L.value result.tails.now ≡ self.now.tails }
     {
-        L::time_row(&self.fixed)
-    }
-
-    /// The tail of the operation at each position, in lanes.
-    #[inline(always)]
-    pub fn tail_row(&self) -> &[L::Number]
-        ensures { map L.value result.now ≡ self.now.tails }
-    {
-        L::tail_row(&self.fixed)
+        lanes.rows(&self.fixed)
     }
 
     /// Writes to the start of `owns` the own span of each waiting operation in blocks `from` up to `to` (excluded): how

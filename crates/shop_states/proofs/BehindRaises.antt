@@ -352,6 +352,7 @@ module _ {l : LayoutState} {from last end second : ℕ} where
       }
 
 pub late_ends : {l : LayoutState} {from p to last end second : ℕ} {old now : Rows} → p ≡ to
-    → RaisesBehind l (IsLateIn from p last end second) old now → RaisesBehind l (IsLateIn from to last end second) old now
+    → RaisesBehind l (IsLateIn from p last end second) old now
+    → RaisesBehind l (IsLateIn from to last end second) old now
 late_ends {l} {from} {p} {to} {last} {end} {second} {old} {now} is so_far =
     subst (λ (n : ℕ). RaisesBehind l (IsLateIn from n last end second) old now) is so_far

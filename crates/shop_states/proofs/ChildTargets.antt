@@ -19,7 +19,8 @@ use Rattle.shop_states.specs.inner.LaneStates.{AreHeadsInLanes}
 use Rattle.shop_states.specs.inner.Raises.{AreInRouteOrder, IsOnMachine, IsRaised, at_in}
 use Rattle.shop_states.proofs.AdvanceSteps.{first_left, next_fits, next_is, within}
 use Rattle.shop_states.proofs.ChildReads.{left_stored}
-use Rattle.shop_states.proofs.RaisedHeads.{in_order, target, target_at, target_least, target_none, target_raised, waits_at}
+use Rattle.shop_states.proofs.RaisedHeads.{in_order, target, target_at, target_least, target_none, target_raised}
+use Rattle.shop_states.proofs.RaisedHeads.{waits_at}
 
 -- the list of the first values of a function
 abbrev values : (ℕ → ℕ) → ℕ → List ℕ
@@ -53,7 +54,8 @@ module _ {greatest : ℕ} {shop : Shop} {w : List ℕ} {l : LayoutState} {rows :
       → get_or (set rows.heads (place l j ((placing shop w).steps j)) 0) q 0 ≡ get_or rows.heads q 0
   struck_other q ne = get_or-set_other rows.heads (place l j ((placing shop w).steps j)) q 0 0 ne
 
-  pub struck_low : (q : ℕ) → get_or (set rows.heads (place l j ((placing shop w).steps j)) 0) q 0 ≤ get_or rows.heads q 0
+  pub struck_low : (q : ℕ)
+      → get_or (set rows.heads (place l j ((placing shop w).steps j)) 0) q 0 ≤ get_or rows.heads q 0
   struck_low q = elim (cases_eq q (place l j ((placing shop w).steps j))) [
     | inl e ↦ (let a = struck_here q e in omega arith)
     | inr ne ↦ (let a = struck_other q ne in omega arith)

@@ -70,7 +70,8 @@ module _ {greatest : ℕ} {shop : Shop} {w : List ℕ} {l : LayoutState} {hs es 
           let spans = spans_fit kept.kept.limits kept.kept.laid greatest kept.holds now raises.times raises.tails
           (raises.positions ∙ kept.kept.heads.positions)
           in let known = spans.known in let long = noted.long
-          in let up_to = noted.up_to (latest_end shop + 1) (now_small kept siblings latest (its_from from_is) (its_to to_is) raises)
+          in let up_to = noted.up_to (latest_end shop + 1) (now_small kept siblings latest (its_from from_is)
+          (its_to to_is) raises)
           (λ k here. let e = empty k in omega arith)
           in record {
             known = omega arith;

@@ -231,7 +231,8 @@ module _ {greatest : ℕ} {shop : Shop} {w : List ℕ} {l : LayoutState} {hs es 
 
       late_small : (q : ℕ) → late_head q ≤ latest_end shop + 1
       unfolding late_head of_last
-      late_small q = let x = child_small kept.kept t.job (its_word latest.last) q in let y = beside.1.small q in omega arith
+      late_small q =
+          let x = child_small kept.kept t.job (its_word latest.last) q in let y = beside.1.small q in omega arith
 
       -- an operation that begins when the machine is free ends in time
       ends_fit : (q e : ℕ) → IsLateIn from to last t.end t.second q e → 0 < get_or hs q 0
@@ -324,7 +325,8 @@ module _ {greatest : ℕ} {shop : Shop} {w : List ℕ} {l : LayoutState} {hs es 
                     in let ends : end_by hs l.times nexts (job_at cs among.at) ≡ end_by hs l.times nexts j =
                     ap (end_by hs l.times nexts) among.is
                     in elim (cases_eq q last) [
-                      | inr ne ↦ (let late = raises.raised.behind i k t.end two (omega arith, omega arith, inr (ne, refl))
+                      | inr ne ↦ (let late = raises.raised.behind i k t.end two
+                          (omega arith, omega arith, inr (ne, refl))
                           (omega arith)
                           in let each = latest.each among.at among.within in omega arith)
                       | inl is ↦ (let late = raises.raised.behind i k t.second two
@@ -359,7 +361,8 @@ module _ {greatest : ℕ} {shop : Shop} {w : List ℕ} {l : LayoutState} {hs es 
             reach = λ q here some.
                 let a = other_some q some
                 in let m = machine_of shop j ((placing shop w).steps j)
-                in let own = kept.kept.laid.machines_at.at m q (kept.kept.limits.on_machines j ((placing shop w).steps j))
+                in let own = kept.kept.laid.machines_at.at m q
+                (kept.kept.limits.on_machines j ((placing shop w).steps j))
                 here.0 here.1
                 in let on : get_or l.machines q 0 ≡ machine = own ∙ same_machine j t.job among latest.last
                 in let all : floor_on machine (end_by hs l.times nexts j) (get_or l.machines q 0)

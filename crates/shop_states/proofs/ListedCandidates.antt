@@ -26,6 +26,7 @@ are_siblings {shop} {w} {limit} {is} {cs} word lists =
     let none : Candidate = record { job = 0; own = 0 }
     in record {
       fits = λ i here. candidate_fits shop w word (job_at cs i) (listed_at lists i none here).0;
-      machine = λ i k here there. on_one shop (placing shop w) (open_jobs shop (placing shop w)) (job_at cs i) (job_at cs k)
+      machine = λ i k here there. on_one shop (placing shop w) (open_jobs shop (placing shop w)) (job_at cs i)
+          (job_at cs k)
           (listed_at lists i none here).0 (listed_at lists k none there).0;
     }

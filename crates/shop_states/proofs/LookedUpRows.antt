@@ -1,20 +1,72 @@
--- The lanes of a machine, whose rows and blocks were looked up before.
-use Rattle.std.proofs.Common.{◌≡◌, ℕ, ◌+◌, List, get_or, length, ◌∙◌, refl}
-use Rattle.shop_lanes.specs.Rows.{AreBlocks, AreBlocksOf, lanes_of}
+-- The rows of the next machine whose raise is taken, cut out of rows that were looked up before.
+use Rattle.std.proofs.Common.{◌≡◌, ℕ, ◌+◌, ◌*◌, ◌^◌, ◌≤◌, ◌<◌, List, ◌∷◌, ap, get_or, length, map, refl, subst}
+use Rattle.std.proofs.Common.{sym, ◌∙◌, arith}
+use Rattle.std.proofs.lemmas.List.{length-map}
+use Rattle.shop_lanes.specs.Rows.{AreBlocksOf, AreCutFrom, Lane, lanes_in}
+use Rattle.shop_lanes.specs.Spans.{FitsSpan}
+use Rattle.shop_lanes.specs.declared.lane_rows.LaneRows.{LaneRows}
+use Rattle.shop_lanes.proofs.RowValues.{lanes_of_cut, long_cut}
 use Rattle.shop_layout.specs.Lanes.{lanes_on, rows_of}
 use Rattle.shop_layout.specs.Positions.{LayoutState}
+use Rattle.shop_states.specs.declared.head_raises.LaneRaise.{LaneRaise}
+use Rattle.shop_states.specs.inner.HeadRaises.{Raise, raise_in, raise_of}
+use Rattle.shop_states.specs.inner.MachineRaises.{CanBoundRows, CanTakeSpans, IsSpanByRaise}
+use Rattle.shop_states.proofs.RaisedMachines.{AreLeft, first_known}
 
-module _ (l : LayoutState) (m : ℕ) (ends : List ℕ) {hs ts qs heads : List ℕ} {from to : ℕ} (heads_are : hs ≡ heads)
-    (times_are : ts ≡ l.times) (tails_are : qs ≡ l.tails) (from_is : from ≡ get_or l.blocks m 0)
-    (to_is : to ≡ get_or l.blocks (m + 1) 0) where
-  pub looked_up : lanes_of hs ts qs from to ≡ lanes_on (rows_of l heads ends) l m
-  looked_up = rw (heads_are, times_are, tails_are, from_is, to_is) refl
+module _ {greatest : ℕ} {old raises : List Raise} {raised machines rest : List ℕ} {l : LayoutState}
+    {heads ends : List ℕ} (can : CanTakeSpans greatest old raised l (rows_of l heads ends))
+    (left : AreLeft old raises machines) {m : ℕ} (popped : machines ≡ m ∷ rest) where
+  pub its_known : m < length old
+  its_known = let known = first_known left.are_listed popped in let long = left.long in omega arith
 
-  pub blocks_looked_up : AreBlocks (rows_of l heads ends) (get_or l.blocks m 0) (get_or l.blocks (m + 1) 0)
-      → length l.times ≡ length heads → length l.tails ≡ length l.times → AreBlocksOf hs ts qs from to
-  blocks_looked_up blocks times tails = rw (heads_are, times_are, tails_are, from_is, to_is) (record {
-    ordered = blocks.ordered;
-    within = blocks.within;
-    times_are_as_many = times;
-    tails_are_as_many = tails ∙ times;
-  })
+  pub its_small : m + 1 < 2 ^ 64
+  its_small = let known = first_known left.are_listed popped in let few = left.are_listed.few in omega arith
+
+  pub its_blocks : m + 1 < length l.blocks
+  its_blocks = let known = its_known in let many = can.fits.known in omega arith
+
+  module _ {from to : ℕ} (from_is : from ≡ get_or l.blocks m 0) (to_is : to ≡ get_or l.blocks (m + 1) 0) where
+    are_blocks : AreBlocksOf heads l.times l.tails from to
+    are_blocks =
+        let blocks = can.fits.blocks m its_known in let ordered = blocks.ordered in let within = blocks.within
+        in record {
+          ordered = omega arith;
+          within = omega arith;
+          times_are_as_many = can.times;
+          tails_are_as_many = can.tails ∙ can.times;
+        }
+
+    pub cut_ordered : from ≤ to
+    cut_ordered = are_blocks.ordered
+
+    module _ {N : Type 0} (value : N → ℕ) (rows : LaneRows N) (heads_are : map value rows.heads.now ≡ heads) where
+      pub cut_within : 8 * to ≤ length rows.heads.now
+      cut_within =
+          let long = length-map rows.heads.now value in let same = ap (λ (hs : List ℕ). length hs) heads_are
+          in let within = are_blocks.within in omega arith
+
+      module _ (times_are : map value rows.times.now ≡ l.times) (tails_are : map value rows.tails.now ≡ l.tails)
+          {cut : LaneRows N} (are : AreCutFrom rows from to cut) where
+        cut_lanes : lanes_in value cut ≡ lanes_on (rows_of l heads ends) l m
+        cut_lanes = lanes_of_cut value are heads_are times_are tails_are are_blocks ∙ rw (from_is, to_is) refl
+
+        module _ {raise : LaneRaise N} (raise_is : raise_in value raise ≡ raise_of raises m) where
+          to_small : value raise.to ≤ (raise_of old m).to
+          to_small = let same = ap (λ (r : Raise). r.to) raise_is in let smaller = left.smaller m in omega arith
+
+          pub can_bound : (each : ℕ) → (0 < each → to ≡ from + each) → CanBoundRows value greatest each cut raise
+          can_bound each count =
+              let long = long_cut value are heads_are times_are tails_are are_blocks
+              in let small = to_small in let below = can.fits.below m its_known in let fits = can.fits.fits m its_known
+              in record {
+                whole_blocks = omega arith;
+                count = λ some. (let e = count some in omega arith);
+                below = omega arith;
+                fits = subst (λ (xs : List Lane). FitsSpan greatest (value raise.to) xs) (sym cut_lanes) (omega arith);
+              }
+
+          pub cut_span : {limit least r : ℕ} → IsSpanByRaise (raise_in value raise) (lanes_in value cut) limit least r
+              → IsSpanByRaise (raise_of raises m) (lanes_on (rows_of l heads ends) l m) limit least r
+          cut_span {limit} {least} {r} span = subst (λ (a : Raise).
+              IsSpanByRaise a (lanes_on (rows_of l heads ends) l m) limit least r) raise_is
+              (subst (λ (xs : List Lane). IsSpanByRaise (raise_in value raise) xs limit least r) cut_lanes span)

@@ -83,6 +83,26 @@ module _ {raises : List Raise} {machines rest : List ℕ} {m : ℕ} (are : AreLi
           ];
         }
 
+-- the raises that are left of old ones, on these machines
+pub record AreLeft (old raises : List Raise) (machines : List ℕ) : Type 0 where
+  pub are_listed : AreListed raises machines
+  pub long : length raises ≡ length old
+  pub smaller : (m : ℕ) → (raise_of raises m).to ≤ (raise_of old m).to
+
+pub left_less : {old raises : List Raise} {machines rest : List ℕ} {m : ℕ} → AreLeft old raises machines
+    → machines ≡ m ∷ rest → (empty : Raise) → empty.to ≡ 0 → AreLeft old (set raises m empty) rest
+left_less {old} {raises} {machines} {rest} {m} left popped empty none =
+    let are = left.are_listed
+    in record {
+      are_listed = listed_less are popped empty none;
+      long = length-set raises m empty ∙ left.long;
+      smaller = λ n. elim (cases_eq n m) [
+        | inl e ↦ (let z = raise_emptied are popped empty none n e in omega arith)
+        | inr ne ↦ (let f = ap (λ (r : Raise). r.to) (raise_elsewhere are popped empty none n ne)
+            in let s = left.smaller n in omega arith)
+      ];
+    }
+
 -- where nothing is listed, all raises are empty
 pub all_empty : (raises : List Raise) → AreListed raises [] → AreEmpty raises
 all_empty raises are m = elim (cases_lt 0 (raise_of raises m).to) [
@@ -93,9 +113,7 @@ all_empty raises are m = elim (cases_lt 0 (raise_of raises m).to) [
 -- what begins within the raises before, but for those that are left, is bounded
 pub record IsTakenSo (least limit : ℕ) (old : List Raise) (on : ℕ → List Lane) (raises : List Raise)
     (machines : List ℕ) (bound : ℕ) : Type 0 where
-  pub are_listed : AreListed raises machines
-  pub long : length raises ≡ length old
-  pub smaller : (m : ℕ) → (raise_of raises m).to ≤ (raise_of old m).to
+  pub left : AreLeft old raises machines
   pub low : least ≤ bound
   pub covers : bound < limit → (m : ℕ) → (raise_of old m ≡ raise_of raises m)
       ⊎ (spans_between (raise_of old m).from (raise_of old m).to (on m) ≤ bound)
@@ -108,17 +126,10 @@ module _ {least limit : ℕ} {old : List Raise} {on : ℕ → List Lane} where
       → (empty : Raise) → empty.to ≡ 0 → {b : ℕ} → IsSpanByRaise (raise_of raises m) (on m) limit bound b
       → IsTakenSo least limit old on (set raises m empty) rest b
   taken_more {raises} {machines} {rest} so {m} popped empty none turn =
-      let are = so.are_listed in let low = so.low in let more = turn.low in let long = so.long
+      let are = so.left.are_listed in let low = so.low in let more = turn.low in let long = so.left.long
       in let known = first_known are popped
       in record {
-        are_listed = listed_less are popped empty none;
-        long = length-set raises m empty ∙ so.long;
-        smaller = λ n. elim (cases_eq n m) [
-          | inl e ↦ (let z = raise_emptied are popped empty none n e in omega arith)
-          | inr ne ↦ (let f = ap (λ (r : Raise). r.to)
-              (raise_elsewhere are popped empty none n ne)
-              in let s = so.smaller n in omega arith)
-        ];
+        left = left_less so.left popped empty none;
         low = omega arith;
         covers = λ under n. elim (so.covers (omega arith) n) [
           | inl same ↦ elim (cases_eq n m) [
@@ -137,15 +148,9 @@ module _ {least limit : ℕ} {old : List Raise} {on : ℕ → List Lane} where
       → spans_between (raise_of old m).from (raise_of old m).to (on m) ≤ bound
       → IsTakenSo least limit old on (set raises m empty) rest bound
   taken_passed {raises} {machines} {rest} so {m} popped empty none under =
-      let are = so.are_listed
+      let are = so.left.are_listed
       in record {
-        are_listed = listed_less are popped empty none;
-        long = length-set raises m empty ∙ so.long;
-        smaller = λ n. elim (cases_eq n m) [
-          | inl e ↦ (let z = raise_emptied are popped empty none n e in omega arith)
-          | inr ne ↦ (let f = ap (λ (r : Raise). r.to) (raise_elsewhere are popped empty none n ne)
-              in let s = so.smaller n in omega arith)
-        ];
+        left = left_less so.left popped empty none;
         low = so.low;
         covers = λ below n. elim (so.covers below n) [
           | inl same ↦ elim (cases_eq n m) [
@@ -162,7 +167,7 @@ module _ {least limit : ℕ} {old : List Raise} {on : ℕ → List Lane} where
       → AreEmpty raises × (bound < limit → (m : ℕ)
       → spans_between (raise_of old m).from (raise_of old m).to (on m) ≤ bound)
   taken_all {raises} none so =
-      let empty = all_empty raises (subst (AreListed raises) none so.are_listed)
+      let empty = all_empty raises (subst (AreListed raises) none so.left.are_listed)
       in (
         empty,
         λ under m. elim (so.covers under m) [
@@ -177,9 +182,7 @@ module _ {least limit : ℕ} {old : List Raise} {on : ℕ → List Lane} where
 -- what begins within the raises before, but for those that are left, is no more than a number for each machine
 pub record IsFoundSo (least : ℕ) (old : List Raise) (on : ℕ → List Lane) (raises : List Raise)
     (machines cs : List ℕ) (greatest : ℕ) : Type 0 where
-  pub are_listed : AreListed raises machines
-  pub long : length raises ≡ length old
-  pub smaller : (m : ℕ) → (raise_of raises m).to ≤ (raise_of old m).to
+  pub left : AreLeft old raises machines
   pub low : least ≤ greatest
   pub least_of : (m : ℕ) → m < length cs → least ≤ get_or cs m 0
   pub covers : (m : ℕ) → m < length cs → (raise_of old m ≡ raise_of raises m)
@@ -190,9 +193,7 @@ module _ {least : ℕ} {old : List Raise} {on : ℕ → List Lane} where
   pub found_begins : {machines cs : List ℕ} → AreListed old machines → ((m : ℕ) → m < length cs → get_or cs m 0 ≡ least)
       → IsFoundSo least old on old machines cs least
   found_begins listed all = record {
-    are_listed = listed;
-    long = refl;
-    smaller = λ m. omega arith;
+    left = record { are_listed = listed; long = refl; smaller = λ m. omega arith };
     low = omega arith;
     least_of = λ m here. (let a = all m here in omega arith);
     covers = λ m here. inl refl;
@@ -207,16 +208,10 @@ module _ {least : ℕ} {old : List Raise} {on : ℕ → List Lane} where
       → {now : ℕ} → greatest ≤ now → c ≤ now
       → IsFoundSo least old on (set raises m empty) rest cs' now
   found_more {raises} {machines} {rest} {cs} {cs'} so {m} popped empty none c wrote here spans above more kept =
-      let are = so.are_listed
+      let are = so.left.are_listed
       in let many = ap length wrote ∙ length-set cs m c
       in record {
-        are_listed = listed_less are popped empty none;
-        long = length-set raises m empty ∙ so.long;
-        smaller = λ n. elim (cases_eq n m) [
-          | inl e ↦ (let z = raise_emptied are popped empty none n e in omega arith)
-          | inr ne ↦ (let f = ap (λ (r : Raise). r.to) (raise_elsewhere are popped empty none n ne)
-              in let s = so.smaller n in omega arith)
-        ];
+        left = left_less so.left popped empty none;
         low = (let a = so.low in omega arith);
         least_of = λ n there. elim (cases_eq n m) [
           | inl e ↦ (let a = at_m n e in let b = so.least_of m here in omega arith)
@@ -249,7 +244,7 @@ module _ {least : ℕ} {old : List Raise} {on : ℕ → List Lane} where
       → AreEmpty raises × ((m : ℕ) → m < length cs
       → spans_between (raise_of old m).from (raise_of old m).to (on m) ≤ get_or cs m 0)
   found_all {raises} none so =
-      let empty = all_empty raises (subst (AreListed raises) none so.are_listed)
+      let empty = all_empty raises (subst (AreListed raises) none so.left.are_listed)
       in (
         empty,
         λ m here. elim (so.covers m here) [

@@ -1,5 +1,5 @@
 -- An operation is struck out and its end raises heads: what is known of the bound then, and what is kept.
-use Rattle.std.proofs.Common.{◌≡◌, ℕ, ◌+◌, ◌≤◌, ◌<◌, max, min, inl, inr, List, [], ◌∷◌, ◌++◌, length}
+use Rattle.std.proofs.Common.{◌≡◌, ℕ, ◌+◌, ◌≤◌, ◌<◌, max, inl, inr, List, [], ◌∷◌, ◌++◌, length}
 use Rattle.std.proofs.Common.{get_or, set, refl, sym, ◌∙◌, ap, subst, arith}
 use Rattle.std.proofs.lemmas.Bool.{cases_eq, cases_lt, eq-eqb, ne_eqb}
 use Rattle.std.proofs.lemmas.Grind.{get_or-set_at}
@@ -172,16 +172,16 @@ module _ {greatest : ℕ} {shop : Shop} {w : List ℕ} {l : LayoutState} {rows :
     (advancing : IsAdvancing greatest shop w l rows nexts j least) (ceilings : List ℕ)
     (are : AreChildCeilings shop w l j ceilings) {now : Rows} (kept : AreHeadsInLanes greatest shop (w ++ j ∷ []) l now)
     (raises : List Raise) (fits : AreRaisesFit greatest raises l now) where
-  pub trial_under : length raises ≡ shop.machines → AreUnder ceilings raises l now (min (least + 1) greatest)
+  pub trial_under : length raises ≡ shop.machines → AreUnder ceilings raises l now (least + 1)
   trial_under many m here known =
       let own = machine_of shop j ((placing shop w).steps j)
       in let end = (place_next shop (placing shop w) j).free own + 1
       in let after = advancing.foreseen in let ends = after.ends in let end_is = after.next.end_is
       in let fit = fits.fits m known in let most = (raise_of raises m).to
-      in spans_each (max (min (least + 1) greatest) (get_or ceilings m 0)) (raise_of raises m).from (raise_of raises m).to
+      in spans_each (max (least + 1) (get_or ceilings m 0)) (raise_of raises m).from (raise_of raises m).to
       (lanes_on now l m) (λ h above up. elim (cases_lt (floor_on own end m) h) [
-        | inl later ↦ (let c = are now (next_heads advancing.kept.kept j advancing.fits kept) kept.times kept.tails m here
-            (omega arith) h later in omega arith)
+        | inl later ↦ (let c = are now (next_heads advancing.kept.kept j advancing.fits kept) kept.times kept.tails
+            m here (omega arith) h later in omega arith)
         | inr early ↦ elim (cases_eq m own) [
           | inl on ↦ (let all : floor_on own end m ≡ end = rw (eq-eqb m own on) refl
               in let ahead = its_ahead advancing.kept.kept j advancing.fits kept after m (omega arith)

@@ -78,7 +78,8 @@ watch_first : (own end : ℕ) (ms old new : List ℕ) (raises : List Raise) (p :
 watch_first own end ms old new raises p wrote within on = record {
   long = refl;
   seen = λ was so. seen_first (floor_on own end) ms old new raises p end wrote within was
-      (let floor : floor_on own end (get_or ms p 0) ≡ end = rw (eq-eqb (get_or ms p 0) own on) refl in inl (omega arith))
+      (let floor : floor_on own end (get_or ms p 0) ≡ end = rw (eq-eqb (get_or ms p 0) own on) refl
+      in inl (omega arith))
       so;
   up_to = λ top small up_to. up_to;
 }

@@ -1,5 +1,6 @@
 pub mod HeadRaises
 pub mod JobSets
+pub mod LaidLanes
 pub mod LaneBounds
 pub mod LaneChoices
 pub mod LaneEnds

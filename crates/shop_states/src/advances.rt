@@ -12,6 +12,7 @@ ghost use Rattle.shop_states.specs.inner.LaneStates.{GoesOn, IsKeptInLanes};
 ghost use Rattle.shop_layout.specs.Lanes.{rows_of};
 ghost use Rattle.shop_states.specs.inner.MachineRaises.{AreEmpty};
 
+use crate::lane_bounds::LaidLanes;
 use crate::lane_ends::set_end_of;
 use crate::machine_raises::MachineRaises;
 use shop_lanes::StateLanes;
@@ -82,7 +83,8 @@ pub(crate) fn advance_below<L: StateLanes>(
     let end = lanes.head(position) + routes.time(position);
     lanes.set_head(position, 0);
     let raised = raises.raise(lanes, grid, &routes, next, machine, end);
-    let bound = raises.take_bound(raised, ceilings, lanes, grid, least, limit);
+    let laid = LaidLanes { lanes, grid };
+    let bound = raises.take_bound(raised, ceilings, &laid, least, limit);
     if limit <= bound {
         return None;
     }

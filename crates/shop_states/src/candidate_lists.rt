@@ -125,8 +125,8 @@ fn list_words<L: StateLanes>(
     others
 }
 
-/// The next operation that can end first: that of job `chosen`, on `machine`. `end` is its end, one higher, like heads in
-/// lanes.
+/// The next operation that can end first: that of job `chosen`, on `machine`. `end` is its end, one higher, like
+/// heads in lanes.
 #[derive(Clone, Copy)]
 pub(crate) struct FirstEnd {
     pub chosen: usize,

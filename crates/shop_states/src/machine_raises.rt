@@ -1,9 +1,10 @@
 // The raises of heads on each machine in a dispatch, and the bound that they give.
-ghost use Rattle.std.specs.Prelude.{◌≡◌, ℕ, ◌+◌, ◌≤◌, ◌<◌, ◌^◌, IfOk, length, min, replicate};
+ghost use Rattle.std.specs.Prelude.{◌≡◌, ℕ, ◌+◌, ◌≤◌, ◌<◌, ◌^◌, IfOk, length, replicate};
 ghost use Rattle.shop_lanes.specs.Spans.{spans_between};
 ghost use Rattle.shop_states.specs.inner.Ceilings.{AreUnder};
 ghost use Rattle.shop_states.specs.inner.HeadRaises.{nothing_raised, raise_of, raises_in};
 ghost use Rattle.shop_layout.specs.Lanes.{lanes_on, rows_of};
+ghost use Rattle.shop_states.specs.inner.LaidLanes.{laid_rows};
 ghost use Rattle.shop_states.specs.inner.MachineRaises.{AreEmpty, AreListed, AreRaisesFit, CanTakeSpans};
 ghost use Rattle.shop_states.specs.inner.RaiseCalls.{CanRaise, HasRaised};
 ghost use Rattle.shop_states.specs.inner.Raises.{HasBlocks, IsOnMachine};
@@ -12,7 +13,7 @@ ghost use Rattle.shop_states.specs.inner.Siblings.{RaisesBehind};
 ghost use Rattle.shop_states.specs.inner.Watchers.{AreKnown, Watches, no_floor};
 
 use crate::head_raises::{LaneRaise, no_raise};
-use crate::lane_bounds::{take_ceilings, take_spans};
+use crate::lane_bounds::{LaidLanes, take_ceilings, take_spans};
 use crate::machine_sets::MachineSet;
 use crate::raises::raise;
 use crate::siblings::{Latest, raise_late};
@@ -101,39 +102,36 @@ impl<L: StateLanes> MachineRaises<L> {
     /// that head on. May stop once the bound reaches `limit`. Empties the raises. Skips a machine whose ceiling, if it
     /// has one, is at most one more than the bound so far.
     #[inline(always)]
-    pub fn take_bound(
+    pub(crate) fn take_bound(
         &mut self,
         raised: MachineSet,
         ceilings: &[u64],
-        lanes: &L,
-        grid: &Grid<L>,
+        laid: &LaidLanes<L>,
         least: u64,
         limit: u64,
     ) -> u64
         requires limit { limit < 2 ^ 63 }
         requires below { least < limit }
         requires listed { AreListed self.old raised }
-        requires times { length grid.now.times ≡ length (L.heads lanes.now) }
-        requires tails { length grid.now.tails ≡ length grid.now.times }
-        requires fits { AreRaisesFit L.GREATEST self.old grid.now
-            (rows_of grid.now (L.heads lanes.now) (L.ends lanes.now)) }
-        requires under { AreUnder ceilings.now self.old grid.now
-            (rows_of grid.now (L.heads lanes.now) (L.ends lanes.now)) (min (least + 1) L.GREATEST) }
+        requires times { length laid.now.grid.now.times ≡ length (L.heads laid.now.lanes.now) }
+        requires tails { length laid.now.grid.now.tails ≡ length laid.now.grid.now.times }
+        requires fits { AreRaisesFit L.GREATEST self.old laid.now.grid.now
+            (laid_rows L.heads L.ends laid.now) }
+        requires under { AreUnder ceilings.now self.old laid.now.grid.now
+            (laid_rows L.heads L.ends laid.now) (least + 1) }
         ensures long { length self.new ≡ length self.old }
         ensures empty { AreEmpty self.new }
         ensures least { least ≤ result }
         ensures covers { result < limit → (m : ℕ) → spans_between (raise_of self.old m).from
             (raise_of self.old m).to
-            (lanes_on (rows_of grid.now (L.heads lanes.now) (L.ends lanes.now)) grid.now m)
+            (lanes_on (laid_rows L.heads L.ends laid.now) laid.now.grid.now m)
             ≤ result + 1 }
         ensures within { (c : ℕ) → least ≤ c → ((m above upto : ℕ) → m < length self.old
             → spans_between above upto
-            (lanes_on (rows_of grid.now (L.heads lanes.now) (L.ends lanes.now)) grid.now m) ≤ c + 1)
-            → result ≤ c }
+            (lanes_on (laid_rows L.heads L.ends laid.now) laid.now.grid.now m) ≤ c + 1) → result ≤ c }
     {
         let raises = self.raises.as_mut_slice();
-        let most = (least + 1).min(L::GREATEST);
-        let spans = take_spans(raises, raised, ceilings, lanes, grid, most, limit + 1);
+        let spans = take_spans(raises, raised, ceilings, laid, least + 1, limit + 1);
         least.max(spans.saturating_sub(1))
     }
 
@@ -179,24 +177,23 @@ impl<L: StateLanes> MachineRaises<L> {
         &mut self,
         raised: MachineSet,
         ceilings: &mut [u64],
-        lanes: &L,
-        grid: &Grid<L>,
+        laid: &LaidLanes<L>,
         least: u64,
         limit: u64,
     ) -> u64
         requires least { least < 2 ^ 63 }
-        requires can { CanTakeSpans L.GREATEST self.old raised grid.now
-            (rows_of grid.now (L.heads lanes.now) (L.ends lanes.now)) (min (least + 1) L.GREATEST) }
+        requires can { CanTakeSpans L.GREATEST self.old raised laid.now.grid.now
+            (laid_rows L.heads L.ends laid.now) }
         requires room { length ceilings.old ≡ length self.old }
         requires computable { L.GREATEST < 2 ^ 64 }
-        ensures bounds { (b : ℕ) → b ≡ result + 1 → BoundsRaises grid.now
-            (rows_of grid.now (L.heads lanes.now) (L.ends lanes.now))
+        ensures bounds { (b : ℕ) → b ≡ result + 1 → BoundsRaises laid.now.grid.now
+            (laid_rows L.heads L.ends laid.now)
             self.old self.new ceilings.new (least + 1) b }
         ensures long { length ceilings.new ≡ length ceilings.old }
     {
         let raises = self.raises.as_mut_slice();
         let limit = limit.saturating_add(1);
-        let most = take_ceilings(raises, raised, ceilings, lanes, grid, least + 1, limit);
+        let most = take_ceilings(raises, raised, ceilings, laid, least + 1, limit);
         most - 1
     }
 }

@@ -19,6 +19,7 @@ ghost use Rattle.shop_states.specs.inner.Watchers.{AreKnown, Watches, no_floor};
 
 use crate::dispatching::Candidate;
 use crate::head_raises::{LaneRaise, see};
+use crate::lane_bounds::LaidLanes;
 use crate::machine_raises::MachineRaises;
 use crate::machine_sets::MachineSet;
 use crate::raises::raise_route;
@@ -281,5 +282,5 @@ pub(crate) fn bound_children<L: StateLanes>(
     let (from, to) = positions_of(grid, machine);
     let raised = raises.raise_late(lanes, &routes, from, to, last, latest);
     let limit = greatest_own(candidates, bound).saturating_add(2);
-    raises.take_ceilings(raised, ceilings, lanes, grid, bound, limit)
+    raises.take_ceilings(raised, ceilings, &LaidLanes { lanes, grid }, bound, limit)
 }

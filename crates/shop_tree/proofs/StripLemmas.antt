@@ -125,12 +125,3 @@ module _ {S : Type 0} {is : List ℕ → S → Type 0} {of : Candidate → Type 
         stack = lies.put;
         trying = turn_kept some (still_trying less.left less.opens less.states) now is_word child lies wanted;
       }
-
--- a state that was taken is room for one
-pub slot_taken : {S : Type 0} (slot : S → Type 0) (from : ℕ) (old new : List (Held S)) (state : Option (Box S))
-    → AreSlotsFrom slot from old → HasStripped from old new state → IsHeldOf (λ v s. slot s) [] state
-slot_taken slot from old new state are (inl none) =
-    subst (λ (b : Option (Box _)). IsHeldOf (λ v s. slot s) [] b) (sym none.1) tt
-slot_taken slot from old new state are (inr (i, (h, at))) =
-    subst (λ (b : Option (Box _)). IsHeldOf (λ v s. slot s) [] b) (sym at.taken)
-    (subst (λ (x : Held _). IsHeldOf (λ v s. slot s) [] x.state) (sym at.is) (are i h at.low at.within))

@@ -1,4 +1,6 @@
 -- What the passes for own spans keep.
+--     CanOwn value greatest rows owns  rows of whole blocks have room in `owns` for their own spans
+--     WritesOwnSpans value rows ..     `new` has the own span of each operation that waits
 --     rank_of count p                  the rank of place p in `count` blocks
 --     AreClocks .. count xs j          the clock in each column before j blocks down, with all served
 --                                      by rank from 0 on
@@ -6,9 +8,11 @@
 --     AreLoadsBehind                   the loads behind j blocks down each column
 use Rattle.std.specs.Prelude.{◌≡◌, ℕ, ◌+◌, ◌*◌, ◌/◌, ◌%◌, ◌<◌, max, List, length, map, take, drop}
 use Rattle.std.specs.Prelude.{slice_index, slice_set, get_or}
-use Rattle.shop_lanes.specs.Rows.{Lane, lanes, by_columns}
-use Rattle.shop_lanes.specs.Spans.{span}
-use Rattle.shop_lanes.specs.inner.Passes.{clock_after, lanes_by, eight}
+use Rattle.shop_lanes.specs.Rows.{Lane, lanes, lanes_in, by_columns}
+use Rattle.shop_lanes.specs.Spans.{span, FitOwnSpans}
+use Rattle.shop_lanes.specs.declared.lane_rows.LaneRows.{LaneRows}
+use Rattle.shop_lanes.specs.declared.owning.ColumnEnds.{ColumnEnds}
+use Rattle.shop_lanes.specs.inner.Passes.{clock_after, eight}
 
 abbrev pub rank_of : ℕ → ℕ → ℕ
 rank_of count p = p % 8 * count + p / 8
@@ -31,12 +35,20 @@ pub record AreLoadsBehind {B : Type 0} (numbers : B → List ℕ) (count : ℕ) 
   pub long : length (numbers behind) ≡ 8
   pub each : (k : ℕ) → k < 8 → IsLoadBehind xs (k * count + j) (get_or (numbers behind) k 0)
 
+-- when the columns begin and end, and the greatest ends before and behind them
+pub record AreEnds {B : Type 0} (numbers : B → List ℕ) (count : ℕ) (xs : List Lane) (ends : ColumnEnds B)
+    : Type 0 where
+  pub begins : AreClocks numbers count xs 0 ends.begins
+  pub before : AreLoadsBefore numbers count xs ends.before
+  pub clocks : AreClocks numbers count xs count ends.clocks
+  pub behind : AreLoadsBehind numbers count xs count ends.behind
+
 -- each position has the load of the lanes before it in its column
-abbrev pub AreNoted : {A : Type 0} → (A → ℕ) → List A → List A → List A → List A → Type 0
-AreNoted value heads times tails noted =
-    let count = length heads / 8
-    in (p : ℕ) → p < length heads → slice_index (map value noted) p
-    ≡ span 1 0 (take (p / 8) (drop (p % 8 * count) (lanes_by value heads times tails)))
+abbrev pub AreNoted : {A : Type 0} → (A → ℕ) → LaneRows A → List A → Type 0
+AreNoted value rows noted =
+    let count = length rows.heads.now / 8
+    in (p : ℕ) → p < length rows.heads.now → slice_index (map value noted) p
+    ≡ span 1 0 (take (p / 8) (drop (p % 8 * count) (lanes_in value rows)))
 
 -- the own span of place p of `count` blocks
 abbrev pub own_span_at : ℕ → List ℕ → List ℕ → List ℕ → ℕ → ℕ
@@ -44,8 +56,17 @@ own_span_at count heads times tails p =
     let end = slice_index heads p + slice_index times p
     in max end (span 1 end (by_columns count (lanes (slice_set heads p 0) times tails)))
 
-abbrev pub AreOwnSpansOf : {A : Type 0} → (A → ℕ) → List A → List A → List A → List A → Type 0
-AreOwnSpansOf value heads times tails owns =
-    (p : ℕ) → p < length heads → 0 < slice_index (map value heads) p
-    → slice_index (map value owns) p
-    ≡ own_span_at (length heads / 8) (map value heads) (map value times) (map value tails) p
+abbrev pub AreOwnSpansOf : {A : Type 0} → (A → ℕ) → LaneRows A → List A → Type 0
+AreOwnSpansOf value rows owns =
+    let row = map value
+    in (p : ℕ) → p < length rows.heads.now → 0 < slice_index (row rows.heads.now) p → slice_index (row owns) p
+    ≡ own_span_at (length rows.heads.now / 8) (row rows.heads.now) (row rows.times.now) (row rows.tails.now) p
+
+pub record CanOwn {A : Type 0} (value : A → ℕ) (greatest : ℕ) (rows : LaneRows A) (owns : List A) : Type 0 where
+  pub whole_blocks : length rows.heads.now % 8 ≡ 0
+  pub room : length owns ≡ length rows.heads.now
+  pub fits : FitOwnSpans greatest (lanes_in value rows)
+
+pub record WritesOwnSpans {A : Type 0} (value : A → ℕ) (rows : LaneRows A) (old new : List A) : Type 0 where
+  pub long : length new ≡ length old
+  pub owns : AreOwnSpansOf value rows new

@@ -3,12 +3,12 @@
 --                                    these are served in order from `start` on
 --     column count xs k              of lanes in order of rank, column k of `count` blocks
 --     eight f                        the numbers that a function gives for each of eight columns
-use Rattle.std.specs.Prelude.{◌≡◌, ◌≢◌, ℕ, ◌+◌, ◌*◌, ◌-◌, ◌/◌, ◌%◌, take, drop, replicate, ◌<◌, ◌≤◌}
+use Rattle.std.specs.Prelude.{◌≡◌, ◌≢◌, ℕ, ◌+◌, ◌*◌, ◌-◌, ◌%◌, take, drop, replicate, ◌<◌, ◌≤◌}
 use Rattle.std.specs.Prelude.{length, max, List, [], ◌∷◌, if◌then◌else◌, nat_le}
-use Rattle.std.specs.Prelude.{get_or, map}
+use Rattle.std.specs.Prelude.{get_or}
 use Rattle.std.specs.Simd.Lanes.{zip2}
 use Rattle.shop_lanes.specs.Eights.{first_of, added, waiting, AddsFit}
-use Rattle.shop_lanes.specs.Rows.{Lane, lanes, by_columns}
+use Rattle.shop_lanes.specs.Rows.{Lane}
 use Rattle.shop_lanes.specs.Spans.{span}
 
 abbrev pub clock_after : ℕ → ℕ → List Lane → ℕ
@@ -17,14 +17,6 @@ clock_after least start (x ∷ xs) =
     if nat_le least x.head
     then clock_after least (start + x.time) xs
     else clock_after least start xs
-
--- the lanes of three rows of whole blocks, in order of rank; `value` reads an element as a number
-abbrev pub lanes_by : {A : Type 0} → (A → ℕ) → List A → List A → List A → List Lane
-lanes_by value heads times tails =
-    by_columns (length heads / 8) (lanes (map value heads) (map value times) (map value tails))
-
-abbrev pub span_by : {A : Type 0} → (A → ℕ) → List A → List A → List A → ℕ → ℕ → ℕ
-span_by value heads times tails least start = span least start (lanes_by value heads times tails)
 
 abbrev pub column : ℕ → List Lane → ℕ → List Lane
 column count xs k = take count (drop (k * count) xs)

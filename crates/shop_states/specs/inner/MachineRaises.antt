@@ -2,13 +2,17 @@
 --     AreEmpty raises                no head rose on any machine
 --     AreListed raises machines      the machines with a raise are in a list
 --     AreRaisesFit greatest ..       each machine has its blocks, and a span from its raise fits
+--     CanBoundRows value greatest .. spans of `each` blocks, if that is known, from within a raise on
+--                                    fit into lanes
 --     IsSpanByRaise ..               the greater of a number and of the spans from within a raise on
 --     CanTakeSpans greatest ..       the spans from within these raises on fit into lanes
 --     TakesSpans ..                  the greatest of a number and of these spans; the raises are empty
 --                                    afterwards
-use Rattle.std.specs.Prelude.{◌≡◌, ℕ, ◌+◌, ◌≤◌, ◌<◌, List, length, slice_index}
-use Rattle.shop_lanes.specs.Rows.{Rows, Lane, AreBlocks}
+use Rattle.std.specs.Prelude.{◌≡◌, ℕ, ◌+◌, ◌*◌, ◌%◌, ◌≤◌, ◌<◌, List, length, slice_index}
+use Rattle.shop_lanes.specs.Rows.{Rows, Lane, AreBlocks, lanes_in}
 use Rattle.shop_lanes.specs.Spans.{spans_between, FitsSpan}
+use Rattle.shop_lanes.specs.declared.lane_rows.LaneRows.{LaneRows}
+use Rattle.shop_states.specs.declared.head_raises.LaneRaise.{LaneRaise}
 use Rattle.shop_states.specs.inner.HeadRaises.{Raise, raise_of}
 use Rattle.shop_states.specs.inner.RisingLists.{IsIn}
 use Rattle.shop_layout.specs.Lanes.{lanes_on}
@@ -32,6 +36,13 @@ pub record AreRaisesFit (greatest : ℕ) (raises : List Raise) (l : LayoutState)
   pub fits : (m : ℕ) → m < length raises
       → FitsSpan greatest (raise_of raises m).to (lanes_on rows l m)
 
+pub record CanBoundRows {N : Type 0} (value : N → ℕ) (greatest each : ℕ) (rows : LaneRows N) (raise : LaneRaise N)
+    : Type 0 where
+  pub whole_blocks : length rows.heads.now % 8 ≡ 0
+  pub count : 0 < each → length rows.heads.now ≡ 8 * each
+  pub below : value raise.to < greatest
+  pub fits : FitsSpan greatest (value raise.to) (lanes_in value rows)
+
 -- r is at least `least`, and no more than that and the spans of these lanes; if it is below the
 -- limit, no span that begins within the raise is more
 pub record IsSpanByRaise (raise : Raise) (xs : List Lane) (limit least r : ℕ) : Type 0 where
@@ -41,9 +52,8 @@ pub record IsSpanByRaise (raise : Raise) (xs : List Lane) (limit least r : ℕ) 
       → r ≤ c
 
 pub record CanTakeSpans (greatest : ℕ) (raises : List Raise) (raised : List ℕ) (l : LayoutState)
-    (rows : Rows) (least : ℕ) : Type 0 where
+    (rows : Rows) : Type 0 where
   pub listed : AreListed raises raised
-  pub least_fits : least ≤ greatest
   pub times : length l.times ≡ length rows.heads
   pub tails : length l.tails ≡ length l.times
   pub fits : AreRaisesFit greatest raises l rows

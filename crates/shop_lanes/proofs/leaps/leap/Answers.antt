@@ -1,6 +1,6 @@
 use Rattle.std.proofs.Common.{◌+◌, arith, rules}
 use Rattle.shop_lanes.proofs.LeapTurns.{leaps_end, leaps_reached, leaps_within, leaps_past, load_fits, leap}
-use Rattle.shop_lanes.proofs.AnyOrder.{nearest_of_rows, next_head}
+use Rattle.shop_lanes.proofs.AnyOrder.{nearest_in, next_head}
 use Rattle.shop_lanes.proofs.leaps.leap.Goals as goal
 
 pub overflow_add-upto : goal.overflow_add-upto
@@ -20,17 +20,15 @@ returns-then-upto-load g c =
 
 pub returns-then-ahead-upto : goal.returns-then-ahead-upto
 returns-then-ahead-upto g c = leaps_past c.loop-settled.invariant c.load_of-load.ensures g.B.Block.GREATEST
-    (nearest_of_rows g.B.Block.value c.args.heads.now c.args.times.now c.args.tails.now c.args.count c.requires.count
-    c.requires.whole_blocks c.requires.times c.requires.tails g.B.Block.GREATEST (c.loop-settled.settled + 1)
+    (nearest_in g.B.Block.value c.args.rows.now c.requires.whole_blocks g.B.Block.GREATEST (c.loop-settled.settled + 1)
     c.nearest_of-ahead.result
     (let below = c.requires.below in let left = c.loop-settled-test.true in omega arith) c.nearest_of-ahead.ensures)
     (let far = c.if-ahead-upto.true in let below = c.requires.below in omega arith) c.args.limit
 
 pub returns-then-bound-limit : goal.returns-then-bound-limit
 returns-then-bound-limit g c = leaps_reached (leap c.loop-settled.invariant c.load_of-load.ensures g.B.Block.GREATEST
-    (next_head g.B.Block.value c.args.heads.now c.args.times.now c.args.tails.now c.args.count c.requires.count
-    c.requires.whole_blocks c.requires.times c.requires.tails g.B.Block.GREATEST (c.loop-settled.settled + 1)
-    c.nearest_of-ahead.result c.args.upto c.requires.below
+    (next_head g.B.Block.value c.args.rows.now c.requires.whole_blocks g.B.Block.GREATEST (c.loop-settled.settled + 1)
+    c.nearest_of-ahead.result c.args.range.upto c.requires.below
     c.nearest_of-ahead.ensures (let near = c.if-ahead-upto.false in let left = c.loop-settled-test.true in omega arith))
     c.loop-settled-test.true (let near = c.if-ahead-upto.false in let left = c.loop-settled-test.true in omega arith)
     c.requires.below c.max-bound.result (search rules))
@@ -38,9 +36,8 @@ returns-then-bound-limit g c = leaps_reached (leap c.loop-settled.invariant c.lo
 
 pub loop-settled-preserved : goal.loop-settled-preserved
 loop-settled-preserved g c = leap c.loop-settled.invariant c.load_of-load.ensures g.B.Block.GREATEST
-    (next_head g.B.Block.value c.args.heads.now c.args.times.now c.args.tails.now c.args.count c.requires.count
-    c.requires.whole_blocks c.requires.times c.requires.tails g.B.Block.GREATEST (c.loop-settled.settled + 1)
-    c.nearest_of-ahead.result c.args.upto c.requires.below
+    (next_head g.B.Block.value c.args.rows.now c.requires.whole_blocks g.B.Block.GREATEST (c.loop-settled.settled + 1)
+    c.nearest_of-ahead.result c.args.range.upto c.requires.below
     c.nearest_of-ahead.ensures (let near = c.if-ahead-upto.false in let left = c.loop-settled-test.true in omega arith))
     c.loop-settled-test.true (let near = c.if-ahead-upto.false in let left = c.loop-settled-test.true in omega arith)
     c.requires.below c.max-bound.result (search rules)

@@ -1,104 +1,107 @@
 use Rattle.std.proofs.Common.{◌∙◌, ◌-◌, ap, sym, length, arith}
-use Rattle.shop_lanes.proofs.ColumnTurns.{columns_by}
+use Rattle.shop_lanes.proofs.ColumnTurns.{columns_in}
 use Rattle.shop_lanes.proofs.OwnColumns.{begins_fit, ends_fit, tails_fit, own_eight, late_eight, served_eight}
 use Rattle.shop_lanes.proofs.OwnColumns.{back_more, noted_fit, begun_long, first_long, heads_eight_long}
 use Rattle.shop_lanes.proofs.owning.write_back.Goals as goal
 
 pub sum-requires : goal.sum-requires
 sum-requires g c =
-    let cols = columns_by g.B.Block.value c.args.heads.now c.args.times.now c.args.tails.now c.args.count
-    c.requires.count c.requires.whole_blocks c.requires.times c.requires.tails
-    in noted_fit cols c.requires.fits (c.loop-block.block - 1)
+    let cols = columns_in g.B.Block.value c.args.rows.now c.args.count c.requires.count
+    c.requires.can.whole_blocks
+    in noted_fit cols c.requires.can.fits (c.loop-block.block - 1)
     (omega (arith, c.loop-block-test.true)) c.loop-block.invariant c.load-head.ensures c.load-time.ensures
-    c.load-tail.ensures c.load-noted.ensures c.splat-one.ensures c.requires.begins c.requires.before
+    c.load-tail.ensures c.load-noted.ensures c.splat-one.ensures c.requires.ends.begins c.requires.ends.before
 
 pub greater-first-requires : goal.greater-first-requires
 greater-first-requires g c =
-    let cols = columns_by g.B.Block.value c.args.heads.now c.args.times.now c.args.tails.now c.args.count
-    c.requires.count c.requires.whole_blocks c.requires.times c.requires.tails
-    in ap length c.requires.before ∙ sym (begun_long cols c.requires.fits (c.loop-block.block - 1)
+    let cols = columns_in g.B.Block.value c.args.rows.now c.args.count c.requires.count
+    c.requires.can.whole_blocks
+    in ap length c.requires.ends.before ∙ sym (begun_long cols c.requires.can.fits (c.loop-block.block - 1)
     (omega (arith, c.loop-block-test.true)) c.loop-block.invariant c.load-head.ensures c.load-time.ensures
-    c.load-tail.ensures c.load-noted.ensures c.splat-one.ensures c.requires.begins c.requires.before c.sum.ensures)
+    c.load-tail.ensures c.load-noted.ensures c.splat-one.ensures c.requires.ends.begins c.requires.ends.before
+    c.sum.ensures)
 
 pub own_ends-requires-clause-begins : goal.own_ends-requires-clause-begins
 own_ends-requires-clause-begins g c =
-    let cols = columns_by g.B.Block.value c.args.heads.now c.args.times.now c.args.tails.now c.args.count
-    c.requires.count c.requires.whole_blocks c.requires.times c.requires.tails
-    in begins_fit cols c.requires.fits (c.loop-block.block - 1)
+    let cols = columns_in g.B.Block.value c.args.rows.now c.args.count c.requires.count
+    c.requires.can.whole_blocks
+    in begins_fit cols c.requires.can.fits (c.loop-block.block - 1)
     (omega (arith, c.loop-block-test.true)) c.loop-block.invariant c.load-head.ensures c.load-time.ensures
-    c.load-tail.ensures c.load-noted.ensures c.splat-one.ensures c.requires.begins c.requires.before
+    c.load-tail.ensures c.load-noted.ensures c.splat-one.ensures c.requires.ends.begins c.requires.ends.before
     c.sum.ensures c.greater-first.ensures
 
 pub own_ends-requires-clause-ends : goal.own_ends-requires-clause-ends
 own_ends-requires-clause-ends g c =
-    let cols = columns_by g.B.Block.value c.args.heads.now c.args.times.now c.args.tails.now c.args.count
-    c.requires.count c.requires.whole_blocks c.requires.times c.requires.tails
-    in ends_fit cols c.requires.fits (c.loop-block.block - 1)
+    let cols = columns_in g.B.Block.value c.args.rows.now c.args.count c.requires.count
+    c.requires.can.whole_blocks
+    in ends_fit cols c.requires.can.fits (c.loop-block.block - 1)
     (omega (arith, c.loop-block-test.true)) c.loop-block.invariant c.load-head.ensures c.load-time.ensures
-    c.load-tail.ensures c.load-noted.ensures c.splat-one.ensures c.requires.begins c.requires.before
+    c.load-tail.ensures c.load-noted.ensures c.splat-one.ensures c.requires.ends.begins c.requires.ends.before
     c.sum.ensures c.greater-first.ensures
 
 pub store-requires-clause-eight : goal.store-requires-clause-eight
 store-requires-clause-eight g c =
-    let cols = columns_by g.B.Block.value c.args.heads.now c.args.times.now c.args.tails.now c.args.count
-    c.requires.count c.requires.whole_blocks c.requires.times c.requires.tails
-    in ap length (own_eight cols c.requires.fits (c.loop-block.block - 1)
+    let cols = columns_in g.B.Block.value c.args.rows.now c.args.count c.requires.count
+    c.requires.can.whole_blocks
+    in ap length (own_eight cols c.requires.can.fits (c.loop-block.block - 1)
     (omega (arith, c.loop-block-test.true)) c.loop-block.invariant c.load-head.ensures c.load-time.ensures
-    c.load-tail.ensures c.load-noted.ensures c.splat-one.ensures c.requires.begins c.requires.before
+    c.load-tail.ensures c.load-noted.ensures c.splat-one.ensures c.requires.ends.begins c.requires.ends.before
     c.sum.ensures c.greater-first.ensures c.own_ends.ensures)
 
 pub sum-late-requires : goal.sum-late-requires
 sum-late-requires g c =
-    let cols = columns_by g.B.Block.value c.args.heads.now c.args.times.now c.args.tails.now c.args.count
-    c.requires.count c.requires.whole_blocks c.requires.times c.requires.tails
-    in tails_fit cols c.requires.fits (c.loop-block.block - 1)
+    let cols = columns_in g.B.Block.value c.args.rows.now c.args.count c.requires.count
+    c.requires.can.whole_blocks
+    in tails_fit cols c.requires.can.fits (c.loop-block.block - 1)
     (omega (arith, c.loop-block-test.true)) c.loop-block.invariant c.load-head.ensures c.load-time.ensures
-    c.load-tail.ensures c.load-noted.ensures c.splat-one.ensures c.requires.begins c.requires.before
+    c.load-tail.ensures c.load-noted.ensures c.splat-one.ensures c.requires.ends.begins c.requires.ends.before
     c.sum.ensures c.greater-first.ensures c.waiting.ensures
 
 pub greater-behind-requires : goal.greater-behind-requires
 greater-behind-requires g c =
-    let cols = columns_by g.B.Block.value c.args.heads.now c.args.times.now c.args.tails.now c.args.count
-    c.requires.count c.requires.whole_blocks c.requires.times c.requires.tails
-    in c.loop-block.invariant.behind_long ∙ sym (ap length (late_eight cols c.requires.fits (c.loop-block.block - 1)
+    let cols = columns_in g.B.Block.value c.args.rows.now c.args.count c.requires.count
+    c.requires.can.whole_blocks
+    in c.loop-block.invariant.behind_long ∙ sym (ap length (late_eight cols c.requires.can.fits (c.loop-block.block - 1)
     (omega (arith, c.loop-block-test.true)) c.loop-block.invariant c.load-head.ensures c.load-time.ensures
-    c.load-tail.ensures c.load-noted.ensures c.splat-one.ensures c.requires.begins c.requires.before
+    c.load-tail.ensures c.load-noted.ensures c.splat-one.ensures c.requires.ends.begins c.requires.ends.before
     c.sum.ensures c.greater-first.ensures c.waiting.ensures c.sum-late.ensures))
 
 pub less-clocks-requires : goal.less-clocks-requires
 less-clocks-requires g c =
-    let cols = columns_by g.B.Block.value c.args.heads.now c.args.times.now c.args.tails.now c.args.count
-    c.requires.count c.requires.whole_blocks c.requires.times c.requires.tails
-    in ap length c.loop-block.invariant.clocks_are ∙ sym (ap length (served_eight cols c.requires.fits (c.loop-block.block - 1)
+    let cols = columns_in g.B.Block.value c.args.rows.now c.args.count c.requires.count
+    c.requires.can.whole_blocks
+    in ap length c.loop-block.invariant.clocks_are ∙ sym (ap length
+    (served_eight cols c.requires.can.fits (c.loop-block.block - 1)
     (omega (arith, c.loop-block-test.true)) c.loop-block.invariant c.load-head.ensures c.load-time.ensures
-    c.load-tail.ensures c.load-noted.ensures c.splat-one.ensures c.requires.begins c.requires.before
+    c.load-tail.ensures c.load-noted.ensures c.splat-one.ensures c.requires.ends.begins c.requires.ends.before
     c.sum.ensures c.greater-first.ensures
     c.waiting-in-loop-block.ensures))
 
 pub loop-block-preserved : goal.loop-block-preserved
 loop-block-preserved g c =
-    let cols = columns_by g.B.Block.value c.args.heads.now c.args.times.now c.args.tails.now c.args.count
-    c.requires.count c.requires.whole_blocks c.requires.times c.requires.tails
-    in back_more cols c.requires.fits (c.loop-block.block - 1)
+    let cols = columns_in g.B.Block.value c.args.rows.now c.args.count c.requires.count
+    c.requires.can.whole_blocks
+    in back_more cols c.requires.can.fits (c.loop-block.block - 1)
     (omega (arith, c.loop-block-test.true)) c.loop-block.invariant c.load-head.ensures c.load-time.ensures
-    c.load-tail.ensures c.load-noted.ensures c.splat-one.ensures c.requires.begins c.requires.before
+    c.load-tail.ensures c.load-noted.ensures c.splat-one.ensures c.requires.ends.begins c.requires.ends.before
     c.sum.ensures c.greater-first.ensures
-    c.own_ends.ensures c.waiting.ensures c.sum-late.ensures c.waiting-in-loop-block.ensures c.store.ensures c.greater-behind.ensures
+    c.own_ends.ensures c.waiting.ensures c.sum-late.ensures c.waiting-in-loop-block.ensures c.store.ensures
+    c.greater-behind.ensures
     c.less-clocks.ensures
 
 pub own_ends-requires-clause-before : goal.own_ends-requires-clause-before
 own_ends-requires-clause-before g c =
-    let cols = columns_by g.B.Block.value c.args.heads.now c.args.times.now c.args.tails.now c.args.count
-    c.requires.count c.requires.whole_blocks c.requires.times c.requires.tails
-    in first_long cols c.requires.fits (c.loop-block.block - 1)
+    let cols = columns_in g.B.Block.value c.args.rows.now c.args.count c.requires.count
+    c.requires.can.whole_blocks
+    in first_long cols c.requires.can.fits (c.loop-block.block - 1)
     (omega (arith, c.loop-block-test.true)) c.loop-block.invariant c.load-head.ensures c.load-time.ensures
-    c.load-tail.ensures c.load-noted.ensures c.splat-one.ensures c.requires.begins c.requires.before
+    c.load-tail.ensures c.load-noted.ensures c.splat-one.ensures c.requires.ends.begins c.requires.ends.before
     c.sum.ensures c.greater-first.ensures
 
 pub waiting-requires-in-loop-block-clause-heads : goal.waiting-requires-in-loop-block-clause-heads
 waiting-requires-in-loop-block-clause-heads g c =
-    let cols = columns_by g.B.Block.value c.args.heads.now c.args.times.now c.args.tails.now c.args.count
-    c.requires.count c.requires.whole_blocks c.requires.times c.requires.tails
-    in heads_eight_long cols c.requires.fits (c.loop-block.block - 1)
+    let cols = columns_in g.B.Block.value c.args.rows.now c.args.count c.requires.count
+    c.requires.can.whole_blocks
+    in heads_eight_long cols c.requires.can.fits (c.loop-block.block - 1)
     (omega (arith, c.loop-block-test.true)) c.loop-block.invariant c.load-head.ensures c.load-time.ensures
-    c.load-tail.ensures c.load-noted.ensures c.splat-one.ensures c.requires.begins c.requires.before
+    c.load-tail.ensures c.load-noted.ensures c.splat-one.ensures c.requires.ends.begins c.requires.ends.before

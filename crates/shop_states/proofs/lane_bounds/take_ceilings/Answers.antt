@@ -1,56 +1,63 @@
-use Rattle.std.proofs.Common.{◌<◌, ◌∙◌, inl, inr, List, ap, arith, length, subst, sym, refl, set}
+use Rattle.std.proofs.Common.{◌<◌, ◌∙◌, inl, inr, List, arith, length, subst, sym, refl, set}
 use Rattle.std.proofs.lemmas.List.{length-map, length-set}
-use Rattle.shop_layout.specs.Lanes.{rows_of, lanes_on}
+use Rattle.shop_layout.specs.Lanes.{lanes_on}
 use Rattle.shop_states.specs.inner.HeadRaises.{Raise, nothing_raised, raise_in, raise_of, raises_in}
-use Rattle.shop_states.specs.inner.MachineRaises.{IsSpanByRaise}
+use Rattle.shop_states.specs.inner.LaidLanes.{laid_rows}
 use Rattle.shop_states.proofs.FittingSpans.{spans_within}
+use Rattle.shop_states.proofs.LookedUpRows.{can_bound, cut_ordered, cut_span, cut_within, its_blocks}
+use Rattle.shop_states.proofs.LookedUpRows.{its_known, its_small}
 use Rattle.shop_states.proofs.RaisedMachines.{IsFoundSo, first_known, found_all, found_more}
 use Rattle.shop_states.proofs.lane_bounds.take_ceilings.Goals as goal
 
 pub take_raise-raise-requires : goal.take_raise-raise-requires
 take_raise-raise-requires g c =
     let many = length-map c.loop-machine.raises (raise_in g.L.StateLanes.value)
-    in let known = first_known c.loop-machine.invariant.found.are_listed c.in-Some.ensures
+    in let known = first_known c.loop-machine.invariant.found.left.are_listed c.in-Some.ensures
     in omega arith
+
+pub blocks_of-from-requires : goal.blocks_of-from-requires
+blocks_of-from-requires g c =
+    let left = c.loop-machine.invariant.found.left
+    in record {
+      even = c.blocks_each-each.ensures;
+      small = its_small c.requires.can left c.in-Some.ensures;
+      known = its_blocks c.requires.can left c.in-Some.ensures;
+    }
+
+pub blocks-requires : goal.blocks-requires
+blocks-requires g c =
+    let left = c.loop-machine.invariant.found.left in let rows = c.rows-rows.ensures
+    in let blocks = c.blocks_of-from.ensures
+    in record {
+      ordered = cut_ordered c.requires.can left c.in-Some.ensures blocks.first blocks.behind;
+      within = cut_within c.requires.can left c.in-Some.ensures blocks.first blocks.behind g.L.StateLanes.value
+          c.rows-rows.result rows.heads;
+    }
 
 pub span_of_machine-span-requires : goal.span_of_machine-span-requires
 span_of_machine-span-requires g c =
-    let so = c.loop-machine.invariant.found
-    in let can = c.requires.can
-    in let long = so.long in let few = so.are_listed.few in let many = can.fits.known
-    in let known = first_known so.are_listed c.in-Some.ensures
-    in let below = can.fits.below c.in-Some.machine (omega arith)
-    in let fits = can.fits.fits c.in-Some.machine (omega arith)
-    in let smaller = so.smaller c.in-Some.machine
-    in let to = ap (λ (r : Raise). r.to) c.take_raise-raise.ensures.raise
-    in record {
-      small = omega arith;
-      known = omega arith;
-      blocks = can.fits.blocks c.in-Some.machine (omega arith);
-      times = can.times;
-      tails = can.tails;
-      least = (let is = c.min-most.ensures in omega arith);
-      below = omega arith;
-      fits = omega arith;
-    }
+    let left = c.loop-machine.invariant.found.left in let rows = c.rows-rows.ensures
+    in let blocks = c.blocks_of-from.ensures
+    in can_bound c.requires.can left c.in-Some.ensures blocks.first blocks.behind g.L.StateLanes.value
+    c.rows-rows.result rows.heads rows.times rows.tails c.blocks-in-Some.ensures c.take_raise-raise.ensures.raise
+    c.blocks_each-each.result blocks.count
 
 pub loop-machine-preserved : goal.loop-machine-preserved
 loop-machine-preserved g c =
     let so = c.loop-machine.invariant.found
-    in let can = c.requires.can
-    in let on = lanes_on (rows_of c.args.grid.now (g.L.StateLanes.heads c.args.lanes.now)
-    (g.L.StateLanes.ends c.args.lanes.now)) c.args.grid.now
+    in let can = c.requires.can in let rows = c.rows-rows.ensures in let blocks = c.blocks_of-from.ensures
+    in let on = lanes_on (laid_rows g.L.StateLanes.heads g.L.StateLanes.ends c.args.laid.now) c.args.laid.now.grid.now
     in let old = raises_in g.L.StateLanes.value c.args.raises.now
     in let m = c.in-Some.machine
-    in let known = first_known so.are_listed c.in-Some.ensures
-    in let long = so.long
-    in let fits = can.fits.fits m (omega arith)
-    in let smaller = so.smaller m
+    in let known = its_known can so.left c.in-Some.ensures
+    in let fits = can.fits.fits m known
+    in let smaller = so.left.smaller m
     in let from = (raise_of (raises_in g.L.StateLanes.value c.loop-machine.raises) m).from
     in let to = (raise_of (raises_in g.L.StateLanes.value c.loop-machine.raises) m).to
     in let all = spans_within g.L.StateLanes.GREATEST from to (on m) (omega arith) (on m)
-    in let span = subst (λ (r : Raise). IsSpanByRaise r (on m) c.args.limit c.min-most.result
-    c.span_of_machine-span.result) c.take_raise-raise.ensures.raise c.span_of_machine-span.ensures.spans
+    in let span = cut_span can so.left c.in-Some.ensures blocks.first blocks.behind g.L.StateLanes.value
+    c.rows-rows.result rows.heads rows.times rows.tails c.blocks-in-Some.ensures c.take_raise-raise.ensures.raise
+    c.span_of_machine-span.ensures
     in let small = c.requires.computable
     in let same = c.loop-machine.invariant.long in let room = c.requires.room
     in let many = length-map c.args.raises.now (raise_in g.L.StateLanes.value)
@@ -74,7 +81,7 @@ returns-clause-bounds g c =
     in let all = found_all c.in_default.ensures.0 so
     in record {
       empty = all.0;
-      long = so.long;
+      long = so.left.long;
       low = so.low;
       least_of = so.least_of;
       covers = all.1;
@@ -83,24 +90,24 @@ returns-clause-bounds g c =
 
 pub offset_bounds-ceilings-machine : goal.offset_bounds-ceilings-machine
 offset_bounds-ceilings-machine g c =
-    let known = first_known c.loop-machine.invariant.found.are_listed c.in-Some.ensures
-    in let few = c.loop-machine.invariant.found.are_listed.few in omega arith
+    let known = first_known c.loop-machine.invariant.found.left.are_listed c.in-Some.ensures
+    in let few = c.loop-machine.invariant.found.left.are_listed.few in omega arith
 
 pub bounds-ceilings-machine : goal.bounds-ceilings-machine
 bounds-ceilings-machine g c =
-    let known = first_known c.loop-machine.invariant.found.are_listed c.in-Some.ensures
-    in let long = c.loop-machine.invariant.long in let same = c.loop-machine.invariant.found.long
+    let known = first_known c.loop-machine.invariant.found.left.are_listed c.in-Some.ensures
+    in let long = c.loop-machine.invariant.long in let same = c.loop-machine.invariant.found.left.long
     in let many = length-map c.args.raises.now (raise_in g.L.StateLanes.value)
     in let room = c.requires.room in omega arith
 
 pub offset_bounds-ceilings-machine-in-Some : goal.offset_bounds-ceilings-machine-in-Some
 offset_bounds-ceilings-machine-in-Some g c =
-    let known = first_known c.loop-machine.invariant.found.are_listed c.in-Some.ensures
-    in let few = c.loop-machine.invariant.found.are_listed.few in omega arith
+    let known = first_known c.loop-machine.invariant.found.left.are_listed c.in-Some.ensures
+    in let few = c.loop-machine.invariant.found.left.are_listed.few in omega arith
 
 pub bounds-ceilings-machine-in-Some : goal.bounds-ceilings-machine-in-Some
 bounds-ceilings-machine-in-Some g c =
-    let known = first_known c.loop-machine.invariant.found.are_listed c.in-Some.ensures
-    in let long = c.loop-machine.invariant.long in let same = c.loop-machine.invariant.found.long
+    let known = first_known c.loop-machine.invariant.found.left.are_listed c.in-Some.ensures
+    in let long = c.loop-machine.invariant.long in let same = c.loop-machine.invariant.found.left.long
     in let many = length-map c.args.raises.now (raise_in g.L.StateLanes.value)
     in let room = c.requires.room in omega arith

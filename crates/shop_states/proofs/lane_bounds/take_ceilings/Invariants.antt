@@ -1,13 +1,14 @@
 use Rattle.std.proofs.Common.{◌≡◌, length}
-use Rattle.shop_layout.specs.Lanes.{rows_of, lanes_on}
+use Rattle.shop_layout.specs.Lanes.{lanes_on}
 use Rattle.shop_states.specs.inner.HeadRaises.{raises_in}
+use Rattle.shop_states.specs.inner.LaidLanes.{laid_rows}
 use Rattle.shop_states.proofs.RaisedMachines.{IsFoundSo}
 use Rattle.shop_states.proofs.lane_bounds.take_ceilings.Given as goal
 
 abbrev pub invariant-loop-machine : goal.invariant-loop-machine
 invariant-loop-machine g l = record {
   found : IsFoundSo l.least (raises_in g.L.StateLanes.value l.fn.raises)
-      (lanes_on (rows_of l.grid (g.L.StateLanes.heads l.lanes) (g.L.StateLanes.ends l.lanes)) l.grid)
+      (lanes_on (laid_rows g.L.StateLanes.heads g.L.StateLanes.ends l.laid) l.laid.grid.now)
       (raises_in g.L.StateLanes.value l.raises) l.left l.ceilings l.greatest;
   long : length l.ceilings ≡ length l.fn.ceilings;
 }

@@ -1,16 +1,14 @@
-use Rattle.std.proofs.Common.{◌≤◌, length}
-use Rattle.shop_layout.specs.Lanes.{rows_of, lanes_on}
+use Rattle.std.proofs.Common.{length}
+use Rattle.shop_layout.specs.Lanes.{lanes_on}
 use Rattle.shop_states.specs.inner.HeadRaises.{raises_in}
+use Rattle.shop_states.specs.inner.LaidLanes.{laid_rows}
 use Rattle.shop_states.proofs.RaisedMachines.{IsTakenSo}
 use Rattle.shop_states.proofs.lane_bounds.take_spans_of.Given as goal
 
 abbrev pub invariant-loop-machine : goal.invariant-loop-machine
-invariant-loop-machine g l = record {
-  taken : IsTakenSo l.least l.limit (raises_in g.L.StateLanes.value l.fn.raises)
-      (lanes_on (rows_of l.grid (g.L.StateLanes.heads l.lanes) (g.L.StateLanes.ends l.lanes)) l.grid)
-      (raises_in g.L.StateLanes.value l.raises) l.left l.most;
-  fits : l.most ≤ g.L.StateLanes.GREATEST;
-}
+invariant-loop-machine g l = IsTakenSo l.least l.limit (raises_in g.L.StateLanes.value l.fn.raises)
+    (lanes_on (laid_rows g.L.StateLanes.heads g.L.StateLanes.ends l.laid) l.laid.grid.now)
+    (raises_in g.L.StateLanes.value l.raises) l.left l.most
 
 abbrev pub decreases-loop-machine : goal.decreases-loop-machine
 decreases-loop-machine g l = length l.left

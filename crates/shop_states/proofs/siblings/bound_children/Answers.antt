@@ -62,7 +62,8 @@ raise_late-raised-requires-clause-can g c =
 
 pub raise_late-raised-requires-clause-known : goal.raise_late-raised-requires-clause-known
 raise_late-raised-requires-clause-known g c = rw c.routes-routes.ensures (λ q here.
-    let a = c.requires.can.kept.kept.laid.machines_at.known q here in let b = c.requires.can.machines_are in omega arith)
+    let a = c.requires.can.kept.kept.laid.machines_at.known q here
+    in let b = c.requires.can.machines_are in omega arith)
 
 pub take_ceilings-requires-clause-least : goal.take_ceilings-requires-clause-least
 take_ceilings-requires-clause-least g c =
@@ -82,7 +83,6 @@ take_ceilings-requires-clause-can g c =
     in let times = kept.laid.positions.times in let tails = kept.laid.positions.tails
     in record {
       listed = c.raise_late-raised.ensures.listed;
-      least_fits = omega arith;
       times = omega arith;
       tails = omega arith;
       fits = late_raises_fit c.requires.can.kept c.requires.can.siblings latest on c.positions_of-from.ensures.first

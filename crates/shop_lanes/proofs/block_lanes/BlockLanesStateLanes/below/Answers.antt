@@ -1,6 +1,7 @@
 use Rattle.std.proofs.Common.{◌∙◌, ap, map, take}
 use lib.Lanes.{mask_l}
 use Rattle.shop_lanes.specs.Eights.{is_between}
+use Rattle.shop_lanes.specs.Rows.{blocks}
 use Rattle.shop_lanes.proofs.Padding.{marks_below}
 use Rattle.shop_lanes.proofs.RowValues.{values_of_blocks}
 use Rattle.shop_lanes.proofs.block_lanes.BlockLanesStateLanes.below.Goals as goal
@@ -12,5 +13,6 @@ returns g c =
     in marks_below row c.args.from c.args.to c.args.limit c.saturating_sub.result c.bits_up_to.result c.new.result
     within c.requires.few c.saturating_sub.ensures c.new.ensures
     (c.bits_up_to.ensures ∙ ap (λ l. mask_l (map (is_between 0 c.saturating_sub.result) l))
-    (values_of_blocks g.B.Block.value c.heads.result.now
-    (take c.args.self.now.positions c.args.self.now.row.items) c.args.from c.args.to c.heads.ensures))
+    (ap (λ hs. map g.B.Block.value (blocks c.args.from c.args.to hs)) c.heads.ensures
+    ∙ values_of_blocks g.B.Block.value (take c.args.self.now.positions c.args.self.now.row.items) c.args.from
+    c.args.to))
