@@ -1,6 +1,5 @@
 // A dispatch of an operation: where the operation stands, when it ends, and which heads its end raises.
 ghost use Rattle.std.specs.Prelude.{◌≡◌, ◌≤◌, ◌<◌, length};
-ghost use Rattle.shop_lanes.specs.Marks.{positions_among};
 ghost use Rattle.shop_layout.specs.Lanes.{rows_of};
 ghost use Rattle.shop_layout.specs.Positions.{AreEven};
 ghost use Rattle.shop_states.specs.inner.Advances.{CanGoOn};
@@ -13,8 +12,8 @@ use shop_layout::Grid;
 /// The most blocks that are marked at once.
 const MOST_MARKED: usize = 8;
 
-/// A dispatch of an operation, the next one of `job`. Its `end` is one higher, like heads in lanes. `delayed` marks what
-/// else waits in the first eight blocks of its machine and can begin before that end.
+/// A dispatch of an operation, the next one of `job`. Its `end` is one higher, like heads in lanes. `delayed` marks
+/// what else waits in the first eight blocks of its machine and can begin before that end.
 #[derive(Drop)]
 pub(crate) struct Dispatch {
     pub job: usize,

@@ -116,8 +116,8 @@ pub trait Dispatching<S: Drop> {
         ensures kept { (w : List ℕ) (j : ℕ) → KnowsChild self.now scratch.old w j
             → KnowsChild self.now scratch.new w j };
 
-    /// Makes `to` a copy of `from`, and does there what `dispatch_below` does. What it reads of `from` need not wait for
-    /// the copy.
+    /// Makes `to` a copy of `from`, and does there what `dispatch_below` does. What it reads of `from` need not wait
+    /// for the copy.
     fn dispatch_below_in_copy(
         &self,
         scratch: &mut Self::Scratch,

@@ -117,8 +117,8 @@ fn raise_from<L: StateLanes>(
     raise_route(lanes, raises, raised, routes, position, end);
 }
 
-/// Raises to `end` each head below `end` at the marked positions, where operations wait. Also raises every later head on
-/// their routes that is too early then, so that a marked head may have risen before its turn comes.
+/// Raises to `end` each head below `end` at the marked positions, where operations wait. Also raises every later head
+/// on their routes that is too early then, so that a marked head may have risen before its turn comes.
 #[inline(always)]
 fn raise_marked<L: StateLanes>(
     lanes: &mut L,

@@ -16,9 +16,9 @@ use std::alloc::{AllocError as NoMemory, Global};
 use std::mem;
 
 impl<'l, D: Dispatching<S>, S: Drop> WalkStates<'l, D, S> {
-    /// Dispatches `candidate` in the trial's state, and answers the child's bound if it is below `limit`. That state is a
-    /// copy of the current one or, for the last trial, the current state itself, which the walk no longer needs. `bound`
-    /// is the bound of the current word.
+    /// Dispatches `candidate` in the trial's state, and answers the child's bound if it is below `limit`. That state is
+    /// a copy of the current one or, for the last trial, the current state itself, which the walk no longer needs.
+    /// `bound` is the bound of the current word.
     fn try_candidate(
         &mut self,
         candidate: Candidate,
