@@ -1,10 +1,12 @@
-// Tests of bounds, of desks, of branching, of the search of one piece and of verdicts.
+// Tests of bounds, of desks, of dispatches in copies, of branching, of the search of one piece and of verdicts.
 #![tactic(auto)]
 
 #[cfg(test)]
 mod bounds;
 #[cfg(test)]
 mod branches;
+#[cfg(test)]
+mod copies;
 #[cfg(test)]
 mod desks;
 #[cfg(test)]

@@ -11,12 +11,12 @@ use std::alloc::Global;
 use std::process::Abort;
 
 /// How many jobs, machines, operations of each job, and the greatest time.
-type Shape = (usize, u32, usize, u32);
+pub type Shape = (usize, u32, usize, u32);
 
 /// Shapes with 58 to 90 operations a machine, with wide lanes too; of three and of five jobs, whose conflict sets have
 /// two to five candidates; of many jobs on few machines, to which routes come back; and with times of 0 and 1, or all
 /// 0.
-static SHAPES: [Shape; 12] = [
+pub static SHAPES: [Shape; 12] = [
     (10, 12, 70, 9),
     (10, 12, 88, 9),
     (11, 12, 98, 9),
@@ -32,11 +32,11 @@ static SHAPES: [Shape; 12] = [
 ];
 
 /// The latest releases.
-static LATEST: [u32; 3] = [0, 5, 60];
+pub static LATEST: [u32; 3] = [0, 5, 60];
 
 /// Makes an instance of this shape, each operation on any machine and for any time up to the greatest, each job
 /// released at any time up to `latest`.
-fn made(
+pub fn made(
     rt: &impl Abort,
     alloc: Global,
     numbers: &mut Numbers,

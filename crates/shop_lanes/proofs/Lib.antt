@@ -18,6 +18,7 @@ pub mod OwnScan
 pub mod OwnColumns
 pub mod OwnRows
 pub mod MarkLemmas
+pub mod Unmarking
 pub mod BlockMasks
 pub mod Padding
 pub mod RowValues

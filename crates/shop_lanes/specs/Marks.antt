@@ -1,6 +1,6 @@
 -- Positions whose number passes a test.
 use Rattle.std.specs.Prelude.{◌≡◌, Option, MatchOption, ℕ, ◌+◌, ◌*◌, Bool, List, [], ◌∷◌}
-use Rattle.std.specs.Prelude.{if◌then◌else◌, nat_lt, ◌&&◌}
+use Rattle.std.specs.Prelude.{filter, if◌then◌else◌, nat_lt, not, ◌==◌, ◌&&◌}
 use Rattle.shop_lanes.specs.Rows.{Rows, blocks}
 
 -- the positions of the numbers that pass, in order; the first number stands at position `at`
@@ -20,6 +20,10 @@ positions_below rows from to limit =
 
 abbrev pub positions_among : List ℕ → ℕ → ℕ → ℕ → List ℕ
 positions_among heads from to limit = marked (waits_below limit) (8 * from) (blocks from to heads)
+
+-- the others
+abbrev pub without : ℕ → List ℕ → List ℕ
+without position marks = filter (λ p. not (p == position)) marks
 
 -- `found` is the first position, if there is one, and `new` are the others
 abbrev pub IsPopped : List ℕ → Option ℕ → List ℕ → Type 0

@@ -1,7 +1,7 @@
 // A set of marked positions, one bit for each.
 ghost use Rattle.std.specs.Prelude.{◌≡◌, ℕ, ◌<◌, ◌+◌, ◌≤◌, ◌↔◌, ◌^◌, List, [], ◌∷◌, IsTrue, All};
 ghost use Rattle.std.specs.Prelude.{MatchOption};
-ghost use Rattle.shop_lanes.specs.Marks.{IsPopped};
+ghost use Rattle.shop_lanes.specs.Marks.{IsPopped, without};
 ghost use Rattle.shop_lanes.specs.SetBits.{set_bits};
 
 use std::marker::Model;
@@ -51,6 +51,17 @@ impl Marks {
         match others.pop_first() {
             Some(first) => first == position && others.is_empty(),
             None => true,
+        }
+    }
+
+    /// Unmarks `position`, if it is marked. It may also lie outside of the 64 positions.
+    #[inline(always)]
+    pub fn unmark(&mut self, position: usize)
+        ensures { self.new ≡ without position self.old }
+    {
+        let place = position.wrapping_sub(self.first);
+        if place < 64 {
+            self.bits &= !(1 << place);
         }
     }
 

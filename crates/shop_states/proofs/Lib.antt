@@ -4,6 +4,7 @@ pub mod JobSets
 pub mod LaneBoundTurns
 pub mod MachineSets
 pub mod RaiseLoops
+pub mod MarkedRaises
 pub mod RaiseSteps
 pub mod RaiseWalks
 pub mod RaisedEnds

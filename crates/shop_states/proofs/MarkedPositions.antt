@@ -1,10 +1,10 @@
 -- The positions at which something waits with a head below a limit, and the marks of these.
 use Rattle.std.proofs.Common.{◌≡◌, ℕ, zero, suc, ◌+◌, ◌*◌, ◌-◌, ◌≤◌, ◌<◌, inl, inr, Bool, true}
-use Rattle.std.proofs.Common.{List, [], ◌∷◌, length, get_or, take, drop, sym, ◌∙◌, ap, subst, arith, ltb}
+use Rattle.std.proofs.Common.{List, [], ◌∷◌, length, get_or, take, drop, refl, sym, ◌∙◌, ap, subst, arith, ltb}
 use Rattle.std.proofs.lemmas.Bool.{cases_Bool, and_from, and_parts, lt-ltb, ltb-true}
 use Rattle.std.proofs.lemmas.List.{get_or-take, get_or-drop, length-take-le, length-drop}
 use Rattle.shop_lanes.specs.Rows.{Rows}
-use Rattle.shop_lanes.specs.Marks.{marked, waits_below, positions_below}
+use Rattle.shop_lanes.specs.Marks.{marked, waits_below, positions_among, positions_below}
 use Rattle.shop_states.specs.inner.RisingLists.{IsIn, Rises}
 use Rattle.shop_states.specs.inner.Raises.{IsInBlocks}
 
@@ -46,6 +46,10 @@ module _ (p : ℕ → Bool) where
     )
     | inr t ↦ rw t (marked_rises (at + 1) xs)
   ]
+
+pub among_same : (heads : List ℕ) {from to first behind : ℕ} (limit : ℕ) → from ≡ first → to ≡ behind
+    → positions_among heads from to limit ≡ positions_among heads first behind limit
+among_same heads limit begins ends = rw (begins, ends) refl
 
 -- the positions of some blocks at which something waits below a limit
 pub record IsBelow (heads : List ℕ) (from to limit q : ℕ) : Type 0 where

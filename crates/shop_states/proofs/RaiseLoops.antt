@@ -7,9 +7,9 @@ use Rattle.shop_lanes.specs.Rows.{Rows}
 use Rattle.shop_lanes.specs.Marks.{positions_below}
 use Rattle.shop_layout.specs.Positions.{LayoutState, place}
 use Rattle.shop_states.specs.inner.RisingLists.{IsIn, Rises}
-use Rattle.shop_states.proofs.MarkedPositions.{below_is_in, below_rises, in_is_below}
+use Rattle.shop_states.proofs.MarkedPositions.{IsBelow, below_is_in, below_rises, in_is_below}
 use Rattle.shop_states.specs.inner.Raises.{at_in, AreInRouteOrder, IsRaised, IsLeastRaise, IsRaisable}
-use Rattle.shop_states.specs.inner.Raises.{Raises, IsFollowed, IsIndexed, IsPosition, IsInBlocks}
+use Rattle.shop_states.specs.inner.Raises.{AreWaiting, Raises, IsFollowed, IsIndexed, IsPosition, IsInBlocks}
 
 weaker : (l : LayoutState) (A B : ℕ → Type 0) (e : ℕ) (old new : ℕ → ℕ) → ((q : ℕ) → B q → A q)
     → IsRaised l A e old new → IsRaised l B e old new
@@ -108,41 +108,29 @@ raises_none greatest l nexts A e a order enough = record {
   ends = record { long = refl; none = λ f. refl; each = λ j known is. is };
 }
 
--- those in the blocks that are no longer to come
-abbrev pub IsDone : ℕ → ℕ → List ℕ → ℕ → Type 0
-IsDone from to todo q = IsInBlocks from to q × (IsIn todo q → ⊥)
+-- those marked that are no longer to come
+abbrev pub IsDone : List ℕ → List ℕ → ℕ → Type 0
+IsDone marks todo q = IsIn marks q × (IsIn todo q → ⊥)
 
 -- the positions to come, in order, at which something waits
-pub record AreToCome (from to : ℕ) (todo : List ℕ) (heads : List ℕ) : Type 0 where
-  pub waits : (q : ℕ) → IsIn todo q → IsInBlocks from to q × (0 < get_or heads q 0)
+pub record AreToCome (marks todo : List ℕ) (heads : List ℕ) : Type 0 where
+  pub waits : (q : ℕ) → IsIn todo q → IsIn marks q × (0 < get_or heads q 0)
   pub rises : Rises todo
 
-pub record AreBlocksRaised (greatest : ℕ) (l : LayoutState) (nexts : List ℕ) (from to e : ℕ) (todo : List ℕ)
+pub record AreMarksRaised (greatest : ℕ) (l : LayoutState) (nexts marks : List ℕ) (e : ℕ) (todo : List ℕ)
     (old now : Rows) : Type 0 where
-  pub raises : Raises greatest l nexts (IsDone from to todo) e old now
-  pub to_come : AreToCome from to todo old.heads
+  pub raises : Raises greatest l nexts (IsDone marks todo) e old now
+  pub to_come : AreToCome marks todo old.heads
 
-module _ {greatest : ℕ} {l : LayoutState} {nexts : List ℕ} {from to e : ℕ} {old : Rows}
-    (can : IsRaisable greatest l nexts old (IsInBlocks from to) e) where
-  pub blocks_begin : from ≤ to → 8 * to ≤ length old.heads → {todo : List ℕ}
-      → todo ≡ positions_below old from to e → AreBlocksRaised greatest l nexts from to e todo old old
-  blocks_begin ordered within {todo} is = record {
-    raises = raises_none greatest l nexts (IsDone from to todo) e old can.order (λ q done waits.
-        elim (cases_lt (get_or old.heads q 0) e) [
-          | inl low ↦ absurd (done.1 (subst (λ (xs : List ℕ). IsIn xs q) (sym is)
-              (below_is_in old from to e ordered within q
-              (record { there = done.0; waits = waits; below = low }))))
-          | inr enough ↦ enough
-        ]);
-    to_come = record {
-      waits = λ q h.
-          let at = in_is_below old from to e ordered within q (subst (λ (xs : List ℕ). IsIn xs q) is h)
-          in (at.there, at.waits);
-      rises = subst Rises (sym is) (below_rises old from to e ordered within);
-    };
+module _ {greatest : ℕ} {l : LayoutState} {nexts marks : List ℕ} {e : ℕ} {old : Rows}
+    (can : IsRaisable greatest l nexts old (IsIn marks) e) where
+  pub marks_begin : AreWaiting old.heads marks → AreMarksRaised greatest l nexts marks e marks old old
+  marks_begin are = record {
+    raises = raises_none greatest l nexts (IsDone marks marks) e old can.order (λ q done waits. absurd (done.1 done.0));
+    to_come = record { waits = λ q h. (h, are.waits q h); rises = are.rises };
   }
 
-  module _ {todo : List ℕ} {now : Rows} (so_far : AreBlocksRaised greatest l nexts from to e todo old now) {q : ℕ}
+  module _ {todo : List ℕ} {now : Rows} (so_far : AreMarksRaised greatest l nexts marks e todo old now) {q : ℕ}
       {rest : List ℕ} (popped : todo ≡ q ∷ rest) where
     is_in : IsIn todo q
     is_in = subst (λ (xs : List ℕ). IsIn xs q) (sym popped) (inl refl)
@@ -157,10 +145,10 @@ module _ {greatest : ℕ} {l : LayoutState} {nexts : List ℕ} {from to e : ℕ}
       | inr h ↦ (let a = get_or_past now.heads q 0 h in let b = popped_waits in absurd (omega arith))
     ]
 
-    pub popped_here : IsInBlocks from to q
+    pub popped_here : IsIn marks q
     popped_here = (so_far.to_come.waits q is_in).0
 
-    popped_to_come : AreToCome from to rest old.heads
+    popped_to_come : AreToCome marks rest old.heads
     popped_to_come = record {
       waits = λ r h. so_far.to_come.waits r (subst (λ (xs : List ℕ). IsIn xs r) (sym popped) (inr h));
       rises = (subst Rises popped so_far.to_come.rises).1;
@@ -169,10 +157,10 @@ module _ {greatest : ℕ} {l : LayoutState} {nexts : List ℕ} {from to e : ℕ}
     not_in_rest : IsIn rest q → ⊥
     not_in_rest h = let a = (subst Rises popped so_far.to_come.rises).0 q h in omega arith
 
-    still_done : (r : ℕ) → IsDone from to todo r → IsDone from to rest r
+    still_done : (r : ℕ) → IsDone marks todo r → IsDone marks rest r
     still_done r d = (d.0, λ h. d.1 (subst (λ (xs : List ℕ). IsIn xs r) (sym popped) (inr h)))
 
-    more_done : (r : ℕ) → IsDone from to rest r → IsDone from to todo r ⊎ (r ≡ q)
+    more_done : (r : ℕ) → IsDone marks rest r → IsDone marks todo r ⊎ (r ≡ q)
     more_done r d = elim (cases_eq r q) [
       | inl f ↦ inr f
       | inr ne ↦ inl (
@@ -184,9 +172,9 @@ module _ {greatest : ℕ} {l : LayoutState} {nexts : List ℕ} {from to e : ℕ}
       )
     ]
 
-    here_done : (r : ℕ) → r ≡ q → IsDone from to rest r
+    here_done : (r : ℕ) → r ≡ q → IsDone marks rest r
     here_done r f = (
-      (subst (IsInBlocks from to) (sym f) (so_far.to_come.waits q is_in).0),
+      (subst (IsIn marks) (sym f) popped_here),
       λ h. not_in_rest (subst (IsIn rest) f h),
     )
 
@@ -194,22 +182,22 @@ module _ {greatest : ℕ} {l : LayoutState} {nexts : List ℕ} {from to e : ℕ}
     popped_raisable =
         still_raisable (IsPosition q) can so_far.raises (λ r d. d.0) (λ r f. (here_done r f).0)
 
-    pub blocks_on : {new : Rows} → Raises greatest l nexts (IsPosition q) e now new
-        → AreBlocksRaised greatest l nexts from to e rest old new
-    blocks_on {new} raised = record {
-      raises = then_raises (IsDone from to rest) so_far.raises raised more_done still_done here_done;
+    pub marks_on : {new : Rows} → Raises greatest l nexts (IsPosition q) e now new
+        → AreMarksRaised greatest l nexts marks e rest old new
+    marks_on {new} raised = record {
+      raises = then_raises (IsDone marks rest) so_far.raises raised more_done still_done here_done;
       to_come = popped_to_come;
     }
 
-    pub blocks_past : e ≤ get_or now.heads q 0 → AreBlocksRaised greatest l nexts from to e rest old now
-    blocks_past enough = blocks_on
+    pub marks_past : e ≤ get_or now.heads q 0 → AreMarksRaised greatest l nexts marks e rest old now
+    marks_past enough = marks_on
         (raises_none greatest l nexts (IsPosition q) e now so_far.raises.raised.raised.order
         (λ r f _. subst (λ (x : ℕ). e ≤ get_or now.heads x 0) (sym f) enough))
 
-  pub blocks_end : {todo : List ℕ} {now : Rows} → todo ≡ []
-      → AreBlocksRaised greatest l nexts from to e todo old now
-      → Raises greatest l nexts (IsInBlocks from to) e old now
-  blocks_end {todo} none so_far = record {
+  pub marks_end : {todo : List ℕ} {now : Rows} → todo ≡ []
+      → AreMarksRaised greatest l nexts marks e todo old now
+      → Raises greatest l nexts (IsIn marks) e old now
+  marks_end {todo} none so_far = record {
     raised = record {
       positions = so_far.raises.raised.positions;
       raised = record {
@@ -220,11 +208,68 @@ module _ {greatest : ℕ} {l : LayoutState} {nexts : List ℕ} {from to e : ℕ}
             (here, λ h. subst (λ (xs : List ℕ). IsIn xs q) none h) waits;
       };
       least = λ other raised. so_far.raises.raised.least other
-          (weaker l (IsInBlocks from to) (IsDone from to todo) e (at_in old.heads) other (λ q d. d.0) raised);
+          (weaker l (IsIn marks) (IsDone marks todo) e (at_in old.heads) other (λ q d. d.0) raised);
     };
     times = so_far.raises.times;
     tails = so_far.raises.tails;
     ends = so_far.raises.ends;
+  }
+
+-- what is marked in some blocks is all that is to be raised there
+module _ (old : Rows) {marks : List ℕ} (from to e : ℕ) (ordered : from ≤ to) (within : 8 * to ≤ length old.heads)
+    (are : marks ≡ positions_below old from to e) where
+  marked_there : (q : ℕ) → IsIn marks q → IsBelow old.heads from to e q
+  marked_there q h = in_is_below old from to e ordered within q (subst (λ (xs : List ℕ). IsIn xs q) are h)
+
+  pub marks_in : (q : ℕ) → IsIn marks q → IsInBlocks from to q
+  marks_in q h = (marked_there q h).there
+
+  pub marks_waiting : AreWaiting old.heads marks
+  marks_waiting = record {
+    waits = λ q h. (marked_there q h).waits;
+    rises = subst Rises (sym are) (below_rises old from to e ordered within);
+  }
+
+  pub marks_raisable : {greatest : ℕ} {l : LayoutState} {nexts : List ℕ} → IsRaisable greatest l nexts old (IsInBlocks from to) e
+      → IsRaisable greatest l nexts old (IsIn marks) e
+  marks_raisable {greatest} {l} {nexts} can = record {
+    firsts = can.firsts;
+    ends = can.ends;
+    indexed = can.indexed;
+    followed = can.followed;
+    machines = can.machines;
+    times = can.times;
+    timed = can.timed;
+    places = can.places;
+    order = can.order;
+    other = can.other;
+    raised = weaker l (IsInBlocks from to) (IsIn marks) e (at_in old.heads) can.other marks_in can.raised;
+    fits = can.fits;
+    computable = can.computable;
+  }
+
+  pub marks_raised : {greatest : ℕ} {l : LayoutState} {nexts : List ℕ} {new : Rows} → Raises greatest l nexts (IsIn marks) e old new
+      → Raises greatest l nexts (IsInBlocks from to) e old new
+  marks_raised {greatest} {l} {nexts} {new} x = record {
+    raised = record {
+      positions = x.raised.positions;
+      raised = record {
+        rises = x.raised.raised.rises;
+        rests = x.raised.raised.rests;
+        order = x.raised.raised.order;
+        reach = λ q here waits. elim (cases_lt (get_or old.heads q 0) e) [
+          | inl low ↦ x.raised.raised.reach q (subst (λ (xs : List ℕ). IsIn xs q) (sym are)
+              (below_is_in old from to e ordered within q
+              (record { there = here; waits = waits; below = low }))) waits
+          | inr enough ↦ (let rises = x.raised.raised.rises q in omega arith)
+        ];
+      };
+      least = λ other raised. x.raised.least other
+          (weaker l (IsInBlocks from to) (IsIn marks) e (at_in old.heads) other marks_in raised);
+    };
+    times = x.times;
+    tails = x.tails;
+    ends = x.ends;
   }
 
 -- blocks after blocks

@@ -29,6 +29,7 @@ use Rattle.shop_states.proofs.AdvanceSteps.{lifted_raisable, machine_here}
 use Rattle.shop_states.proofs.ChildTurns.{its_ahead, next_heads, next_small, raised_is}
 use Rattle.shop_states.proofs.FittingSpans.{span_within, spans_each}
 use Rattle.shop_states.proofs.LaneFits.{spans_fit}
+use Rattle.shop_states.proofs.RaisedHeads.{has_blocks}
 use Rattle.shop_states.proofs.StateSteps.{ends_more, firsts, kept_more, next_at, next_known, within}
 
 -- instances with one layout have as many machines
@@ -41,131 +42,130 @@ module _ {greatest : ℕ} {shop : Shop} {w : List ℕ} {l : LayoutState} {hs es 
   abbrev rows : Rows
   rows = rows_of l hs es
 
-  abbrev x : ℕ
-  x = get_or nexts j 0
-
   pub its_job : j < length nexts
   its_job = next_known j kept fits
 
-  its_position : get_or nexts j 0 < length hs
-  its_position = within j kept fits refl
+  module _ {x : ℕ} (x_is : x ≡ get_or nexts j 0) where
+    pub its_position : x < length hs
+    its_position = within j kept fits x_is
 
-  its_place : get_or nexts j 0 ≡ place l j ((placing shop w).steps j)
-  its_place = next_at j kept fits refl
+    its_place : x ≡ place l j ((placing shop w).steps j)
+    its_place = next_at j kept fits x_is
 
-  -- what is read of it
-  module _ {read : LayoutState} (same : read ≡ l) {m : ℕ} (on : m ≡ get_or read.machines (get_or nexts j 0) 0)
-      {h t : ℕ} (head : h ≡ get_or hs (get_or nexts j 0) 0) (time : t ≡ get_or read.times (get_or nexts j 0) 0) where
-    here : m ≡ get_or l.machines x 0
-    here = on ∙ ap (λ (r : LayoutState). get_or r.machines x 0) same
+    module _ {m : ℕ} (here : m ≡ get_or l.machines x 0) where
+      on_its : m ≡ machine_of shop j ((placing shop w).steps j)
+      on_its = machine_here j kept.kept fits its_place here
 
-    timed : t ≡ get_or l.times x 0
-    timed = time ∙ ap (λ (r : LayoutState). get_or r.times x 0) same
+      machine_known : m < shop.machines
+      machine_known =
+          let a = on_its in let b = kept.kept.limits.on_machines j ((placing shop w).steps j) in omega arith
 
-    pub its_end : h + t ≤ greatest
-    its_end = (end_small j kept.kept fits its_place head timed).1
+      pub its_blocks : HasBlocks l (length hs) m
+      its_blocks = has_blocks kept.kept.limits kept.kept.laid m kept.kept.heads.positions machine_known
 
-    on_its : m ≡ machine_of shop j ((placing shop w).steps j)
-    on_its = machine_here j kept.kept fits its_place here
+      module _ {e : ℕ} (end : e ≡ get_or hs x 0 + get_or l.times x 0) where
+        pub its_end : e ≤ greatest
+        its_end = let a = (end_small j kept.kept fits its_place refl refl).1 in omega arith
 
-    machine_known : m < shop.machines
-    machine_known = let a = on_its in let b = kept.kept.limits.on_machines j ((placing shop w).steps j) in omega arith
+        module _ {hs' es' : List ℕ} (struck : hs' ≡ set hs x 0) (beside : es' ≡ es) where
+          abbrev lifted : Rows
+          lifted = rows_of l hs' es'
 
-    module _ {hs' es' : List ℕ} (struck : hs' ≡ set hs (get_or nexts j 0) 0) (beside : es' ≡ es) where
-      abbrev lifted : Rows
-      lifted = rows_of l hs' es'
+          wrote : lifted ≡ with_head rows x 0
+          wrote = put_is l hs x 0 struck beside
 
-      wrote : lifted ≡ with_head rows x 0
-      wrote = put_is l hs x 0 struck beside
+          pub trial_blocks : HasBlocks l (length hs') m
+          trial_blocks = lifted_blocks j kept.kept fits its_place refl refl wrote on_its
 
-      pub trial_blocks : HasBlocks l (length hs') m
-      trial_blocks = lifted_blocks j kept.kept fits its_place head timed wrote on_its
+          pub trial_raisable : IsRaisable greatest l nexts (rows_of l hs' es') (IsOnMachine l m) e
+          trial_raisable = rw end (lifted_raisable j kept.kept fits its_place refl refl wrote on_its
+              (firsts j kept fits) (let a = kept.are_next.jobs in let b = kept.ends.jobs in omega arith))
 
-      pub trial_raisable : IsRaisable greatest l nexts (rows_of l hs' es') (IsOnMachine l m) (h + t)
-      trial_raisable = lifted_raisable j kept.kept fits its_place head timed wrote on_its (firsts j kept fits)
-          (let a = kept.are_next.jobs in let b = kept.ends.jobs in omega arith)
+          lifted_low : (q : ℕ) → get_or hs' q 0 ≤ get_or hs q 0
+          lifted_low q = elim (cases_eq q x) [
+            | inl eq ↦ (let a = ap (λ (xs : List ℕ). get_or xs q 0) struck
+                in let b = get_or-set_at hs x q 0 0 eq its_position in omega arith)
+            | inr ne ↦ (let a = ap (λ (xs : List ℕ). get_or xs q 0) struck
+                in let b = get_or-set_other hs x q 0 0 ne in omega arith)
+          ]
 
-      lifted_low : (q : ℕ) → get_or hs' q 0 ≤ get_or hs q 0
-      lifted_low q = elim (cases_eq q x) [
-        | inl eq ↦ (let a = ap (λ (xs : List ℕ). get_or xs q 0) struck
-            in let b = get_or-set_at hs x q 0 0 eq its_position in omega arith)
-        | inr ne ↦ (let a = ap (λ (xs : List ℕ). get_or xs q 0) struck
-            in let b = get_or-set_other hs x q 0 0 ne in omega arith)
-      ]
+          module _ {new : Rows} (raising : Raises greatest l nexts (IsOnMachine l m) e (rows_of l hs' es') new) where
+            raising_sum : Raises greatest l nexts (IsOnMachine l m) (get_or hs x 0 + get_or l.times x 0)
+                (rows_of l hs' es') new
+            raising_sum = subst (λ (k : ℕ). Raises greatest l nexts (IsOnMachine l m) k (rows_of l hs' es') new) end
+                raising
 
-      module _ {new : Rows} (raising : Raises greatest l nexts (IsOnMachine l m) (h + t) (rows_of l hs' es') new)
-        where
-          pub now_heads : AreHeadsInLanes greatest shop (w ++ j ∷ []) l new
-          now_heads = advanced j kept.kept fits its_place head timed wrote on_its raising
+            pub now_heads : AreHeadsInLanes greatest shop (w ++ j ∷ []) l new
+            now_heads = advanced j kept.kept fits its_place refl refl wrote on_its raising_sum
 
-          ends_long : length new.ends ≡ length es
-          ends_long = advanced_long j kept.kept fits its_place head timed wrote on_its raising
+            ends_long : length new.ends ≡ length es
+            ends_long = advanced_long j kept.kept fits its_place refl refl wrote on_its raising_sum
 
-          others : (i : ℕ) → i < length nexts → (get_or nexts i 0 ≡ x → ⊥) → IsEndOf greatest nexts rows i
-              → IsEndOf greatest nexts new i
-          others = advanced_others j kept.kept fits its_place head timed wrote on_its raising
+            others : (i : ℕ) → i < length nexts → (get_or nexts i 0 ≡ x → ⊥) → IsEndOf greatest nexts rows i
+                → IsEndOf greatest nexts new i
+            others = advanced_others j kept.kept fits its_place refl refl wrote on_its raising_sum
 
-          small : (q : ℕ) → get_or new.heads q 0 ≤ latest_end shop + 1
-          small = next_small kept.kept j fits now_heads
+            small : (q : ℕ) → get_or new.heads q 0 ≤ latest_end shop + 1
+            small = next_small kept.kept j fits now_heads
 
-          -- the operation that follows is the next one
-          module _ {after : List ℕ} (followed : after ≡ set nexts j (get_or l.following (get_or nexts j 0) 0)) where
-            pub trial_keep : CanKeepEnds greatest l after new
-            trial_keep = ends_more j kept fits refl refl followed now_heads ends_long others
+            -- the operation that follows is the next one
+            module _ {after : List ℕ} (followed : after ≡ set nexts j (get_or l.following x 0)) where
+              pub trial_keep : CanKeepEnds greatest l after new
+              trial_keep = ends_more j kept fits x_is refl followed now_heads ends_long others
 
-            pub trial_kept : {ended : Rows} → ended ≡ with_end new j (end_at greatest after new j)
-                → IsKeptInLanes greatest shop (w ++ j ∷ []) l ended after
-            trial_kept {ended} ends = kept_more j kept fits refl refl followed now_heads ends_long others ends
+              pub trial_kept : {ended : Rows} → ended ≡ with_end new j (end_at greatest after new j)
+                  → IsKeptInLanes greatest shop (w ++ j ∷ []) l ended after
+              trial_kept {ended} ends = kept_more j kept fits x_is refl followed now_heads ends_long others ends
 
-          module _ {before after : List Raise} (empty : AreEmpty before) (many : length before ≡ shop.machines)
-              (sees : Sees l.machines (IsOnMachine l m) (h + t) hs' new.heads before after) where
-            watches : Watches (floor_on m (h + t)) l.machines hs' new.heads before after
-            watches = sees.watches m (λ q there. kept.kept.laid.machines_at.at m q machine_known there.0 there.1)
+            module _ {before after : List Raise} (empty : AreEmpty before) (many : length before ≡ shop.machines)
+                (sees : Sees l.machines (IsOnMachine l m) e hs' new.heads before after) where
+              watches : Watches (floor_on m e) l.machines hs' new.heads before after
+              watches = sees.watches m (λ q there. kept.kept.laid.machines_at.at m q machine_known there.0 there.1)
 
-            pub trial_raises_fit : AreRaisesFit greatest after l new
-            trial_raises_fit =
-                let spans : AreSpansFit greatest (latest_end shop + 1) shop.machines l new =
-                spans_fit kept.kept.limits kept.kept.laid greatest kept.holds new now_heads.times now_heads.tails
-                now_heads.heads.positions
-                in let known = spans.known in let long = watches.long
-                in record {
-                  known = omega arith;
-                  blocks = λ n there. spans.blocks n (omega arith);
-                  below = λ n there.
-                      let a = spans.below n (omega arith)
-                      in let b = watches.up_to (latest_end shop + 1) small
-                      (λ k known. let f = empty k in omega arith) n there
-                      in omega arith;
-                  fits = λ n there.
-                      let a = spans.fits n (omega arith)
-                      in let b = watches.up_to (latest_end shop + 1) small
-                      (λ k known. let f = empty k in omega arith) n there
-                      in omega arith;
-                }
+              pub trial_raises_fit : AreRaisesFit greatest after l new
+              trial_raises_fit =
+                  let spans : AreSpansFit greatest (latest_end shop + 1) shop.machines l new =
+                  spans_fit kept.kept.limits kept.kept.laid greatest kept.holds new now_heads.times now_heads.tails
+                  now_heads.heads.positions
+                  in let known = spans.known in let long = watches.long
+                  in record {
+                    known = omega arith;
+                    blocks = λ n there. spans.blocks n (omega arith);
+                    below = λ n there.
+                        let a = spans.below n (omega arith)
+                        in let b = watches.up_to (latest_end shop + 1) small
+                        (λ k known. let f = empty k in omega arith) n there
+                        in omega arith;
+                    fits = λ n there.
+                        let a = spans.fits n (omega arith)
+                        in let b = watches.up_to (latest_end shop + 1) small
+                        (λ k known. let f = empty k in omega arith) n there
+                        in omega arith;
+                  }
 
-            seen : AreSeen (floor_on m (h + t)) l.machines after hs new.heads
-            seen = watches.seen hs (λ q. inl (let a = lifted_low q in omega arith))
+              seen : AreSeen (floor_on m e) l.machines after hs new.heads
+              seen = watches.seen hs (λ q. inl (let a = lifted_low q in omega arith))
 
-            pub trial_bound : {least : ℕ} → IsLeastAt shop w l rows j (get_or nexts j 0) least → {limit b : ℕ}
-                → least ≤ b
-                → (b < limit → (n : ℕ) → spans_between (raise_of after n).from (raise_of after n).to
-                (lanes_on new l n) ≤ b + 1)
-                → ((c : ℕ) → least ≤ c → ((n above upto : ℕ) → n < length after
-                → spans_between above upto (lanes_on new l n) ≤ c + 1) → b ≤ c)
-                → IsBoundUpTo limit (lb shop (w ++ j ∷ [])) b
-            trial_bound {least} foreseen {limit} {b} low covers inside =
-                let long = watches.long
-                in let sum : get_or hs x 0 + get_or l.times x 0 ≡ h + t = (let a = head in let d = timed in omega arith)
-                in raised_is kept.kept j fits now_heads kept.kept.laid.machines_at m (h + t) least limit b
-                (λ under n known. record {
-                  raise = raise_of after n;
-                  covered = λ q lies some. subst (λ (k : ℕ). IsSeenAt (raise_of after k)
-                      (floor_on m (h + t) k) (get_or hs q 0) (get_or new.heads q 0)) lies (seen q);
-                  spans = covers under n;
-                }) low
-                (λ c above each. inside c above (λ n up to known. each n up to (omega arith)))
-                (subst (λ (k : ℕ). IsLeastAfter shop w l rows j x k (h + t) least) (sym here)
-                (subst (λ (k : ℕ). IsLeastAfter shop w l rows j x (get_or l.machines x 0) k least) sum foreseen))
+              pub trial_bound : {least : ℕ} → IsLeastAt shop w l rows j (get_or nexts j 0) least → {limit b : ℕ}
+                  → least ≤ b
+                  → (b < limit → (n : ℕ) → spans_between (raise_of after n).from (raise_of after n).to
+                  (lanes_on new l n) ≤ b + 1)
+                  → ((c : ℕ) → least ≤ c → ((n above upto : ℕ) → n < length after
+                  → spans_between above upto (lanes_on new l n) ≤ c + 1) → b ≤ c)
+                  → IsBoundUpTo limit (lb shop (w ++ j ∷ [])) b
+              trial_bound {least} foreseen {limit} {b} low covers inside =
+                  let long = watches.long
+                  in let its = subst (λ (q : ℕ). IsLeastAt shop w l rows j q least) (sym x_is) foreseen
+                  in raised_is kept.kept j fits now_heads kept.kept.laid.machines_at m e least limit b
+                  (λ under n known. record {
+                    raise = raise_of after n;
+                    covered = λ q lies some. subst (λ (k : ℕ). IsSeenAt (raise_of after k)
+                        (floor_on m e k) (get_or hs q 0) (get_or new.heads q 0)) lies (seen q);
+                    spans = covers under n;
+                  }) low
+                  (λ c above each. inside c above (λ n up to known. each n up to (omega arith)))
+                  (subst (λ (k : ℕ). IsLeastAfter shop w l rows j x k e least) (sym here)
+                  (subst (λ (k : ℕ). IsLeastAfter shop w l rows j x (get_or l.machines x 0) k least) (sym end) its))
 
 -- the ceilings of a child bound what begins within the raises of its dispatch
 module _ {greatest : ℕ} {shop : Shop} {w : List ℕ} {l : LayoutState} {rows : Rows} {nexts : List ℕ} {j least : ℕ}

@@ -11,6 +11,7 @@ pub mod Raises
 pub mod RisingLists
 pub mod Watchers
 pub mod Advances
+pub mod Dispatches
 pub mod Beginnings
 pub mod BoundsUpTo
 pub mod Candidates
@@ -21,3 +22,4 @@ pub mod LaneStates
 pub mod PlacedNexts
 pub mod Siblings
 pub mod Scratches
+pub mod StateCopies

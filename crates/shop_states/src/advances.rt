@@ -7,11 +7,13 @@ ghost use Rattle.shop_bound.specs.Bound.{lb};
 ghost use Rattle.shop_bound.specs.Conflicts.{conflict};
 ghost use Rattle.shop_states.specs.States.{TellsBoundBelow};
 ghost use Rattle.shop_states.specs.inner.Advances.{CanAdvance, CanStrike, HasSameRoom, IsAdvancing};
+ghost use Rattle.shop_states.specs.inner.Dispatches.{IsDispatchOf};
 ghost use Rattle.shop_states.specs.inner.LaneEnds.{CanKeepEnds};
 ghost use Rattle.shop_states.specs.inner.LaneStates.{GoesOn, IsKeptInLanes};
 ghost use Rattle.shop_layout.specs.Lanes.{rows_of};
 ghost use Rattle.shop_states.specs.inner.MachineRaises.{AreEmpty};
 
+use crate::dispatches::Dispatch;
 use crate::lane_bounds::LaidLanes;
 use crate::lane_ends::set_end_of;
 use crate::machine_raises::MachineRaises;
@@ -41,10 +43,11 @@ pub(crate) fn go_on<L: StateLanes>(
     set_end_of(lanes, grid, next, job);
 }
 
-/// Dispatches the next operation of `job`. Answers the bound of the extended word if it is below `limit`, else `None`.
-/// `least` is at most that bound, and at least the former word's bound and the operation's own span: how late the
-/// operation, and the others of its machine with their tails, end if it goes first. `ceilings` is empty, or has for
-/// each machine one more than a number that the extended word's bound there doesn't exceed.
+/// Dispatches the operation of `dispatch`, which was looked up in this state, or in one that this state is a copy of.
+/// Answers the bound of the extended word if it is below `limit`, else `None`. `least` is at most that bound, and at
+/// least the former word's bound and the operation's own span: how late the operation, and the others of its machine
+/// with their tails, end if it goes first. `ceilings` is empty, or has for each machine one more than a number that the
+/// extended word's bound there doesn't exceed.
 #[inline(always)]
 pub(crate) fn advance_below<L: StateLanes>(
     lanes: &mut L,
@@ -52,22 +55,23 @@ pub(crate) fn advance_below<L: StateLanes>(
     raises: &mut MachineRaises<L>,
     ceilings: &[u64],
     grid: &Grid<L>,
-    job: usize,
+    dispatch: Dispatch,
     least: u64,
     limit: u64,
 ) -> Option<u64>
+    requires is { IsDispatchOf grid.now (L.heads lanes.old) next.old dispatch }
     requires can { CanAdvance L.GREATEST grid.now
-        (rows_of grid.now (L.heads lanes.old) (L.ends lanes.old)) next.old job least
+        (rows_of grid.now (L.heads lanes.old) (L.ends lanes.old)) next.old dispatch.job least
         (length raises.old) ceilings.now }
     requires at_rest { AreEmpty raises.old }
     requires limit { limit < 2 ^ 63 }
     ensures told { (shop : Shop) (w : List ℕ) → IsAdvancing L.GREATEST shop w grid.now
-        (rows_of grid.now (L.heads lanes.old) (L.ends lanes.old)) next.old job least
-        → TellsBoundBelow limit (lb shop (w ++ job ∷ [])) result }
+        (rows_of grid.now (L.heads lanes.old) (L.ends lanes.old)) next.old dispatch.job least
+        → TellsBoundBelow limit (lb shop (w ++ dispatch.job ∷ [])) result }
     ensures state { (shop : Shop) (w : List ℕ) → IsKeptInLanes L.GREATEST shop w grid.now
         (rows_of grid.now (L.heads lanes.old) (L.ends lanes.old)) next.old
-        → IsWord shop (w ++ job ∷ [])
-        → OnSome result (IsKeptInLanes L.GREATEST shop (w ++ job ∷ []) grid.now
+        → IsWord shop (w ++ dispatch.job ∷ [])
+        → OnSome result (IsKeptInLanes L.GREATEST shop (w ++ dispatch.job ∷ []) grid.now
         (rows_of grid.now (L.heads lanes.new) (L.ends lanes.new)) next.new) }
     ensures room { HasSameRoom (rows_of grid.now (L.heads lanes.old) (L.ends lanes.old))
         (rows_of grid.now (L.heads lanes.new) (L.ends lanes.new)) next.old next.new }
@@ -77,12 +81,9 @@ pub(crate) fn advance_below<L: StateLanes>(
     if limit <= least {
         return None;
     }
-    let position = next[job] as usize;
-    let routes = grid.routes();
-    let machine = routes.machine(position) as usize;
-    let end = lanes.head(position) + routes.time(position);
+    let (job, position) = (dispatch.job, dispatch.position);
     lanes.set_head(position, 0);
-    let raised = raises.raise(lanes, grid, &routes, next, machine, end);
+    let raised = raises.raise(lanes, grid, next, dispatch);
     let laid = LaidLanes { lanes, grid };
     let bound = raises.take_bound(raised, ceilings, &laid, least, limit);
     if limit <= bound {

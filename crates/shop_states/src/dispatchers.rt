@@ -1,17 +1,22 @@
 // Implements `Dispatching` for a layout, with states in lanes of one width.
 ghost use Rattle.std.specs.Prelude.{◌≡◌, ◌≤◌, ◌<◌, ◌^◌, IfOk, length};
+ghost use Rattle.shop_layout.specs.Lanes.{rows_of};
 ghost use Rattle.shop_layout.specs.LaidOuts.{IsReady};
+ghost use Rattle.shop_states.specs.inner.Advances.{CanGoOn};
+ghost use Rattle.shop_states.specs.inner.Dispatches.{IsDispatchOf};
+ghost use Rattle.shop_states.specs.inner.StateCopies.{IsAsLong, IsCopied};
 
 use crate::advances::{advance_below, strike};
 use crate::beginnings::Beginning;
 use crate::candidate_lists::list_candidates;
+use crate::dispatches::Dispatch;
 use crate::dispatching::{Candidate, Dispatching};
 use crate::fills::fill_state;
 use crate::machine_raises::MachineRaises;
 use crate::siblings::bound_children;
 use crate::states::{Scratch, State};
 use shop_lanes::StateLanes;
-use shop_layout::LaidOut;
+use shop_layout::{Grid, LaidOut};
 use std::alloc::{AllocError as NoMemory, Global};
 
 /// A number that is above the bound of every word of an instance within the limits.
@@ -19,6 +24,36 @@ const BOUNDS: u64 = 1 << 50;
 
 /// The least number of candidates whose children are bounded together. With fewer, to try each child takes less time.
 const MANY: usize = 4;
+
+/// Makes `to` a copy of `from`.
+#[inline(always)]
+fn copy_state<L: StateLanes>(from: &State<L>, to: &mut State<L>)
+    requires { IsAsLong L.heads L.ends from.now to.old }
+    ensures { IsCopied L.heads L.ends from.now to.new }
+{
+    to.lanes.copy_from(&from.lanes);
+    to.next.as_mut_slice().copy_from_slice(from.next.as_slice());
+}
+
+/// Looks up the dispatch of the next operation of `job` in the state `from`, and then makes `to` a copy of that state.
+#[inline(always)]
+fn dispatch_in_copy<L: StateLanes>(
+    grid: &Grid<L>,
+    from: &State<L>,
+    to: &mut State<L>,
+    job: u16,
+) -> Dispatch
+    requires can { CanGoOn L.GREATEST grid.now
+        (rows_of grid.now (L.heads from.now.lanes) (L.ends from.now.lanes)) from.now.next.items job }
+    requires long { IsAsLong L.heads L.ends from.now to.old }
+    ensures job { result.job ≡ job }
+    ensures is { IsDispatchOf grid.now (L.heads to.new.lanes) to.new.next.items result }
+    ensures copied { IsCopied L.heads L.ends from.now to.new }
+{
+    let dispatch = Dispatch::of(&from.lanes, from.next.as_slice(), grid, job as usize);
+    copy_state(from, to);
+    dispatch
+}
 
 impl<'a, L: StateLanes> Dispatching<State<L>> for LaidOut<'a, L> {
     ghost use Rattle.std.specs.Prelude.{◌∷◌, ◌++◌, [], vec_capacity};
@@ -82,8 +117,7 @@ impl<'a, L: StateLanes> Dispatching<State<L>> for LaidOut<'a, L> {
     }
 
     fn copy(&self, from: &State<L>, to: &mut State<L>) {
-        to.lanes.copy_from(&from.lanes);
-        to.next.as_mut_slice().copy_from_slice(from.next.as_slice());
+        copy_state(from, to);
     }
 
     fn list_candidates(
@@ -121,13 +155,40 @@ impl<'a, L: StateLanes> Dispatching<State<L>> for LaidOut<'a, L> {
         bound: u64,
         limit: u64,
     ) -> Option<u64> {
+        let grid = self.grid();
+        let next = state.next.as_mut_slice();
+        let dispatch = Dispatch::of(&state.lanes, next, grid, candidate.job as usize);
         advance_below(
             &mut state.lanes,
-            state.next.as_mut_slice(),
+            next,
             &mut scratch.raises,
             &[],
-            self.grid(),
-            candidate.job as usize,
+            grid,
+            dispatch,
+            bound.max(candidate.own),
+            limit.min(BOUNDS),
+        )
+    }
+
+    #[inline(always)]
+    fn dispatch_below_in_copy(
+        &self,
+        scratch: &mut Scratch<L>,
+        from: &State<L>,
+        to: &mut State<L>,
+        candidate: Candidate,
+        bound: u64,
+        limit: u64,
+    ) -> Option<u64> {
+        let grid = self.grid();
+        let dispatch = dispatch_in_copy(grid, from, to, candidate.job);
+        advance_below(
+            &mut to.lanes,
+            to.next.as_mut_slice(),
+            &mut scratch.raises,
+            &[],
+            grid,
+            dispatch,
             bound.max(candidate.own),
             limit.min(BOUNDS),
         )
@@ -165,13 +226,40 @@ impl<'a, L: StateLanes> Dispatching<State<L>> for LaidOut<'a, L> {
         bound: u64,
         limit: u64,
     ) -> Option<u64> {
+        let grid = self.grid();
+        let next = state.next.as_mut_slice();
+        let dispatch = Dispatch::of(&state.lanes, next, grid, candidate.job as usize);
         advance_below(
             &mut state.lanes,
-            state.next.as_mut_slice(),
+            next,
             &mut scratch.raises,
             scratch.ceilings.as_slice(),
-            self.grid(),
-            candidate.job as usize,
+            grid,
+            dispatch,
+            bound.max(candidate.own),
+            limit.min(BOUNDS),
+        )
+    }
+
+    #[inline(never)]
+    fn dispatch_child_below_in_copy(
+        &self,
+        scratch: &mut Scratch<L>,
+        from: &State<L>,
+        to: &mut State<L>,
+        candidate: Candidate,
+        bound: u64,
+        limit: u64,
+    ) -> Option<u64> {
+        let grid = self.grid();
+        let dispatch = dispatch_in_copy(grid, from, to, candidate.job);
+        advance_below(
+            &mut to.lanes,
+            to.next.as_mut_slice(),
+            &mut scratch.raises,
+            scratch.ceilings.as_slice(),
+            grid,
+            dispatch,
             bound.max(candidate.own),
             limit.min(BOUNDS),
         )

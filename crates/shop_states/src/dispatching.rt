@@ -116,6 +116,37 @@ pub trait Dispatching<S: Drop> {
         ensures kept { (w : List ℕ) (j : ℕ) → KnowsChild self.now scratch.old w j
             → KnowsChild self.now scratch.new w j };
 
+    /// Makes `to` a copy of `from`, and does there what `dispatch_below` does. What it reads of `from` need not wait
+    /// for the copy.
+    fn dispatch_below_in_copy(
+        &self,
+        scratch: &mut Self::Scratch,
+        from: &S,
+        to: &mut S,
+        candidate: Candidate,
+        bound: u64,
+        limit: u64,
+    ) -> Option<u64>
+        requires scratch { IsScratch self.now scratch.old }
+        requires to { IsSlot self.now to.old }
+        requires can { CanDispatch (shop self.now)
+            (λ w. IsStateOf self.now w from.now × IsCandidate self.now w candidate)
+            candidate.job bound }
+        ensures told { (w : List ℕ) → IsStateOf self.now w from.now
+            → IsCandidate self.now w candidate → bound ≡ lb (shop self.now) w
+            → TellsBoundBelow limit (lb (shop self.now) (w ++ candidate.job ∷ [])) result }
+        ensures state { (w : List ℕ) → IsStateOf self.now w from.now
+            → IsCandidate self.now w candidate
+            → OnSome result (IsStateOf self.now (w ++ candidate.job ∷ []) to.new) }
+        ensures slot { IsSlot self.now to.new }
+        ensures scratch { IsScratch self.now scratch.new }
+        ensures kept { (w : List ℕ) (j : ℕ) → KnowsChild self.now scratch.old w j
+            → KnowsChild self.now scratch.new w j }
+    {
+        self.copy(from, to);
+        self.dispatch_below(scratch, to, candidate, bound, limit)
+    }
+
     /// Bounds all children of the word of `state` together, before any candidate is dispatched. `bound` is the bound of
     /// that word, and `list_candidates` listed the candidates. Answers a number: if `bound` or the `own` of a candidate
     /// is at least this number, the bound of the child is the greater of the two. Answers `None` where each child is to
@@ -174,6 +205,37 @@ pub trait Dispatching<S: Drop> {
             → KnowsChild self.now scratch.new w j }
     {
         self.dispatch_below(scratch, state, candidate, bound, limit)
+    }
+
+    /// Does what `dispatch_below_in_copy` does, in fewer steps, with what `bound_children` left in `scratch`.
+    fn dispatch_child_below_in_copy(
+        &self,
+        scratch: &mut Self::Scratch,
+        from: &S,
+        to: &mut S,
+        candidate: Candidate,
+        bound: u64,
+        limit: u64,
+    ) -> Option<u64>
+        requires scratch { IsScratch self.now scratch.old }
+        requires to { IsSlot self.now to.old }
+        requires can { CanDispatch (shop self.now)
+            (λ w. IsStateOf self.now w from.now × IsCandidate self.now w candidate
+            × KnowsChild self.now scratch.old w candidate.job)
+            candidate.job bound }
+        ensures told { (w : List ℕ) → IsStateOf self.now w from.now
+            → IsCandidate self.now w candidate → bound ≡ lb (shop self.now) w
+            → TellsBoundBelow limit (lb (shop self.now) (w ++ candidate.job ∷ [])) result }
+        ensures state { (w : List ℕ) → IsStateOf self.now w from.now
+            → IsCandidate self.now w candidate
+            → OnSome result (IsStateOf self.now (w ++ candidate.job ∷ []) to.new) }
+        ensures slot { IsSlot self.now to.new }
+        ensures scratch { IsScratch self.now scratch.new }
+        ensures kept { (w : List ℕ) (j : ℕ) → KnowsChild self.now scratch.old w j
+            → KnowsChild self.now scratch.new w j }
+    {
+        self.copy(from, to);
+        self.dispatch_child_below(scratch, to, candidate, bound, limit)
     }
 
     /// Law: the state of a word also has room for any other state.

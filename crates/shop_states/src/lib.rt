@@ -5,6 +5,7 @@ mod advances;
 mod beginnings;
 mod candidate_lists;
 mod dispatchers;
+mod dispatches;
 mod dispatching;
 mod fills;
 mod head_raises;

@@ -2,6 +2,7 @@
 ghost use Rattle.std.specs.Prelude.{◌≡◌, ℕ, ◌+◌, ◌≤◌, ◌<◌, ◌^◌, IfOk, length, replicate};
 ghost use Rattle.shop_lanes.specs.Spans.{spans_between};
 ghost use Rattle.shop_states.specs.inner.Ceilings.{AreUnder};
+ghost use Rattle.shop_states.specs.inner.Dispatches.{AreDelayedOn};
 ghost use Rattle.shop_states.specs.inner.HeadRaises.{nothing_raised, raise_of, raises_in};
 ghost use Rattle.shop_layout.specs.Lanes.{lanes_on, rows_of};
 ghost use Rattle.shop_states.specs.inner.LaidLanes.{laid_rows};
@@ -12,6 +13,7 @@ ghost use Rattle.shop_states.specs.inner.Siblings.{BoundsRaises, CanRaiseBehind,
 ghost use Rattle.shop_states.specs.inner.Siblings.{RaisesBehind};
 ghost use Rattle.shop_states.specs.inner.Watchers.{AreKnown, Watches, no_floor};
 
+use crate::dispatches::Dispatch;
 use crate::head_raises::{LaneRaise, no_raise};
 use crate::lane_bounds::{LaidLanes, take_ceilings, take_spans};
 use crate::machine_sets::MachineSet;
@@ -70,30 +72,29 @@ impl<L: StateLanes> MachineRaises<L> {
         })
     }
 
-    /// Raises each head below `end` on `machine` to `end`, then every later head on its route that is now too early.
+    /// Raises the heads that `dispatch` delays to its end, then every later head on their routes that is now too early.
     /// Updates the ends of next operations. Notes how far the later heads rose, and answers the set of their machines.
     #[inline(always)]
-    pub fn raise(
+    pub(crate) fn raise(
         &mut self,
         lanes: &mut L,
         grid: &Grid<L>,
-        routes: &Routes,
         next: &[u32],
-        machine: usize,
-        end: u64,
+        dispatch: Dispatch,
     ) -> MachineSet
         requires at_rest { AreEmpty self.old }
-        requires routes { routes.now ≡ grid.now }
-        requires machine { HasBlocks grid.now (length (L.heads lanes.old)) machine }
-        requires can { CanRaise L.GREATEST grid.now next.now (IsOnMachine grid.now machine) end
+        requires machine { HasBlocks grid.now (length (L.heads lanes.old)) dispatch.machine }
+        requires delayed { AreDelayedOn grid.now dispatch.machine dispatch.end (L.heads lanes.old)
+            dispatch.delayed }
+        requires can { CanRaise L.GREATEST grid.now next.now (IsOnMachine grid.now dispatch.machine) dispatch.end
             (rows_of grid.now (L.heads lanes.old) (L.ends lanes.old)) (length self.old) }
-        ensures { HasRaised L.GREATEST grid.now next.now (IsOnMachine grid.now machine) end
+        ensures { HasRaised L.GREATEST grid.now next.now (IsOnMachine grid.now dispatch.machine) dispatch.end
             (rows_of grid.now (L.heads lanes.old) (L.ends lanes.old))
             (rows_of grid.now (L.heads lanes.new) (L.ends lanes.new)) self.old self.new result }
     {
         let mut raised = MachineSet::none();
         let raises = self.raises.as_mut_slice();
-        raise(lanes, raises, &mut raised, grid, routes, next, machine, end);
+        raise(lanes, raises, &mut raised, grid, next, dispatch);
         raised
     }
 

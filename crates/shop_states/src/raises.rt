@@ -1,17 +1,19 @@
 // Raises heads after an operation is dispatched.
-ghost use Rattle.std.specs.Prelude.{◌≡◌, ◌+◌, ◌*◌, ◌≤◌, ◌<◌, ◌^◌, [], length, slice_index};
-ghost use Rattle.shop_layout.specs.Positions.{AreEven};
+ghost use Rattle.std.specs.Prelude.{◌≡◌, ◌+◌, ◌≤◌, ◌<◌, ◌^◌, [], length, slice_index};
 ghost use Rattle.shop_layout.specs.Lanes.{rows_of};
+ghost use Rattle.shop_states.specs.inner.Dispatches.{AreDelayedOn};
 ghost use Rattle.shop_states.specs.inner.HeadRaises.{raises_in};
 ghost use Rattle.shop_states.specs.inner.RaiseCalls.{CanRaise, HasRaised};
-ghost use Rattle.shop_states.specs.inner.Raises.{HasBlocks, IsInBlocks, IsPosition, IsRaisable};
+ghost use Rattle.shop_states.specs.inner.Raises.{AreWaiting, HasBlocks, IsPosition, IsRaisable};
 ghost use Rattle.shop_states.specs.inner.Raises.{IsOnMachine, Raises, SetsEndAt};
+ghost use Rattle.shop_states.specs.inner.RisingLists.{IsIn};
 ghost use Rattle.shop_states.specs.inner.Watchers.{AreKnown, Notes, Sees, Watches, no_floor};
 ghost use Rattle.shop_states.specs.inner.MachineRaises.{AreListed};
 
+use crate::dispatches::Dispatch;
 use crate::head_raises::{LaneRaise, see};
 use crate::machine_sets::MachineSet;
-use shop_lanes::StateLanes;
+use shop_lanes::{Marks, StateLanes};
 use shop_layout::{Grid, Routes};
 use std::mem;
 
@@ -115,74 +117,39 @@ fn raise_from<L: StateLanes>(
     raise_route(lanes, raises, raised, routes, position, end);
 }
 
-/// Raises to `end` each head below `end` of the operations that wait in blocks `from` up to `to` (excluded), at most
-/// eight blocks. Also raises every later head on their routes that is too early then.
+/// Raises to `end` each head below `end` at the marked positions, where operations wait. Also raises every later head
+/// on their routes that is too early then, so that a marked head may have risen before its turn comes.
 #[inline(always)]
-fn raise_blocks<L: StateLanes>(
+fn raise_marked<L: StateLanes>(
     lanes: &mut L,
     raises: &mut [LaneRaise<L::Number>],
     raised: &mut MachineSet,
     routes: &Routes,
     next: &[u32],
-    from: usize,
-    to: usize,
+    marks: Marks,
     end: u64,
 )
-    requires few { to ≤ from + 8 }
-    requires ordered { from ≤ to }
-    requires within { 8 * to ≤ length (L.heads lanes.old) }
-    requires can { CanRaise L.GREATEST routes.now next.now (IsInBlocks from to) end
+    requires marks { AreWaiting (L.heads lanes.old) marks }
+    requires can { CanRaise L.GREATEST routes.now next.now (IsIn marks) end
         (rows_of routes.now (L.heads lanes.old) (L.ends lanes.old)) (length raises.old) }
     requires machines_fit { 0 < L.EACH → length raises.old ≤ 64 }
     requires listed { AreListed (raises_in L.value raises.old) raised.old }
-    ensures { HasRaised L.GREATEST routes.now next.now (IsInBlocks from to) end
+    ensures { HasRaised L.GREATEST routes.now next.now (IsIn marks) end
         (rows_of routes.now (L.heads lanes.old) (L.ends lanes.old))
         (rows_of routes.now (L.heads lanes.new) (L.ends lanes.new))
         (raises_in L.value raises.old) (raises_in L.value raises.new) raised.new }
 {
-    let mut below = lanes.below(from, to, end);
-    while let Some(position) = below.pop_first() {
+    let mut todo = marks;
+    while let Some(position) = todo.pop_first() {
         if lanes.head(position) < end {
             raise_from(lanes, raises, raised, routes, next, position, end);
         }
     }
 }
 
-/// Does what `raise` does, where each machine has `each` blocks. A literal `each` lets the compiler unroll the pass
-/// over the machine's heads.
-#[inline(always)]
-fn raise_even<L: StateLanes>(
-    each: usize,
-    lanes: &mut L,
-    raises: &mut [LaneRaise<L::Number>],
-    raised: &mut MachineSet,
-    grid: &Grid<L>,
-    routes: &Routes,
-    next: &[u32],
-    machine: usize,
-    end: u64,
-)
-    requires even { AreEven grid.now.blocks each }
-    requires some { 0 < each }
-    requires few { each ≤ 8 }
-    requires routes { routes.now ≡ grid.now }
-    requires machine { HasBlocks grid.now (length (L.heads lanes.old)) machine }
-    requires can { CanRaise L.GREATEST grid.now next.now (IsOnMachine grid.now machine) end
-        (rows_of grid.now (L.heads lanes.old) (L.ends lanes.old)) (length raises.old) }
-    requires machines_fit { 0 < L.EACH → length raises.old ≤ 64 }
-    requires listed { AreListed (raises_in L.value raises.old) raised.old }
-    ensures { HasRaised L.GREATEST grid.now next.now (IsOnMachine grid.now machine) end
-        (rows_of grid.now (L.heads lanes.old) (L.ends lanes.old))
-        (rows_of grid.now (L.heads lanes.new) (L.ends lanes.new))
-        (raises_in L.value raises.old) (raises_in L.value raises.new) raised.new }
-{
-    let (from, to) = grid.blocks_of(each, machine);
-    raise_blocks(lanes, raises, raised, routes, next, from, to, end);
-}
-
-/// Does what `raise` does, for machines of four or more blocks, or of different numbers of blocks. Stays out of line,
-/// so that the code inlined for short machines stays small, and looks its routes up itself, so that theirs need no
-/// place in memory.
+/// Does what `raise` does, for machines of four or more blocks, or of different numbers of blocks: raises what is
+/// marked in the first eight blocks, then marks and raises eight blocks after another. Stays out of line, so that the
+/// code inlined for short machines stays small.
 #[inline(never)]
 fn raise_longer<L: StateLanes>(
     lanes: &mut L,
@@ -190,60 +157,74 @@ fn raise_longer<L: StateLanes>(
     raised: &mut MachineSet,
     grid: &Grid<L>,
     next: &[u32],
-    machine: usize,
-    end: u64,
+    dispatch: Dispatch,
 )
-    requires machine { HasBlocks grid.now (length (L.heads lanes.old)) machine }
-    requires can { CanRaise L.GREATEST grid.now next.now (IsOnMachine grid.now machine) end
+    requires machine { HasBlocks grid.now (length (L.heads lanes.old)) dispatch.machine }
+    requires delayed { AreDelayedOn grid.now dispatch.machine dispatch.end (L.heads lanes.old)
+        dispatch.delayed }
+    requires can { CanRaise L.GREATEST grid.now next.now (IsOnMachine grid.now dispatch.machine) dispatch.end
         (rows_of grid.now (L.heads lanes.old) (L.ends lanes.old)) (length raises.old) }
     requires machines_fit { 0 < L.EACH → length raises.old ≤ 64 }
     requires listed { AreListed (raises_in L.value raises.old) raised.old }
-    ensures { HasRaised L.GREATEST grid.now next.now (IsOnMachine grid.now machine) end
+    ensures { HasRaised L.GREATEST grid.now next.now (IsOnMachine grid.now dispatch.machine) dispatch.end
         (rows_of grid.now (L.heads lanes.old) (L.ends lanes.old))
         (rows_of grid.now (L.heads lanes.new) (L.ends lanes.new))
         (raises_in L.value raises.old) (raises_in L.value raises.new) raised.new }
 {
     let routes = grid.routes();
-    let behind = grid.block(machine + 1);
-    let mut from = grid.block(machine);
+    let behind = grid.block(dispatch.machine + 1);
+    let end = dispatch.end;
+    let mut from = grid.block(dispatch.machine);
+    let mut marks = dispatch.delayed;
     // taken out, so that the set stays in registers
     let mut machines = mem::replace(raised, MachineSet::none());
-    while from < behind {
-        let to = from + (behind - from).min(8);
-        raise_blocks(lanes, raises, &mut machines, &routes, next, from, to, end);
-        from = to;
+    loop {
+        raise_marked(lanes, raises, &mut machines, &routes, next, marks, end);
+        from += (behind - from).min(8);
+        if from == behind {
+            break;
+        }
+        marks = lanes.below(from, from + (behind - from).min(8), end);
     }
     *raised = machines;
 }
 
-/// Raises each head below `end` on `machine` to `end`, then every later head on its route that is now too early. Notes
-/// how far these later heads rose, and updates the ends of next operations.
+/// Raises each head below the end of a dispatch on its machine to that end, then every later head on its route that is
+/// now too early. Notes how far these later heads rose, and updates the ends of next operations. The heads are those
+/// that the dispatch delays; its own operation waits no longer.
 #[inline(always)]
 pub(crate) fn raise<L: StateLanes>(
     lanes: &mut L,
     raises: &mut [LaneRaise<L::Number>],
     raised: &mut MachineSet,
     grid: &Grid<L>,
-    routes: &Routes,
     next: &[u32],
-    machine: usize,
-    end: u64,
+    dispatch: Dispatch,
 )
-    requires routes { routes.now ≡ grid.now }
-    requires machine { HasBlocks grid.now (length (L.heads lanes.old)) machine }
-    requires can { CanRaise L.GREATEST grid.now next.now (IsOnMachine grid.now machine) end
+    requires machine { HasBlocks grid.now (length (L.heads lanes.old)) dispatch.machine }
+    requires delayed { AreDelayedOn grid.now dispatch.machine dispatch.end (L.heads lanes.old)
+        dispatch.delayed }
+    requires can { CanRaise L.GREATEST grid.now next.now (IsOnMachine grid.now dispatch.machine) dispatch.end
         (rows_of grid.now (L.heads lanes.old) (L.ends lanes.old)) (length raises.old) }
     requires machines_fit { 0 < L.EACH → length raises.old ≤ 64 }
     requires listed { AreListed (raises_in L.value raises.old) raised.old }
-    ensures { HasRaised L.GREATEST grid.now next.now (IsOnMachine grid.now machine) end
+    ensures { HasRaised L.GREATEST grid.now next.now (IsOnMachine grid.now dispatch.machine) dispatch.end
         (rows_of grid.now (L.heads lanes.old) (L.ends lanes.old))
         (rows_of grid.now (L.heads lanes.new) (L.ends lanes.new))
         (raises_in L.value raises.old) (raises_in L.value raises.new) raised.new }
 {
-    match grid.blocks_each() {
-        1 => raise_even(1, lanes, raises, raised, grid, routes, next, machine, end),
-        2 => raise_even(2, lanes, raises, raised, grid, routes, next, machine, end),
-        3 => raise_even(3, lanes, raises, raised, grid, routes, next, machine, end),
-        _ => raise_longer(lanes, raises, raised, grid, next, machine, end),
+    let each = grid.blocks_each();
+    if each == 0 || each > 3 {
+        return raise_longer(lanes, raises, raised, grid, next, dispatch);
     }
+    let routes = grid.routes();
+    raise_marked(
+        lanes,
+        raises,
+        raised,
+        &routes,
+        next,
+        dispatch.delayed,
+        dispatch.end,
+    );
 }

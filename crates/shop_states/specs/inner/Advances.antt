@@ -1,6 +1,7 @@
 -- A state goes on by one operation.
 --     IsAdvancing greatest shop w ..   the word w can go on with the job, and `least` lies between
 --                                      what is foreseen of the longer word's bound and that bound
+--     CanGoOn greatest l rows ..       some word is kept in lanes that can go on with the job
 --     CanAdvance greatest l rows ..    some word is kept in lanes that can go on so, to a word whose
 --                                      spans are no more than these ceilings
 --     CanStrike greatest l rows ..     some word is kept in lanes whose conflict set is one job
@@ -29,6 +30,13 @@ pub record IsAdvancing (greatest : ℕ) (shop : Shop) (w : List ℕ) (l : Layout
   pub kept : IsKeptInLanes greatest shop w l rows nexts
   pub fits : IsWord shop (w ++ job ∷ [])
   pub foreseen : IsLeastAt shop w l rows job (slice_index nexts job) least
+
+pub record CanGoOn (greatest : ℕ) (l : LayoutState) (rows : Rows) (nexts : List ℕ)
+    (job : ℕ) : Type 0 where
+  pub shop : Shop
+  pub word : List ℕ
+  pub kept : IsKeptInLanes greatest shop word l rows nexts
+  pub fits : IsWord shop (word ++ job ∷ [])
 
 pub record CanAdvance (greatest : ℕ) (l : LayoutState) (rows : Rows) (nexts : List ℕ)
     (job least machines : ℕ) (ceilings : List ℕ) : Type 0 where

@@ -5,11 +5,13 @@
 --                                    routes are in order
 --     IsLeastRaise l among e ..      the least heads that are raised
 --     IsRaisable greatest l nexts .. some raised heads fit into lanes
+--     AreWaiting heads marks         marked positions, in order, at each of which something waits
 --     Raises greatest l nexts ..     heads are raised least, and the ends of next operations kept up
 use Rattle.std.specs.Prelude.{◌≡◌, ℕ, ◌+◌, ◌*◌, ◌≤◌, ◌<◌, ◌^◌, List, [], length, slice_index, slice_index_or}
 use Rattle.shop_lanes.specs.Rows.{Rows}
 use Rattle.shop_layout.specs.Positions.{place_or, LayoutState, place}
 use Rattle.shop_states.specs.inner.LaneEnds.{IsEndOf}
+use Rattle.shop_states.specs.inner.RisingLists.{IsIn, Rises}
 
 abbrev pub steps_of : LayoutState → ℕ → ℕ
 steps_of l j = length (slice_index_or l.places j [])
@@ -107,6 +109,11 @@ IsInBlocks from to q = (8 * from ≤ q) × (q < 8 * to)
 
 abbrev pub IsOnMachine : LayoutState → ℕ → ℕ → Type 0
 IsOnMachine l m q = IsInBlocks (slice_index l.blocks m) (slice_index l.blocks (m + 1)) q
+
+-- positions in ascending order, at each of which something waits
+pub record AreWaiting (heads marks : List ℕ) : Type 0 where
+  pub waits : (q : ℕ) → IsIn marks q → 0 < slice_index heads q
+  pub rises : Rises marks
 
 -- the blocks of machine m are among the first n positions
 pub record HasBlocks (l : LayoutState) (n m : ℕ) : Type 0 where

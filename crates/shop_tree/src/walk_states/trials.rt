@@ -16,25 +16,9 @@ use std::alloc::{AllocError as NoMemory, Global};
 use std::mem;
 
 impl<'l, D: Dispatching<S>, S: Drop> WalkStates<'l, D, S> {
-    /// Makes the trial's state that of the current word: a copy of the current state or, for the last trial, the
-    /// current state itself, which the walk no longer needs.
-    fn begin_trial(&mut self, is_last: bool)
-        requires sound { HoldSlots D.IsSlot D.IsScratch self.old }
-        ensures sound { HoldSlots D.IsSlot D.IsScratch self.new }
-        ensures trial { (w : List ℕ) → D.IsStateOf self.old.dispatcher.now w self.old.current.value
-            → D.IsStateOf self.old.dispatcher.now w self.new.trial.value }
-        ensures current { is_last ≡ false → self.new.current.value ≡ self.old.current.value }
-        ensures dispatcher { self.new.dispatcher.now ≡ self.old.dispatcher.now }
-    {
-        if is_last {
-            mem::swap(&mut self.current, &mut self.trial);
-            return;
-        }
-        self.dispatcher.copy(&self.current, &mut self.trial);
-    }
-
-    /// Dispatches `candidate` in the trial's state, and answers the child's bound if it is below `limit`. The last
-    /// trial uses up the current state. `bound` is the bound of the current word.
+    /// Dispatches `candidate` in the trial's state, and answers the child's bound if it is below `limit`. That state is
+    /// a copy of the current one or, for the last trial, the current state itself, which the walk no longer needs.
+    /// `bound` is the bound of the current word.
     fn try_candidate(
         &mut self,
         candidate: Candidate,
@@ -57,8 +41,21 @@ impl<'l, D: Dispatching<S>, S: Drop> WalkStates<'l, D, S> {
         ensures current { is_last ≡ false → self.new.current.value ≡ self.old.current.value }
         ensures dispatcher { self.new.dispatcher.now ≡ self.old.dispatcher.now }
     {
-        self.begin_trial(is_last);
-        self.dispatcher.dispatch_below(&mut self.scratch, &mut self.trial, candidate, bound, limit)
+        if is_last {
+            mem::swap(&mut self.current, &mut self.trial);
+            let (scratch, trial) = (&mut self.scratch, &mut self.trial);
+            return self
+                .dispatcher
+                .dispatch_below(scratch, trial, candidate, bound, limit);
+        }
+        self.dispatcher.dispatch_below_in_copy(
+            &mut self.scratch,
+            &self.current,
+            &mut self.trial,
+            candidate,
+            bound,
+            limit,
+        )
     }
 
     /// Bounds the children of the current word by `candidates`, as `Dispatching::bound_children` does. Uses up the
@@ -116,9 +113,9 @@ impl<'l, D: Dispatching<S>, S: Drop> WalkStates<'l, D, S> {
         ensures current { self.new.current.value ≡ self.old.current.value }
         ensures dispatcher { self.new.dispatcher.now ≡ self.old.dispatcher.now }
     {
-        self.dispatcher.copy(&self.current, &mut self.trial);
-        self.dispatcher.dispatch_child_below(
+        self.dispatcher.dispatch_child_below_in_copy(
             &mut self.scratch,
+            &self.current,
             &mut self.trial,
             candidate,
             bound,

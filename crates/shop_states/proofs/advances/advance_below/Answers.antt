@@ -1,25 +1,31 @@
-use Rattle.std.proofs.Common.{◌∙◌, refl, arith}
-use Rattle.shop_states.proofs.Trials.{its_end, its_job, now_heads, trial_blocks, trial_bound, trial_keep, trial_under}
-use Rattle.shop_states.proofs.Trials.{trial_kept, trial_raisable, same_machines, trial_raises_fit}
+use Rattle.std.proofs.Common.{ℕ, List, ◌∙◌, ap, get_or, refl, sym, arith}
+use Rattle.shop_lanes.specs.Marks.{positions_among}
+use Rattle.shop_states.specs.inner.Dispatches.{marked_up_to}
+use Rattle.shop_states.proofs.Trials.{its_end, its_job, its_position, now_heads, same_machines, trial_blocks, trial_bound}
+use Rattle.shop_states.proofs.Trials.{trial_keep, trial_kept, trial_raisable, trial_raises_fit, trial_under}
 use Rattle.shop_states.proofs.advances.advance_below.Goals as goal
 
-pub offset_bounds-next-job : goal.offset_bounds-next-job
-offset_bounds-next-job g c = let a = its_job c.requires.can.is.kept c.args.job c.requires.can.is.fits in omega arith
-
-pub bounds-next-job : goal.bounds-next-job
-bounds-next-job g c = its_job c.requires.can.is.kept c.args.job c.requires.can.is.fits
+pub set_head-requires-clause-in_range : goal.set_head-requires-clause-in_range
+set_head-requires-clause-in_range g c = its_position c.requires.can.is.kept c.args.dispatch.job c.requires.can.is.fits
+    c.requires.is.position_is
 
 pub raise-raised-requires-clause-machine : goal.raise-raised-requires-clause-machine
-raise-raised-requires-clause-machine g c = trial_blocks c.requires.can.is.kept c.args.job c.requires.can.is.fits
-    c.routes-routes.ensures c.machine-machine.ensures c.head.ensures c.time.ensures
+raise-raised-requires-clause-machine g c = trial_blocks c.requires.can.is.kept c.args.dispatch.job c.requires.can.is.fits c.requires.is.position_is
+    c.requires.is.machine_is c.requires.is.end_is
     c.set_head.ensures.heads c.set_head.ensures.ends
+
+pub raise-raised-requires-clause-delayed : goal.raise-raised-requires-clause-delayed
+raise-raised-requires-clause-delayed g c =
+    let l = c.args.grid.now in let m = c.args.dispatch.machine
+    in c.requires.is.delayed_are ∙ ap (λ (hs : List ℕ). positions_among hs (get_or l.blocks m 0) (marked_up_to l m)
+    c.args.dispatch.end) (sym c.set_head.ensures.heads)
 
 pub raise-raised-requires-clause-can : goal.raise-raised-requires-clause-can
 raise-raised-requires-clause-can g c = record {
-  fits = its_end c.requires.can.is.kept c.args.job c.requires.can.is.fits
-      c.routes-routes.ensures c.machine-machine.ensures c.head.ensures c.time.ensures;
-  raisable = trial_raisable c.requires.can.is.kept c.args.job c.requires.can.is.fits
-      c.routes-routes.ensures c.machine-machine.ensures c.head.ensures c.time.ensures
+  fits = its_end c.requires.can.is.kept c.args.dispatch.job c.requires.can.is.fits c.requires.is.position_is
+      c.requires.is.machine_is c.requires.is.end_is;
+  raisable = trial_raisable c.requires.can.is.kept c.args.dispatch.job c.requires.can.is.fits c.requires.is.position_is
+      c.requires.is.machine_is c.requires.is.end_is
       c.set_head.ensures.heads c.set_head.ensures.ends;
   jobs = (let nexts = c.requires.can.is.kept.are_next.jobs in let routes = c.requires.can.is.kept.kept.laid.jobs
       in omega arith);
@@ -28,35 +34,47 @@ raise-raised-requires-clause-can g c = record {
 }
 
 pub take_bound-bound-requires-clause-fits : goal.take_bound-bound-requires-clause-fits
-take_bound-bound-requires-clause-fits g c = trial_raises_fit c.requires.can.is.kept c.args.job c.requires.can.is.fits
-    c.routes-routes.ensures c.machine-machine.ensures c.head.ensures c.time.ensures
+take_bound-bound-requires-clause-fits g c = trial_raises_fit c.requires.can.is.kept c.args.dispatch.job c.requires.can.is.fits c.requires.is.position_is
+    c.requires.is.machine_is c.requires.is.end_is
     c.set_head.ensures.heads c.set_head.ensures.ends c.raise-raised.ensures.raises c.requires.at_rest
     c.requires.can.machines_are c.raise-raised.ensures.seen
+
+pub take_bound-bound-requires-clause-under : goal.take_bound-bound-requires-clause-under
+take_bound-bound-requires-clause-under g c =
+    let now = now_heads c.requires.can.is.kept c.args.dispatch.job c.requires.can.is.fits c.requires.is.position_is
+    c.requires.is.machine_is c.requires.is.end_is
+    c.set_head.ensures.heads c.set_head.ensures.ends c.raise-raised.ensures.raises
+    in trial_under c.requires.can.is c.args.ceilings.now c.requires.can.ceilings_are now c.raise-raised.new.self
+    (trial_raises_fit c.requires.can.is.kept c.args.dispatch.job c.requires.can.is.fits c.requires.is.position_is
+    c.requires.is.machine_is c.requires.is.end_is
+    c.set_head.ensures.heads c.set_head.ensures.ends c.raise-raised.ensures.raises c.requires.at_rest
+    c.requires.can.machines_are c.raise-raised.ensures.seen)
+    (c.raise-raised.ensures.machines ∙ c.requires.can.machines_are)
 
 pub returns-then-limit-bound-clause-told : goal.returns-then-limit-bound-clause-told
 returns-then-limit-bound-clause-told g c = λ shop w is.
     let many = c.requires.can.machines_are ∙ same_machines c.requires.can.is.kept.kept.laid is.kept.kept.laid
-    in let most = (trial_bound is.kept c.args.job is.fits c.routes-routes.ensures c.machine-machine.ensures
-    c.head.ensures c.time.ensures c.set_head.ensures.heads c.set_head.ensures.ends c.raise-raised.ensures.raises
-    c.requires.at_rest many
+    in let most = (trial_bound is.kept c.args.dispatch.job is.fits c.requires.is.position_is
+    c.requires.is.machine_is c.requires.is.end_is c.set_head.ensures.heads c.set_head.ensures.ends
+    c.raise-raised.ensures.raises c.requires.at_rest many
     c.raise-raised.ensures.seen is.foreseen c.take_bound-bound.ensures.least c.take_bound-bound.ensures.covers
     c.take_bound-bound.ensures.within).at_most
     in let reached = c.if-limit-bound.true in omega arith
 
 pub go_on-requires-clause-job : goal.go_on-requires-clause-job
-go_on-requires-clause-job g c = its_job c.requires.can.is.kept c.args.job c.requires.can.is.fits
+go_on-requires-clause-job g c = its_job c.requires.can.is.kept c.args.dispatch.job c.requires.can.is.fits
 
 pub go_on-requires-clause-keep : goal.go_on-requires-clause-keep
-go_on-requires-clause-keep g c = trial_keep c.requires.can.is.kept c.args.job c.requires.can.is.fits
-    c.routes-routes.ensures c.machine-machine.ensures c.head.ensures c.time.ensures
+go_on-requires-clause-keep g c = trial_keep c.requires.can.is.kept c.args.dispatch.job c.requires.can.is.fits c.requires.is.position_is
+    c.requires.is.machine_is c.requires.is.end_is
     c.set_head.ensures.heads c.set_head.ensures.ends c.raise-raised.ensures.raises refl
 
 pub returns-clause-told : goal.returns-clause-told
 returns-clause-told g c = λ shop w is.
     let many = c.requires.can.machines_are ∙ same_machines c.requires.can.is.kept.kept.laid is.kept.kept.laid
     in (
-      (trial_bound is.kept c.args.job is.fits c.routes-routes.ensures c.machine-machine.ensures
-          c.head.ensures c.time.ensures c.set_head.ensures.heads c.set_head.ensures.ends
+      (trial_bound is.kept c.args.dispatch.job is.fits c.requires.is.position_is
+          c.requires.is.machine_is c.requires.is.end_is c.set_head.ensures.heads c.set_head.ensures.ends
           c.raise-raised.ensures.raises c.requires.at_rest many
           c.raise-raised.ensures.seen is.foreseen c.take_bound-bound.ensures.least c.take_bound-bound.ensures.covers
           c.take_bound-bound.ensures.within).exact c.if-limit-bound.false,
@@ -64,19 +82,6 @@ returns-clause-told g c = λ shop w is.
     )
 
 pub returns-clause-state : goal.returns-clause-state
-returns-clause-state g c = λ shop w kept fits. trial_kept kept c.args.job fits c.routes-routes.ensures
-    c.machine-machine.ensures c.head.ensures c.time.ensures c.set_head.ensures.heads c.set_head.ensures.ends
-    c.raise-raised.ensures.raises c.go_on.ensures.are_next
-    c.go_on.ensures.ends
-
-pub take_bound-bound-requires-clause-under : goal.take_bound-bound-requires-clause-under
-take_bound-bound-requires-clause-under g c =
-    let now = now_heads c.requires.can.is.kept c.args.job c.requires.can.is.fits c.routes-routes.ensures
-    c.machine-machine.ensures c.head.ensures c.time.ensures c.set_head.ensures.heads c.set_head.ensures.ends
-    c.raise-raised.ensures.raises
-    in trial_under c.requires.can.is c.args.ceilings.now c.requires.can.ceilings_are now c.raise-raised.new.self
-    (trial_raises_fit c.requires.can.is.kept c.args.job c.requires.can.is.fits
-    c.routes-routes.ensures c.machine-machine.ensures c.head.ensures c.time.ensures
-    c.set_head.ensures.heads c.set_head.ensures.ends c.raise-raised.ensures.raises c.requires.at_rest
-    c.requires.can.machines_are c.raise-raised.ensures.seen)
-    (c.raise-raised.ensures.machines ∙ c.requires.can.machines_are)
+returns-clause-state g c = λ shop w kept fits. trial_kept kept c.args.dispatch.job fits c.requires.is.position_is
+    c.requires.is.machine_is c.requires.is.end_is c.set_head.ensures.heads c.set_head.ensures.ends
+    c.raise-raised.ensures.raises c.go_on.ensures.are_next c.go_on.ensures.ends

@@ -15,7 +15,7 @@ returns g c =
     c.as_mut_slice-raises.ensures.value
     (lengths_in value c.as_mut_slice-raises.result.now c.raise.new.raises c.raise.ensures.machines)
     in let has = λ (before after : List Raise). HasRaised g.L.StateLanes.GREATEST c.args.grid.now c.args.next.now
-    (IsOnMachine c.args.grid.now c.args.machine) c.args.end
+    (IsOnMachine c.args.grid.now c.args.dispatch.machine) c.args.dispatch.end
     (rows_of c.args.grid.now (g.L.StateLanes.heads c.args.lanes.now) (g.L.StateLanes.ends c.args.lanes.now))
     (rows_of c.args.grid.now (g.L.StateLanes.heads c.raise.new.lanes) (g.L.StateLanes.ends c.raise.new.lanes))
     before after c.raise.new.raised

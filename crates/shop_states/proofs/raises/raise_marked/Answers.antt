@@ -1,16 +1,17 @@
 use Rattle.std.proofs.Common.{◌∙◌, refl, subst, sym, arith}
-use Rattle.shop_states.specs.inner.Raises.{IsInBlocks, IsPosition}
+use Rattle.shop_states.specs.inner.Raises.{IsPosition}
+use Rattle.shop_states.specs.inner.RisingLists.{IsIn}
 use Rattle.shop_states.proofs.RaisedMachines.{lengths_in}
-use Rattle.shop_states.proofs.RaiseLoops.{blocks_begin, popped_here, popped_within, popped_waits}
-use Rattle.shop_states.proofs.RaiseLoops.{popped_raisable, blocks_on, blocks_past, blocks_end}
+use Rattle.shop_states.proofs.RaiseLoops.{marks_begin, popped_here, popped_within, popped_waits}
+use Rattle.shop_states.proofs.RaiseLoops.{popped_raisable, marks_on, marks_past, marks_end}
 use Rattle.shop_states.proofs.Watching.{sees_both, sees_none}
-use Rattle.shop_states.proofs.raises.raise_blocks.Goals as goal
+use Rattle.shop_states.proofs.raises.raise_marked.Goals as goal
 
 pub loop-position-init : goal.loop-position-init
 loop-position-init g c =
     record {
       raised =
-          blocks_begin c.requires.can.raisable c.requires.ordered c.requires.within c.below-below.ensures;
+          marks_begin c.requires.can.raisable c.requires.marks;
       seen = sees_none;
       machines = refl;
       listed = c.requires.listed;
@@ -42,11 +43,11 @@ pub loop-position-preserved-then-head-end : goal.loop-position-preserved-then-he
 loop-position-preserved-then-head-end g c =
     record {
       raised =
-          blocks_on c.requires.can.raisable c.loop-position.invariant.raised c.in-Some.ensures
+          marks_on c.requires.can.raisable c.loop-position.invariant.raised c.in-Some.ensures
           c.raise_from.ensures.raises;
-      seen = sees_both (IsInBlocks c.args.from c.args.to) (IsPosition c.in-Some.position) (IsInBlocks c.args.from
-          c.args.to) (λ q here. here)
-          (λ q e. subst (IsInBlocks c.args.from c.args.to) (sym e)
+      seen = sees_both (IsIn c.args.marks) (IsPosition c.in-Some.position) (IsIn
+          c.args.marks) (λ q here. here)
+          (λ q e. subst (IsIn c.args.marks) (sym e)
           (popped_here c.requires.can.raisable c.loop-position.invariant.raised c.in-Some.ensures))
           c.raise_from.ensures.raises.raised.raised.rises
           c.loop-position.invariant.seen c.raise_from.ensures.seen;
@@ -58,7 +59,7 @@ pub loop-position-preserved : goal.loop-position-preserved
 loop-position-preserved g c =
     record {
       raised =
-          blocks_past c.requires.can.raisable c.loop-position.invariant.raised c.in-Some.ensures
+          marks_past c.requires.can.raisable c.loop-position.invariant.raised c.in-Some.ensures
           (let a = c.head.ensures in let b = c.if-head-end.false in omega arith);
       seen = c.loop-position.invariant.seen;
       machines = c.loop-position.invariant.machines;
@@ -67,7 +68,7 @@ loop-position-preserved g c =
 
 pub returns : goal.returns
 returns g c = record {
-  raises = blocks_end c.requires.can.raisable c.in_default.ensures.0 c.loop-position.invariant.raised;
+  raises = marks_end c.requires.can.raisable c.in_default.ensures.0 c.loop-position.invariant.raised;
   seen = c.loop-position.invariant.seen;
   listed = c.loop-position.invariant.listed;
   machines = c.loop-position.invariant.machines;

@@ -1,18 +1,18 @@
 use Rattle.std.proofs.Common.{◌≡◌, length}
 use Rattle.shop_layout.specs.Lanes.{rows_of}
 use Rattle.shop_states.specs.inner.HeadRaises.{raises_in}
-use Rattle.shop_states.specs.inner.Raises.{IsInBlocks}
 use Rattle.shop_states.specs.inner.MachineRaises.{AreListed}
+use Rattle.shop_states.specs.inner.RisingLists.{IsIn}
 use Rattle.shop_states.specs.inner.Watchers.{Sees}
-use Rattle.shop_states.proofs.RaiseLoops.{AreBlocksRaised}
-use Rattle.shop_states.proofs.raises.raise_blocks.Given as goal
+use Rattle.shop_states.proofs.RaiseLoops.{AreMarksRaised}
+use Rattle.shop_states.proofs.raises.raise_marked.Given as goal
 
 abbrev pub invariant-loop-position : goal.invariant-loop-position
 invariant-loop-position g l = record {
-  raised : AreBlocksRaised g.L.StateLanes.GREATEST l.routes l.next l.from l.to l.end l.below
+  raised : AreMarksRaised g.L.StateLanes.GREATEST l.routes l.next l.fn.marks l.end l.todo
       (rows_of l.routes (g.L.StateLanes.heads l.fn.lanes) (g.L.StateLanes.ends l.fn.lanes))
       (rows_of l.routes (g.L.StateLanes.heads l.lanes) (g.L.StateLanes.ends l.lanes));
-  seen : Sees l.routes.machines (IsInBlocks l.from l.to) l.end (g.L.StateLanes.heads l.fn.lanes)
+  seen : Sees l.routes.machines (IsIn l.fn.marks) l.end (g.L.StateLanes.heads l.fn.lanes)
       (g.L.StateLanes.heads l.lanes) (raises_in g.L.StateLanes.value l.fn.raises)
       (raises_in g.L.StateLanes.value l.raises);
   machines : length (raises_in g.L.StateLanes.value l.raises)
@@ -21,4 +21,4 @@ invariant-loop-position g l = record {
 }
 
 abbrev pub decreases-loop-position : goal.decreases-loop-position
-decreases-loop-position g l = length l.below
+decreases-loop-position g l = length l.todo

@@ -1,0 +1,64 @@
+use Rattle.std.proofs.Common.{◌+◌, ◌∙◌, ap, arith, get_or, length, refl, sym}
+use Rattle.shop_lanes.proofs.Unmarking.{positions_among-set}
+use Rattle.shop_lanes.specs.Marks.{without}
+use Rattle.shop_layout.specs.Positions.{LayoutState}
+use Rattle.shop_states.specs.inner.Dispatches.{marked_up_to}
+use Rattle.shop_states.proofs.Trials.{its_blocks, its_end, its_job, its_position}
+use Rattle.shop_states.proofs.dispatches.Dispatch.of.Goals as goal
+
+pub offset_bounds-next-job : goal.offset_bounds-next-job
+offset_bounds-next-job g c = let a = its_job c.requires.kept c.args.job c.requires.fits in omega arith
+
+pub bounds-next-job : goal.bounds-next-job
+bounds-next-job g c = its_job c.requires.kept c.args.job c.requires.fits
+
+pub machine-machine-requires : goal.machine-machine-requires
+machine-machine-requires g c =
+    let here = its_position c.requires.kept c.args.job c.requires.fits refl
+    in let long = ap (λ (l : LayoutState). length l.machines) c.routes-routes.ensures
+    in let known = c.requires.kept.kept.laid.machines_at.positions in let heads = c.requires.kept.kept.heads.positions
+    in omega arith
+
+pub head-requires : goal.head-requires
+head-requires g c = its_position c.requires.kept c.args.job c.requires.fits refl
+
+pub time-requires : goal.time-requires
+time-requires g c =
+    let here = its_position c.requires.kept c.args.job c.requires.fits refl
+    in let long = ap (λ (l : LayoutState). length l.times) c.routes-routes.ensures
+    in let known = c.requires.kept.kept.laid.positions.times in let heads = c.requires.kept.kept.heads.positions
+    in omega arith
+
+pub mark_below-delayed-requires-clause-machine : goal.mark_below-delayed-requires-clause-machine
+mark_below-delayed-requires-clause-machine g c = its_blocks c.requires.kept c.args.job c.requires.fits refl
+    (c.machine-machine.ensures
+    ∙ ap (λ (l : LayoutState). get_or l.machines (get_or c.args.next.now c.args.job 0) 0) c.routes-routes.ensures)
+
+pub mark_below-delayed-requires-clause-fits : goal.mark_below-delayed-requires-clause-fits
+mark_below-delayed-requires-clause-fits g c =
+    let time = ap (λ (l : LayoutState). get_or l.times (get_or c.args.next.now c.args.job 0) 0) c.routes-routes.ensures
+    in let head = c.head.ensures in let its = c.time.ensures
+    in its_end c.requires.kept c.args.job c.requires.fits refl
+    (c.machine-machine.ensures
+    ∙ ap (λ (l : LayoutState). get_or l.machines (get_or c.args.next.now c.args.job 0) 0) c.routes-routes.ensures)
+    (omega arith)
+
+pub overflow_add-end : goal.overflow_add-end
+overflow_add-end g c =
+    let fits = mark_below-delayed-requires-clause-fits g c in let computable = c.requires.kept.kept.computable
+    in omega arith
+
+pub returns-clause-is : goal.returns-clause-is
+returns-clause-is g c =
+    let x = get_or c.args.next.now c.args.job 0
+    in let heads = g.L.StateLanes.heads c.args.lanes.now
+    in let l = c.args.grid.now in let m = c.machine-machine.result
+    in let time = ap (λ (r : LayoutState). get_or r.times x 0) c.routes-routes.ensures
+    in let head = c.head.ensures in let its = c.time.ensures
+    in record {
+      position_is = refl;
+      machine_is = c.machine-machine.ensures ∙ ap (λ (r : LayoutState). get_or r.machines x 0) c.routes-routes.ensures;
+      end_is = omega arith;
+      delayed_are = c.unmark.ensures ∙ (ap (without x) c.mark_below-delayed.ensures
+          ∙ sym (positions_among-set heads (get_or l.blocks m 0) (marked_up_to l m) (c.head.result + c.time.result) x));
+    }

@@ -1,0 +1,101 @@
+// A dispatch of an operation: where the operation stands, when it ends, and which heads its end raises.
+ghost use Rattle.std.specs.Prelude.{◌≡◌, ◌≤◌, ◌<◌, length};
+ghost use Rattle.shop_layout.specs.Lanes.{rows_of};
+ghost use Rattle.shop_layout.specs.Positions.{AreEven};
+ghost use Rattle.shop_states.specs.inner.Advances.{CanGoOn};
+ghost use Rattle.shop_states.specs.inner.Dispatches.{AreDelayedOn, IsDispatchOf};
+ghost use Rattle.shop_states.specs.inner.Raises.{HasBlocks};
+
+use shop_lanes::{Marks, StateLanes};
+use shop_layout::Grid;
+
+/// The most blocks that are marked at once.
+const MOST_MARKED: usize = 8;
+
+/// A dispatch of an operation, the next one of `job`. Its `end` is one higher, like heads in lanes. `delayed` marks
+/// what else waits in the first eight blocks of its machine and can begin before that end.
+#[derive(Drop)]
+pub(crate) struct Dispatch {
+    pub job: usize,
+    pub position: usize,
+    pub machine: usize,
+    pub end: u64,
+    pub delayed: Marks,
+}
+
+/// Does what `mark_below` does, where each machine has `each` blocks. A literal `each` lets the compiler unroll the
+/// pass over the machine's heads.
+#[inline(always)]
+fn mark_even<L: StateLanes>(
+    each: usize,
+    lanes: &L,
+    grid: &Grid<L>,
+    machine: usize,
+    end: u64,
+) -> Marks
+    requires even { AreEven grid.now.blocks each }
+    requires some { 0 < each }
+    requires few { each ≤ 8 }
+    requires machine { HasBlocks grid.now (length (L.heads lanes.now)) machine }
+    requires fits { end ≤ L.GREATEST }
+    ensures { AreDelayedOn grid.now machine end (L.heads lanes.now) result }
+{
+    let (from, to) = grid.blocks_of(each, machine);
+    lanes.below(from, to, end)
+}
+
+/// Does what `mark_below` does, for machines of four or more blocks, or of different numbers of blocks. Stays out of
+/// line, so that the code inlined for short machines stays small.
+#[inline(never)]
+fn mark_longer<L: StateLanes>(lanes: &L, grid: &Grid<L>, machine: usize, end: u64) -> Marks
+    requires machine { HasBlocks grid.now (length (L.heads lanes.now)) machine }
+    requires fits { end ≤ L.GREATEST }
+    ensures { AreDelayedOn grid.now machine end (L.heads lanes.now) result }
+{
+    let from = grid.block(machine);
+    let count = (grid.block(machine + 1) - from).min(MOST_MARKED);
+    lanes.below(from, from + count, end)
+}
+
+/// Marks what waits in the first eight blocks of `machine` with a head below `end`.
+#[inline(always)]
+fn mark_below<L: StateLanes>(lanes: &L, grid: &Grid<L>, machine: usize, end: u64) -> Marks
+    requires machine { HasBlocks grid.now (length (L.heads lanes.now)) machine }
+    requires fits { end ≤ L.GREATEST }
+    ensures { AreDelayedOn grid.now machine end (L.heads lanes.now) result }
+{
+    match grid.blocks_each() {
+        1 => mark_even(1, lanes, grid, machine, end),
+        2 => mark_even(2, lanes, grid, machine, end),
+        3 => mark_even(3, lanes, grid, machine, end),
+        _ => mark_longer(lanes, grid, machine, end),
+    }
+}
+
+impl Dispatch {
+    /// Looks up the next operation of `job`, and marks what its end delays. `lanes` is the state of a word, or the one
+    /// that this state is a copy of: a wide load of heads that were just written, one by one or by the copy, waits
+    /// until they have left the processor's store buffer, and heads that lay still load at once. So who dispatches in a
+    /// copy looks up the dispatch before it copies. The operation itself waits, and is unmarked by three instructions.
+    #[inline(always)]
+    pub(crate) fn of<L: StateLanes>(lanes: &L, next: &[u32], grid: &Grid<L>, job: usize) -> Dispatch
+        requires { CanGoOn L.GREATEST grid.now
+            (rows_of grid.now (L.heads lanes.now) (L.ends lanes.now)) next.now job }
+        ensures job { result.job ≡ job }
+        ensures is { IsDispatchOf grid.now (L.heads lanes.now) next.now result }
+    {
+        let position = next[job] as usize;
+        let routes = grid.routes();
+        let machine = routes.machine(position) as usize;
+        let end = lanes.head(position) + routes.time(position);
+        let mut delayed = mark_below(lanes, grid, machine, end);
+        delayed.unmark(position);
+        Dispatch {
+            job,
+            position,
+            machine,
+            end,
+            delayed,
+        }
+    }
+}
