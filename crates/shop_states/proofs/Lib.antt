@@ -16,6 +16,7 @@ pub mod AdvanceSteps
 pub mod BehindRaises
 pub mod BoundsAfter
 pub mod CeilingLemmas
+pub mod CandidateDispatches
 pub mod Candidates
 pub mod ChildBounds
 pub mod ChildExits

@@ -17,8 +17,16 @@ use crate::dispatches::Dispatch;
 use crate::lane_bounds::LaidLanes;
 use crate::lane_ends::set_end_of;
 use crate::machine_raises::MachineRaises;
+use crate::states::State;
 use shop_lanes::StateLanes;
 use shop_layout::Grid;
+
+/// Where the bound of an extended word is sought: it is no less than `least`, and is told only below `limit`.
+#[derive(Clone, Copy)]
+pub(crate) struct BoundRange {
+    pub least: u64,
+    pub limit: u64,
+}
 
 /// Makes the operation behind `position` on the route of `job` the job's next one, and sets that operation's end.
 #[inline(always)]
@@ -44,49 +52,51 @@ pub(crate) fn go_on<L: StateLanes>(
 }
 
 /// Dispatches the operation of `dispatch`, which was looked up in this state, or in one that this state is a copy of.
-/// Answers the bound of the extended word if it is below `limit`, else `None`. `least` is at most that bound, and at
-/// least the former word's bound and the operation's own span: how late the operation, and the others of its machine
-/// with their tails, end if it goes first. `ceilings` is empty, or has for each machine one more than a number that the
-/// extended word's bound there doesn't exceed.
+/// Answers the bound of the extended word if it is below `range.limit`, else `None`. `range.least` is at most that
+/// bound, and at least the former word's bound and the operation's own span: how late the operation, and the others of
+/// its machine with their tails, end if it goes first. `ceilings` is empty, or has for each machine one more than a
+/// number that the extended word's bound there doesn't exceed.
 #[inline(always)]
 pub(crate) fn advance_below<L: StateLanes>(
-    lanes: &mut L,
-    next: &mut [u32],
+    state: &mut State<L>,
     raises: &mut MachineRaises<L>,
     ceilings: &[u64],
     grid: &Grid<L>,
     dispatch: Dispatch,
-    least: u64,
-    limit: u64,
+    range: BoundRange,
 ) -> Option<u64>
-    requires is { IsDispatchOf grid.now (L.heads lanes.old) next.old dispatch }
+    requires is { IsDispatchOf grid.now (L.heads state.old.lanes) state.old.next.items dispatch }
     requires can { CanAdvance L.GREATEST grid.now
-        (rows_of grid.now (L.heads lanes.old) (L.ends lanes.old)) next.old dispatch.job least
-        (length raises.old) ceilings.now }
+        (rows_of grid.now (L.heads state.old.lanes) (L.ends state.old.lanes)) state.old.next.items
+        dispatch.job range.least (length raises.old) ceilings.now }
     requires at_rest { AreEmpty raises.old }
-    requires limit { limit < 2 ^ 63 }
+    requires limit { range.limit < 2 ^ 63 }
     ensures told { (shop : Shop) (w : List ℕ) → IsAdvancing L.GREATEST shop w grid.now
-        (rows_of grid.now (L.heads lanes.old) (L.ends lanes.old)) next.old dispatch.job least
-        → TellsBoundBelow limit (lb shop (w ++ dispatch.job ∷ [])) result }
+        (rows_of grid.now (L.heads state.old.lanes) (L.ends state.old.lanes)) state.old.next.items
+        dispatch.job range.least
+        → TellsBoundBelow range.limit (lb shop (w ++ dispatch.job ∷ [])) result }
     ensures state { (shop : Shop) (w : List ℕ) → IsKeptInLanes L.GREATEST shop w grid.now
-        (rows_of grid.now (L.heads lanes.old) (L.ends lanes.old)) next.old
+        (rows_of grid.now (L.heads state.old.lanes) (L.ends state.old.lanes)) state.old.next.items
         → IsWord shop (w ++ dispatch.job ∷ [])
         → OnSome result (IsKeptInLanes L.GREATEST shop (w ++ dispatch.job ∷ []) grid.now
-        (rows_of grid.now (L.heads lanes.new) (L.ends lanes.new)) next.new) }
-    ensures room { HasSameRoom (rows_of grid.now (L.heads lanes.old) (L.ends lanes.old))
-        (rows_of grid.now (L.heads lanes.new) (L.ends lanes.new)) next.old next.new }
+        (rows_of grid.now (L.heads state.new.lanes) (L.ends state.new.lanes)) state.new.next.items) }
+    ensures room { HasSameRoom (rows_of grid.now (L.heads state.old.lanes) (L.ends state.old.lanes))
+        (rows_of grid.now (L.heads state.new.lanes) (L.ends state.new.lanes))
+        state.old.next.items state.new.next.items }
     ensures machines { length raises.new ≡ length raises.old }
     ensures rest { AreEmpty raises.new }
 {
-    if limit <= least {
+    if range.limit <= range.least {
         return None;
     }
     let (job, position) = (dispatch.job, dispatch.position);
+    let lanes = &mut state.lanes;
+    let next = state.next.as_mut_slice();
     lanes.set_head(position, 0);
     let raised = raises.raise(lanes, grid, next, dispatch);
     let laid = LaidLanes { lanes, grid };
-    let bound = raises.take_bound(raised, ceilings, &laid, least, limit);
-    if limit <= bound {
+    let bound = raises.take_bound(raised, ceilings, &laid, range.least, range.limit);
+    if range.limit <= bound {
         return None;
     }
     go_on(lanes, next, grid, job, position);

@@ -1,12 +1,12 @@
 // Implements `Dispatching` for a layout, with states in lanes of one width.
-ghost use Rattle.std.specs.Prelude.{◌≡◌, ◌≤◌, ◌<◌, ◌^◌, IfOk, length};
+ghost use Rattle.std.specs.Prelude.{◌≡◌, ◌≤◌, ◌<◌, ◌^◌, IfOk, length, max, min};
 ghost use Rattle.shop_layout.specs.Lanes.{rows_of};
 ghost use Rattle.shop_layout.specs.LaidOuts.{IsReady};
 ghost use Rattle.shop_states.specs.inner.Advances.{CanGoOn};
 ghost use Rattle.shop_states.specs.inner.Dispatches.{IsDispatchOf};
 ghost use Rattle.shop_states.specs.inner.StateCopies.{IsAsLong, IsCopied};
 
-use crate::advances::{advance_below, strike};
+use crate::advances::{BoundRange, advance_below, strike};
 use crate::beginnings::Beginning;
 use crate::candidate_lists::list_candidates;
 use crate::dispatches::Dispatch;
@@ -50,9 +50,21 @@ fn dispatch_in_copy<L: StateLanes>(
     ensures is { IsDispatchOf grid.now (L.heads to.new.lanes) to.new.next.items result }
     ensures copied { IsCopied L.heads L.ends from.now to.new }
 {
-    let dispatch = Dispatch::of(&from.lanes, from.next.as_slice(), grid, job as usize);
+    let dispatch = Dispatch::of(from, grid, job as usize);
     copy_state(from, to);
     dispatch
+}
+
+/// Answers where the bound of a word extended by `candidate` is sought, if `bound` is the bound of the word itself.
+#[inline(always)]
+fn range_of(candidate: Candidate, bound: u64, limit: u64) -> BoundRange
+    ensures least { result.least ≡ max bound candidate.own }
+    ensures limit { result.limit ≡ min limit (2 ^ 50) }
+{
+    BoundRange {
+        least: bound.max(candidate.own),
+        limit: limit.min(BOUNDS),
+    }
 }
 
 impl<'a, L: StateLanes> Dispatching<State<L>> for LaidOut<'a, L> {
@@ -156,18 +168,9 @@ impl<'a, L: StateLanes> Dispatching<State<L>> for LaidOut<'a, L> {
         limit: u64,
     ) -> Option<u64> {
         let grid = self.grid();
-        let next = state.next.as_mut_slice();
-        let dispatch = Dispatch::of(&state.lanes, next, grid, candidate.job as usize);
-        advance_below(
-            &mut state.lanes,
-            next,
-            &mut scratch.raises,
-            &[],
-            grid,
-            dispatch,
-            bound.max(candidate.own),
-            limit.min(BOUNDS),
-        )
+        let range = range_of(candidate, bound, limit);
+        let dispatch = Dispatch::of(state, grid, candidate.job as usize);
+        advance_below(state, &mut scratch.raises, &[], grid, dispatch, range)
     }
 
     #[inline(always)]
@@ -181,17 +184,9 @@ impl<'a, L: StateLanes> Dispatching<State<L>> for LaidOut<'a, L> {
         limit: u64,
     ) -> Option<u64> {
         let grid = self.grid();
+        let range = range_of(candidate, bound, limit);
         let dispatch = dispatch_in_copy(grid, from, to, candidate.job);
-        advance_below(
-            &mut to.lanes,
-            to.next.as_mut_slice(),
-            &mut scratch.raises,
-            &[],
-            grid,
-            dispatch,
-            bound.max(candidate.own),
-            limit.min(BOUNDS),
-        )
+        advance_below(to, &mut scratch.raises, &[], grid, dispatch, range)
     }
 
     fn bound_children(
@@ -227,18 +222,10 @@ impl<'a, L: StateLanes> Dispatching<State<L>> for LaidOut<'a, L> {
         limit: u64,
     ) -> Option<u64> {
         let grid = self.grid();
-        let next = state.next.as_mut_slice();
-        let dispatch = Dispatch::of(&state.lanes, next, grid, candidate.job as usize);
-        advance_below(
-            &mut state.lanes,
-            next,
-            &mut scratch.raises,
-            scratch.ceilings.as_slice(),
-            grid,
-            dispatch,
-            bound.max(candidate.own),
-            limit.min(BOUNDS),
-        )
+        let range = range_of(candidate, bound, limit);
+        let dispatch = Dispatch::of(state, grid, candidate.job as usize);
+        let ceilings = scratch.ceilings.as_slice();
+        advance_below(state, &mut scratch.raises, ceilings, grid, dispatch, range)
     }
 
     #[inline(never)]
@@ -252,17 +239,10 @@ impl<'a, L: StateLanes> Dispatching<State<L>> for LaidOut<'a, L> {
         limit: u64,
     ) -> Option<u64> {
         let grid = self.grid();
+        let range = range_of(candidate, bound, limit);
         let dispatch = dispatch_in_copy(grid, from, to, candidate.job);
-        advance_below(
-            &mut to.lanes,
-            to.next.as_mut_slice(),
-            &mut scratch.raises,
-            scratch.ceilings.as_slice(),
-            grid,
-            dispatch,
-            bound.max(candidate.own),
-            limit.min(BOUNDS),
-        )
+        let ceilings = scratch.ceilings.as_slice();
+        advance_below(to, &mut scratch.raises, ceilings, grid, dispatch, range)
     }
 
     ghost state_is_slot = { λ d w s is. record {

@@ -6,11 +6,12 @@ ghost use Rattle.shop_states.specs.inner.Advances.{CanGoOn};
 ghost use Rattle.shop_states.specs.inner.Dispatches.{AreDelayedOn, IsDispatchOf};
 ghost use Rattle.shop_states.specs.inner.Raises.{HasBlocks};
 
+use crate::states::State;
 use shop_lanes::{Marks, StateLanes};
 use shop_layout::Grid;
 
 /// The most blocks that are marked at once.
-const MOST_MARKED: usize = 8;
+pub(crate) const MOST_MARKED: usize = 8;
 
 /// A dispatch of an operation, the next one of `job`. Its `end` is one higher, like heads in lanes. `delayed` marks
 /// what else waits in the first eight blocks of its machine and can begin before that end.
@@ -73,22 +74,24 @@ fn mark_below<L: StateLanes>(lanes: &L, grid: &Grid<L>, machine: usize, end: u64
 }
 
 impl Dispatch {
-    /// Looks up the next operation of `job`, and marks what its end delays. `lanes` is the state of a word, or the one
-    /// that this state is a copy of: a wide load of heads that were just written, one by one or by the copy, waits
-    /// until they have left the processor's store buffer, and heads that lay still load at once. So who dispatches in a
-    /// copy looks up the dispatch before it copies. The operation itself waits, and is unmarked by three instructions.
+    /// Looks up the next operation of `job`, and marks what its end delays. `state` is the state of a word: the one in
+    /// which the operation is dispatched, or the one that this is to be a copy of. A wide load of heads that were just
+    /// written, one by one or by the copy, waits until they have left the processor's store buffer, and heads that lay
+    /// still load at once. So who dispatches in a copy looks up the dispatch before it copies. The operation itself
+    /// waits, and is unmarked by three instructions.
     #[inline(always)]
-    pub(crate) fn of<L: StateLanes>(lanes: &L, next: &[u32], grid: &Grid<L>, job: usize) -> Dispatch
+    pub(crate) fn of<L: StateLanes>(state: &State<L>, grid: &Grid<L>, job: usize) -> Dispatch
         requires { CanGoOn L.GREATEST grid.now
-            (rows_of grid.now (L.heads lanes.now) (L.ends lanes.now)) next.now job }
+            (rows_of grid.now (L.heads state.now.lanes) (L.ends state.now.lanes)) state.now.next.items job }
         ensures job { result.job ≡ job }
-        ensures is { IsDispatchOf grid.now (L.heads lanes.now) next.now result }
+        ensures is { IsDispatchOf grid.now (L.heads state.now.lanes) state.now.next.items result }
     {
+        let next = state.next.as_slice();
         let position = next[job] as usize;
         let routes = grid.routes();
         let machine = routes.machine(position) as usize;
-        let end = lanes.head(position) + routes.time(position);
-        let mut delayed = mark_below(lanes, grid, machine, end);
+        let end = state.lanes.head(position) + routes.time(position);
+        let mut delayed = mark_below(&state.lanes, grid, machine, end);
         delayed.unmark(position);
         Dispatch {
             job,

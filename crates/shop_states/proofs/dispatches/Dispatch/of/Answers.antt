@@ -1,4 +1,4 @@
-use Rattle.std.proofs.Common.{◌+◌, ◌∙◌, ap, arith, get_or, length, refl, sym}
+use Rattle.std.proofs.Common.{ℕ, List, ◌+◌, ◌∙◌, ap, arith, get_or, length, sym}
 use Rattle.shop_lanes.proofs.Unmarking.{positions_among-set}
 use Rattle.shop_lanes.specs.Marks.{without}
 use Rattle.shop_layout.specs.Positions.{LayoutState}
@@ -7,40 +7,50 @@ use Rattle.shop_states.proofs.Trials.{its_blocks, its_end, its_job, its_position
 use Rattle.shop_states.proofs.dispatches.Dispatch.of.Goals as goal
 
 pub offset_bounds-next-job : goal.offset_bounds-next-job
-offset_bounds-next-job g c = let a = its_job c.requires.kept c.args.job c.requires.fits in omega arith
+offset_bounds-next-job g c =
+    let a = its_job c.requires.kept c.args.job c.requires.fits
+    in let long = ap (λ (ns : List ℕ). length ns) c.as_slice-next.ensures.value in omega arith
 
 pub bounds-next-job : goal.bounds-next-job
-bounds-next-job g c = its_job c.requires.kept c.args.job c.requires.fits
+bounds-next-job g c =
+    let a = its_job c.requires.kept c.args.job c.requires.fits
+    in let long = ap (λ (ns : List ℕ). length ns) c.as_slice-next.ensures.value in omega arith
 
 pub machine-machine-requires : goal.machine-machine-requires
 machine-machine-requires g c =
-    let here = its_position c.requires.kept c.args.job c.requires.fits refl
+    let here = its_position c.requires.kept c.args.job c.requires.fits
+    (ap (λ (ns : List ℕ). get_or ns c.args.job 0) c.as_slice-next.ensures.value)
     in let long = ap (λ (l : LayoutState). length l.machines) c.routes-routes.ensures
     in let known = c.requires.kept.kept.laid.machines_at.positions in let heads = c.requires.kept.kept.heads.positions
     in omega arith
 
 pub head-requires : goal.head-requires
-head-requires g c = its_position c.requires.kept c.args.job c.requires.fits refl
+head-requires g c = its_position c.requires.kept c.args.job c.requires.fits
+    (ap (λ (ns : List ℕ). get_or ns c.args.job 0) c.as_slice-next.ensures.value)
 
 pub time-requires : goal.time-requires
 time-requires g c =
-    let here = its_position c.requires.kept c.args.job c.requires.fits refl
+    let here = its_position c.requires.kept c.args.job c.requires.fits
+    (ap (λ (ns : List ℕ). get_or ns c.args.job 0) c.as_slice-next.ensures.value)
     in let long = ap (λ (l : LayoutState). length l.times) c.routes-routes.ensures
     in let known = c.requires.kept.kept.laid.positions.times in let heads = c.requires.kept.kept.heads.positions
     in omega arith
 
 pub mark_below-delayed-requires-clause-machine : goal.mark_below-delayed-requires-clause-machine
-mark_below-delayed-requires-clause-machine g c = its_blocks c.requires.kept c.args.job c.requires.fits refl
-    (c.machine-machine.ensures
-    ∙ ap (λ (l : LayoutState). get_or l.machines (get_or c.args.next.now c.args.job 0) 0) c.routes-routes.ensures)
+mark_below-delayed-requires-clause-machine g c =
+    let x = get_or c.as_slice-next.result.now c.args.job 0
+    in its_blocks c.requires.kept c.args.job c.requires.fits
+    (ap (λ (ns : List ℕ). get_or ns c.args.job 0) c.as_slice-next.ensures.value)
+    (c.machine-machine.ensures ∙ ap (λ (l : LayoutState). get_or l.machines x 0) c.routes-routes.ensures)
 
 pub mark_below-delayed-requires-clause-fits : goal.mark_below-delayed-requires-clause-fits
 mark_below-delayed-requires-clause-fits g c =
-    let time = ap (λ (l : LayoutState). get_or l.times (get_or c.args.next.now c.args.job 0) 0) c.routes-routes.ensures
+    let x = get_or c.as_slice-next.result.now c.args.job 0
+    in let time = ap (λ (l : LayoutState). get_or l.times x 0) c.routes-routes.ensures
     in let head = c.head.ensures in let its = c.time.ensures
-    in its_end c.requires.kept c.args.job c.requires.fits refl
-    (c.machine-machine.ensures
-    ∙ ap (λ (l : LayoutState). get_or l.machines (get_or c.args.next.now c.args.job 0) 0) c.routes-routes.ensures)
+    in its_end c.requires.kept c.args.job c.requires.fits
+    (ap (λ (ns : List ℕ). get_or ns c.args.job 0) c.as_slice-next.ensures.value)
+    (c.machine-machine.ensures ∙ ap (λ (l : LayoutState). get_or l.machines x 0) c.routes-routes.ensures)
     (omega arith)
 
 pub overflow_add-end : goal.overflow_add-end
@@ -50,15 +60,16 @@ overflow_add-end g c =
 
 pub returns-clause-is : goal.returns-clause-is
 returns-clause-is g c =
-    let x = get_or c.args.next.now c.args.job 0
-    in let heads = g.L.StateLanes.heads c.args.lanes.now
+    let x = get_or c.as_slice-next.result.now c.args.job 0
+    in let heads = g.L.StateLanes.heads c.args.state.now.lanes
     in let l = c.args.grid.now in let m = c.machine-machine.result
     in let time = ap (λ (r : LayoutState). get_or r.times x 0) c.routes-routes.ensures
     in let head = c.head.ensures in let its = c.time.ensures
     in record {
-      position_is = refl;
+      position_is = ap (λ (ns : List ℕ). get_or ns c.args.job 0) c.as_slice-next.ensures.value;
       machine_is = c.machine-machine.ensures ∙ ap (λ (r : LayoutState). get_or r.machines x 0) c.routes-routes.ensures;
       end_is = omega arith;
       delayed_are = c.unmark.ensures ∙ (ap (without x) c.mark_below-delayed.ensures
-          ∙ sym (positions_among-set heads (get_or l.blocks m 0) (marked_up_to l m) (c.head.result + c.time.result) x));
+          ∙ sym (positions_among-set heads (get_or l.blocks m 0) (marked_up_to l m) (c.head.result + c.time.result)
+          x));
     }

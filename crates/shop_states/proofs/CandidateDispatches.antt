@@ -1,0 +1,53 @@
+-- A candidate of a word is dispatched: what that asks for, what is told of its bound, and what is kept.
+use Rattle.std.proofs.Common.{◌≡◌, ℕ, List, [], ◌∷◌, ◌++◌, max, min, refl, subst}
+use Rattle.std.specs.Prelude.{◌^◌, Option, OnSome}
+use Rattle.shop_model.specs.Limits.{IsWithinLimits}
+use Rattle.shop_model.specs.Shop.{Shop}
+use Rattle.shop_model.specs.Word.{IsWord}
+use Rattle.shop_bound.specs.Bound.{lb}
+use Rattle.shop_layout.specs.Lanes.{rows_of}
+use Rattle.shop_layout.specs.Positions.{LayoutState}
+use Rattle.shop_states.specs.States.{TellsBoundBelow}
+use Rattle.shop_states.specs.inner.Advances.{CanAdvance, IsAdvancing}
+use Rattle.shop_states.specs.inner.Candidates.{IsCandidateOf}
+use Rattle.shop_states.specs.inner.Ceilings.{AreChildCeilings}
+use Rattle.shop_states.specs.inner.LaneStates.{IsKeptInLanes}
+use Rattle.shop_states.proofs.Candidates.{tells_below}
+use Rattle.shop_states.proofs.OwnSpans.{candidate_advancing}
+
+-- the layout that was read is that of the state, and the dispatch is of the candidate's job
+module _ {greatest : ℕ} {l read : LayoutState} (is : read ≡ l) {heads ends nexts : List ℕ} {j its : ℕ}
+    (same : its ≡ j) where
+  module _ {shop : Shop} {w : List ℕ} (kept : IsKeptInLanes greatest shop w l (rows_of l heads ends) nexts)
+      {own : ℕ} (candidate : IsCandidateOf shop w l j own) {bound : ℕ} (bound_is : bound ≡ lb shop w)
+      {least : ℕ} (least_is : least ≡ max bound own) where
+    candidate_goes_on : IsAdvancing greatest shop w read (rows_of read heads ends) nexts its least
+    candidate_goes_on = rw (is, same) (candidate_advancing kept j candidate.fits own candidate nexts refl bound bound_is
+        least least_is)
+
+    pub candidate_can : {machines : ℕ} → machines ≡ shop.machines → {ceilings : List ℕ}
+        → AreChildCeilings shop w l j ceilings
+        → CanAdvance greatest read (rows_of read heads ends) nexts its least machines ceilings
+    candidate_can machines_are {ceilings} ceilings_are = record {
+      shop = shop;
+      word = w;
+      is = candidate_goes_on;
+      machines_are = machines_are;
+      ceilings_are = rw (is, same) ceilings_are;
+    }
+
+    pub candidate_told : IsWithinLimits shop → (limit : ℕ) {most : ℕ} → most ≡ min limit (2 ^ 50) → (told : Option ℕ)
+        → ((shop : Shop) (w : List ℕ) → IsAdvancing greatest shop w read (rows_of read heads ends) nexts its least
+        → TellsBoundBelow most (lb shop (w ++ its ∷ [])) told)
+        → TellsBoundBelow limit (lb shop (w ++ j ∷ [])) told
+    candidate_told limits limit {most} most_is told tells = tells_below shop limits (w ++ j ∷ []) candidate.fits
+        limit most most_is told (subst (λ (i : ℕ). TellsBoundBelow most (lb shop (w ++ i ∷ [])) told) same
+        (tells shop w candidate_goes_on))
+
+  pub candidate_kept : {shop : Shop} {w : List ℕ} → IsKeptInLanes greatest shop w l (rows_of l heads ends) nexts
+      → IsWord shop (w ++ j ∷ []) → (told : Option ℕ) (heads' ends' nexts' : List ℕ)
+      → ((shop : Shop) (w : List ℕ) → IsKeptInLanes greatest shop w read (rows_of read heads ends) nexts
+      → IsWord shop (w ++ its ∷ [])
+      → OnSome told (IsKeptInLanes greatest shop (w ++ its ∷ []) read (rows_of read heads' ends') nexts'))
+      → OnSome told (IsKeptInLanes greatest shop (w ++ j ∷ []) l (rows_of l heads' ends') nexts')
+  candidate_kept {shop} {w} kept fits told heads' ends' nexts' keeps = rw (is, same) at keeps shop w kept fits
