@@ -10,7 +10,7 @@ ghost use Rattle.shop_states.specs.inner.RisingLists.{IsIn};
 ghost use Rattle.shop_states.specs.inner.Watchers.{AreKnown, Notes, Sees, Watches, no_floor};
 ghost use Rattle.shop_states.specs.inner.MachineRaises.{AreListed};
 
-use crate::dispatches::Dispatch;
+use crate::dispatches::{Dispatch, MOST_MARKED};
 use crate::head_raises::{LaneRaise, see};
 use crate::machine_sets::MachineSet;
 use shop_lanes::{Marks, StateLanes};
@@ -180,11 +180,11 @@ fn raise_longer<L: StateLanes>(
     let mut machines = mem::replace(raised, MachineSet::none());
     loop {
         raise_marked(lanes, raises, &mut machines, &routes, next, marks, end);
-        from += (behind - from).min(8);
+        from += (behind - from).min(MOST_MARKED);
         if from == behind {
             break;
         }
-        marks = lanes.below(from, from + (behind - from).min(8), end);
+        marks = lanes.below(from, from + (behind - from).min(MOST_MARKED), end);
     }
     *raised = machines;
 }
