@@ -9,7 +9,7 @@ ghost use Rattle.shop_states.specs.inner.LaidLanes.{laid_rows};
 ghost use Rattle.shop_states.specs.inner.MachineRaises.{AreEmpty, AreListed, AreRaisesFit, CanTakeSpans};
 ghost use Rattle.shop_states.specs.inner.RaiseCalls.{CanRaise, HasRaised};
 ghost use Rattle.shop_states.specs.inner.Raises.{HasBlocks, IsOnMachine};
-ghost use Rattle.shop_states.specs.inner.Siblings.{BoundsRaises, CanRaiseBehind, IsLateIn};
+ghost use Rattle.shop_states.specs.inner.Siblings.{BoundsRaises, CanRaiseBehind, IsLateOn};
 ghost use Rattle.shop_states.specs.inner.Siblings.{RaisesBehind};
 ghost use Rattle.shop_states.specs.inner.Watchers.{AreKnown, Watches, no_floor};
 
@@ -18,7 +18,7 @@ use crate::head_raises::{LaneRaise, no_raise};
 use crate::lane_bounds::{LaidLanes, take_ceilings, take_spans};
 use crate::machine_sets::MachineSet;
 use crate::raises::raise;
-use crate::siblings::{Latest, raise_late};
+use crate::siblings::{LateMachine, raise_late};
 use shop_lanes::StateLanes;
 use shop_layout::{Grid, Routes};
 use std::alloc::{AllocError as NoMemory, Global};
@@ -136,27 +136,23 @@ impl<L: StateLanes> MachineRaises<L> {
         least.max(spans.saturating_sub(1))
     }
 
-    /// Raises heads on the routes behind the operations that wait at positions `from` up to `to` (excluded), as
-    /// `siblings::raise_late` does. Answers the set of machines on which heads rose.
+    /// Raises heads on the routes behind the operations that wait on a late machine, as `siblings::raise_late` does.
+    /// Answers the set of machines on which heads rose.
     #[inline(always)]
     pub(crate) fn raise_late(
         &mut self,
         lanes: &mut L,
         routes: &Routes,
-        from: usize,
-        to: usize,
-        last: usize,
-        latest: Latest,
+        late: LateMachine,
     ) -> MachineSet
         requires at_rest { AreEmpty self.old }
-        requires ordered { from ≤ to }
-        requires within { to ≤ length (L.heads lanes.old) }
-        requires second { latest.second ≤ latest.end }
+        requires ordered { late.from ≤ late.to }
+        requires within { late.to ≤ length (L.heads lanes.old) }
+        requires second { late.latest.second ≤ late.latest.end }
         requires can { CanRaiseBehind L.GREATEST routes.now
-            (rows_of routes.now (L.heads lanes.old) (L.ends lanes.old))
-            (IsLateIn from to last latest.end latest.second) }
+            (rows_of routes.now (L.heads lanes.old) (L.ends lanes.old)) (IsLateOn late) }
         requires known { AreKnown routes.now.machines (length self.old) }
-        ensures raises { RaisesBehind routes.now (IsLateIn from to last latest.end latest.second)
+        ensures raises { RaisesBehind routes.now (IsLateOn late)
             (rows_of routes.now (L.heads lanes.old) (L.ends lanes.old))
             (rows_of routes.now (L.heads lanes.new) (L.ends lanes.new)) }
         ensures noted { Watches no_floor routes.now.machines (L.heads lanes.old) (L.heads lanes.new)
@@ -166,7 +162,7 @@ impl<L: StateLanes> MachineRaises<L> {
     {
         let mut raised = MachineSet::none();
         let raises = self.raises.as_mut_slice();
-        raise_late(lanes, raises, &mut raised, routes, from, to, last, latest);
+        raise_late(lanes, raises, &mut raised, routes, late);
         raised
     }
 

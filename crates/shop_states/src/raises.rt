@@ -17,6 +17,13 @@ use shop_lanes::{Marks, StateLanes};
 use shop_layout::{Grid, Routes};
 use std::mem;
 
+/// The routes of an instance, and at which position each job's next operation stands after a word.
+#[derive(Drop)]
+struct OpenRoutes<'a> {
+    routes: Routes<'a>,
+    next: &'a [u32],
+}
+
 /// Raises the head at `position` to `end`, then every later head on its route that is now too early. Notes in `raises`
 /// how far each later head rose, and puts its machine into `raised`. Takes a step for each head that rises; the legs of
 /// a route lie side by side, so that no step waits until the one before it has read where the next operation stands. At
@@ -97,24 +104,23 @@ fn raise_from<L: StateLanes>(
     lanes: &mut L,
     raises: &mut [LaneRaise<L::Number>],
     raised: &mut MachineSet,
-    routes: &Routes,
-    next: &[u32],
+    ahead: &OpenRoutes,
     position: usize,
     end: u64,
 )
     requires waits { 0 < slice_index (L.heads lanes.old) position }
     requires below { slice_index (L.heads lanes.old) position ≤ end }
-    requires can { CanRaise L.GREATEST routes.now next.now (IsPosition position) end
-        (rows_of routes.now (L.heads lanes.old) (L.ends lanes.old)) (length raises.old) }
+    requires can { CanRaise L.GREATEST ahead.now.routes ahead.now.next.now (IsPosition position) end
+        (rows_of ahead.now.routes (L.heads lanes.old) (L.ends lanes.old)) (length raises.old) }
     requires machines_fit { 0 < L.EACH → length raises.old ≤ 64 }
     requires listed { AreListed (raises_in L.value raises.old) raised.old }
-    ensures { HasRaised L.GREATEST routes.now next.now (IsPosition position) end
-        (rows_of routes.now (L.heads lanes.old) (L.ends lanes.old))
-        (rows_of routes.now (L.heads lanes.new) (L.ends lanes.new))
+    ensures { HasRaised L.GREATEST ahead.now.routes ahead.now.next.now (IsPosition position) end
+        (rows_of ahead.now.routes (L.heads lanes.old) (L.ends lanes.old))
+        (rows_of ahead.now.routes (L.heads lanes.new) (L.ends lanes.new))
         (raises_in L.value raises.old) (raises_in L.value raises.new) raised.new }
 {
-    set_end_at(lanes, routes, next, position, end);
-    raise_route(lanes, raises, raised, routes, position, end);
+    set_end_at(lanes, &ahead.routes, ahead.next, position, end);
+    raise_route(lanes, raises, raised, &ahead.routes, position, end);
 }
 
 /// Raises to `end` each head below `end` at the marked positions, where operations wait. Also raises every later head
@@ -124,25 +130,24 @@ fn raise_marked<L: StateLanes>(
     lanes: &mut L,
     raises: &mut [LaneRaise<L::Number>],
     raised: &mut MachineSet,
-    routes: &Routes,
-    next: &[u32],
+    ahead: &OpenRoutes,
     marks: Marks,
     end: u64,
 )
     requires marks { AreWaiting (L.heads lanes.old) marks }
-    requires can { CanRaise L.GREATEST routes.now next.now (IsIn marks) end
-        (rows_of routes.now (L.heads lanes.old) (L.ends lanes.old)) (length raises.old) }
+    requires can { CanRaise L.GREATEST ahead.now.routes ahead.now.next.now (IsIn marks) end
+        (rows_of ahead.now.routes (L.heads lanes.old) (L.ends lanes.old)) (length raises.old) }
     requires machines_fit { 0 < L.EACH → length raises.old ≤ 64 }
     requires listed { AreListed (raises_in L.value raises.old) raised.old }
-    ensures { HasRaised L.GREATEST routes.now next.now (IsIn marks) end
-        (rows_of routes.now (L.heads lanes.old) (L.ends lanes.old))
-        (rows_of routes.now (L.heads lanes.new) (L.ends lanes.new))
+    ensures { HasRaised L.GREATEST ahead.now.routes ahead.now.next.now (IsIn marks) end
+        (rows_of ahead.now.routes (L.heads lanes.old) (L.ends lanes.old))
+        (rows_of ahead.now.routes (L.heads lanes.new) (L.ends lanes.new))
         (raises_in L.value raises.old) (raises_in L.value raises.new) raised.new }
 {
     let mut todo = marks;
     while let Some(position) = todo.pop_first() {
         if lanes.head(position) < end {
-            raise_from(lanes, raises, raised, routes, next, position, end);
+            raise_from(lanes, raises, raised, ahead, position, end);
         }
     }
 }
@@ -172,6 +177,7 @@ fn raise_longer<L: StateLanes>(
         (raises_in L.value raises.old) (raises_in L.value raises.new) raised.new }
 {
     let routes = grid.routes();
+    let ahead = OpenRoutes { routes, next };
     let behind = grid.block(dispatch.machine + 1);
     let end = dispatch.end;
     let mut from = grid.block(dispatch.machine);
@@ -179,7 +185,7 @@ fn raise_longer<L: StateLanes>(
     // taken out, so that the set stays in registers
     let mut machines = mem::replace(raised, MachineSet::none());
     loop {
-        raise_marked(lanes, raises, &mut machines, &routes, next, marks, end);
+        raise_marked(lanes, raises, &mut machines, &ahead, marks, end);
         from += (behind - from).min(MOST_MARKED);
         if from == behind {
             break;
@@ -218,13 +224,7 @@ pub(crate) fn raise<L: StateLanes>(
         return raise_longer(lanes, raises, raised, grid, next, dispatch);
     }
     let routes = grid.routes();
-    raise_marked(
-        lanes,
-        raises,
-        raised,
-        &routes,
-        next,
-        dispatch.delayed,
-        dispatch.end,
-    );
+    let ahead = OpenRoutes { routes, next };
+    let (marks, end) = (dispatch.delayed, dispatch.end);
+    raise_marked(lanes, raises, raised, &ahead, marks, end);
 }

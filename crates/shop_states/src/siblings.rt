@@ -13,7 +13,7 @@ ghost use Rattle.shop_states.specs.inner.HeadRaises.{raises_in};
 ghost use Rattle.shop_states.specs.inner.LaneStates.{IsKeptInLanes};
 ghost use Rattle.shop_states.specs.inner.MachineRaises.{AreEmpty, AreListed};
 ghost use Rattle.shop_states.specs.inner.Siblings.{AreLatest, AreSiblings, CanBoundChildren, CanEnd};
-ghost use Rattle.shop_states.specs.inner.Siblings.{CanRaiseBehind, IsAmong, IsEndAt, IsLateIn};
+ghost use Rattle.shop_states.specs.inner.Siblings.{CanRaiseBehind, IsAmong, IsEndAt, IsLateOn};
 ghost use Rattle.shop_states.specs.inner.Siblings.{RaisesBehind, end_by, job_at};
 ghost use Rattle.shop_states.specs.inner.Watchers.{AreKnown, Watches, no_floor};
 
@@ -179,28 +179,35 @@ fn free_at(position: usize, last: usize, latest: Latest) -> u64
     latest.end
 }
 
-/// Raises the heads behind each operation that waits at positions `from` up to `to` (excluded), those of one machine,
-/// as if the operation began at the latest time until which candidates can delay it, see `free_at`. Notes how far heads
-/// rose. No head of a child is then higher, except on that machine, where heads stay.
+/// A machine whose operations some candidates delay, all on that machine. It has positions `from` up to `to` (excluded);
+/// the candidates' operation that ends last stands at `last`, and `latest` tells when.
+#[derive(Clone, Copy)]
+pub(crate) struct LateMachine {
+    pub from: usize,
+    pub to: usize,
+    pub last: usize,
+    pub latest: Latest,
+}
+
+/// Raises the heads behind each operation that waits on a late machine, as if the operation began at the latest time
+/// until which candidates can delay it, see `free_at`. Notes how far heads rose. No head of a child is then higher,
+/// except on that machine, where heads stay.
 pub(crate) fn raise_late<L: StateLanes>(
     lanes: &mut L,
     raises: &mut [LaneRaise<L::Number>],
     raised: &mut MachineSet,
     routes: &Routes,
-    from: usize,
-    to: usize,
-    last: usize,
-    latest: Latest,
+    late: LateMachine,
 )
-    requires ordered { from ≤ to }
-    requires within { to ≤ length (L.heads lanes.old) }
-    requires second { latest.second ≤ latest.end }
+    requires ordered { late.from ≤ late.to }
+    requires within { late.to ≤ length (L.heads lanes.old) }
+    requires second { late.latest.second ≤ late.latest.end }
     requires can { CanRaiseBehind L.GREATEST routes.now
-        (rows_of routes.now (L.heads lanes.old) (L.ends lanes.old)) (IsLateIn from to last latest.end latest.second) }
+        (rows_of routes.now (L.heads lanes.old) (L.ends lanes.old)) (IsLateOn late) }
     requires known { AreKnown routes.now.machines (length raises.old) }
     requires machines_fit { 0 < L.EACH → length raises.old ≤ 64 }
     requires listed { AreListed (raises_in L.value raises.old) raised.old }
-    ensures raises { RaisesBehind routes.now (IsLateIn from to last latest.end latest.second)
+    ensures raises { RaisesBehind routes.now (IsLateOn late)
         (rows_of routes.now (L.heads lanes.old) (L.ends lanes.old))
         (rows_of routes.now (L.heads lanes.new) (L.ends lanes.new)) }
     ensures noted { Watches no_floor routes.now.machines (L.heads lanes.old) (L.heads lanes.new)
@@ -208,9 +215,9 @@ pub(crate) fn raise_late<L: StateLanes>(
     ensures listed { AreListed (raises_in L.value raises.new) raised.new }
     ensures machines { length raises.new ≡ length raises.old }
 {
-    for position in from..to {
-        if is_delayed(lanes.head(position), latest.end) {
-            let free = free_at(position, last, latest);
+    for position in late.from..late.to {
+        if is_delayed(lanes.head(position), late.latest.end) {
+            let free = free_at(position, late.last, late.latest);
             raise_behind(lanes, raises, raised, routes, position, free);
         }
     }
@@ -231,6 +238,13 @@ fn positions_of<L: StateLanes>(grid: &Grid<L>, machine: usize) -> (usize, usize)
     (8 * first, 8 * behind)
 }
 
+/// What a word branches into, its candidates, with the bound of the word itself.
+#[derive(Drop)]
+pub(crate) struct Branching<'c> {
+    pub candidates: &'c [Candidate],
+    pub bound: u64,
+}
+
 /// Answers the greatest of `bound` and the `own` of each candidate.
 fn greatest_own(candidates: &[Candidate], bound: u64) -> u64 {
     candidates
@@ -239,10 +253,9 @@ fn greatest_own(candidates: &[Candidate], bound: u64) -> u64 {
         .fold(bound, u64::max)
 }
 
-/// Finds a ceiling for each machine: a number that no child of the word exceeds there, whichever of `candidates` is
+/// Finds a ceiling for each machine: a number that no child of the word exceeds there, whichever of the candidates is
 /// dispatched. Writes one more than each ceiling into `ceilings`. Answers the greatest ceiling, or a number above the
-/// `own` of each candidate. `lanes` holds the heads of the word and is used up; `next` has its next operations, and
-/// `bound` is its bound.
+/// `own` of each candidate. `lanes` holds the heads of the word and is used up; `next` has its next operations.
 #[inline(never)]
 pub(crate) fn bound_children<L: StateLanes>(
     lanes: &mut L,
@@ -250,37 +263,46 @@ pub(crate) fn bound_children<L: StateLanes>(
     ceilings: &mut [u64],
     grid: &Grid<L>,
     next: &[u32],
-    candidates: &[Candidate],
-    bound: u64,
+    branching: &Branching,
 ) -> u64
     requires at_rest { AreEmpty raises.old }
     requires room { length ceilings.old ≡ length raises.old }
-    requires some { 0 < length candidates.now }
+    requires some { 0 < length branching.now.candidates.now }
     requires can { CanBoundChildren L.GREATEST grid.now
-        (rows_of grid.now (L.heads lanes.old) (L.ends lanes.old)) next.now candidates.now bound
-        (length raises.old) }
+        (rows_of grid.now (L.heads lanes.old) (L.ends lanes.old)) next.now
+        branching.now.candidates.now branching.now.bound (length raises.old) }
     ensures known { (shop : Shop) (w : List ℕ) → IsKeptInLanes L.GREATEST shop w grid.now
         (rows_of grid.now (L.heads lanes.old) (L.ends lanes.old)) next.now
-        → AreSiblings shop w candidates.now → bound ≡ lb shop w → (i : ℕ) → i < length candidates.now
-        → AreChildCeilings shop w grid.now (job_at candidates.now i) ceilings.new }
+        → AreSiblings shop w branching.now.candidates.now → branching.now.bound ≡ lb shop w
+        → (i : ℕ) → i < length branching.now.candidates.now
+        → AreChildCeilings shop w grid.now (job_at branching.now.candidates.now i) ceilings.new }
     ensures settled { (shop : Shop) (w : List ℕ) → IsKeptInLanes L.GREATEST shop w grid.now
         (rows_of grid.now (L.heads lanes.old) (L.ends lanes.old)) next.now
-        → AreSiblings shop w candidates.now → bound ≡ lb shop w → (i least : ℕ) → i < length candidates.now
+        → AreSiblings shop w branching.now.candidates.now → branching.now.bound ≡ lb shop w
+        → (i least : ℕ) → i < length branching.now.candidates.now
         → IsAdvancing L.GREATEST shop w grid.now
-        (rows_of grid.now (L.heads lanes.old) (L.ends lanes.old)) next.now (job_at candidates.now i) least
-        → result ≤ least → lb shop (w ++ job_at candidates.now i ∷ []) ≡ least }
+        (rows_of grid.now (L.heads lanes.old) (L.ends lanes.old)) next.now
+        (job_at branching.now.candidates.now i) least
+        → result ≤ least → lb shop (w ++ job_at branching.now.candidates.now i ∷ []) ≡ least }
     ensures long { length ceilings.new ≡ length ceilings.old }
     ensures positions { length (L.heads lanes.new) ≡ length (L.heads lanes.old) }
     ensures ends { L.ends lanes.new ≡ L.ends lanes.old }
     ensures machines { length raises.new ≡ length raises.old }
     ensures rest { AreEmpty raises.new }
 {
+    let (candidates, bound) = (branching.candidates, branching.bound);
     let routes = grid.routes();
     let latest = latest_of(candidates, lanes, &routes, next);
     let last = next[latest.job] as usize;
     let machine = routes.machine(last) as usize;
     let (from, to) = positions_of(grid, machine);
-    let raised = raises.raise_late(lanes, &routes, from, to, last, latest);
+    let late = LateMachine {
+        from,
+        to,
+        last,
+        latest,
+    };
+    let raised = raises.raise_late(lanes, &routes, late);
     let limit = greatest_own(candidates, bound).saturating_add(2);
     raises.take_ceilings(raised, ceilings, &LaidLanes { lanes, grid }, bound, limit)
 }

@@ -14,6 +14,7 @@
 --                                    the latest end of the others
 --     IsLateIn from to x end second  positions from `from` on and before `to` count: their machine is
 --                                    free from `end` on, for x from `second` on
+--     IsLateOn late                  positions of a late machine count so
 --     AreSiblings shop w cs          the word goes on with each candidate, all on one machine
 --     CanBoundChildren greatest ..   lanes and next operations are those of some word of this bound,
 --                                    which goes on with these candidates
@@ -34,6 +35,7 @@ use Rattle.shop_states.specs.inner.MachineRaises.{AreEmpty}
 use Rattle.shop_states.specs.inner.Raises.{AreInRouteOrder, IsFollowed, IsIndexed, IsPlace}
 use Rattle.shop_states.specs.inner.Raises.{at_in, steps_of}
 use Rattle.shop_states.specs.declared.dispatching.Candidate.{Candidate}
+use Rattle.shop_states.specs.declared.siblings.LateMachine.{LateMachine}
 use Rattle.shop_states.specs.declared.siblings.Latest.{Latest}
 
 pub record IsRaisedBehind (l : LayoutState) (at : ℕ → ℕ → Type 0) (old new : ℕ → ℕ)
@@ -102,6 +104,9 @@ pub record AreLatest (ends : ℕ → ℕ) (cs : List Candidate) (t : Latest) : T
 abbrev pub IsLateIn : ℕ → ℕ → ℕ → ℕ → ℕ → ℕ → ℕ → Type 0
 IsLateIn from to x end second q e = (from ≤ q) × (q < to)
     × (((q ≡ x) × (e ≡ second)) ⊎ ((q ≡ x → ⊥) × (e ≡ end)))
+
+abbrev pub IsLateOn : LateMachine → ℕ → ℕ → Type 0
+IsLateOn late = IsLateIn late.from late.to late.last late.latest.end late.latest.second
 
 pub record AreSiblings (shop : Shop) (w : List ℕ) (cs : List Candidate) : Type 0 where
   pub fits : (i : ℕ) → i < length cs → IsWord shop (w ++ job_at cs i ∷ [])

@@ -38,7 +38,7 @@ pub returns : goal.returns
 returns g c = record {
   raises = raised_with_ends c.requires.can.raisable c.set_end_at.ensures c.requires.waits c.requires.below
       c.raise_route.ensures.raises;
-  seen = subst (λ (hs : List ℕ). Sees c.args.routes.now.machines (IsPosition c.args.position) c.args.end hs
+  seen = subst (λ (hs : List ℕ). Sees c.args.ahead.now.routes.machines (IsPosition c.args.position) c.args.end hs
       (g.L.StateLanes.heads c.raise_route.new.lanes) (raises_in g.L.StateLanes.value c.args.raises.now)
       (raises_in g.L.StateLanes.value c.raise_route.new.raises)) c.set_end_at.ensures.heads c.raise_route.ensures.seen;
   listed = c.raise_route.ensures.listed;

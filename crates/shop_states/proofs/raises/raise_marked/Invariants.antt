@@ -9,10 +9,10 @@ use Rattle.shop_states.proofs.raises.raise_marked.Given as goal
 
 abbrev pub invariant-loop-position : goal.invariant-loop-position
 invariant-loop-position g l = record {
-  raised : AreMarksRaised g.L.StateLanes.GREATEST l.routes l.next l.fn.marks l.end l.todo
-      (rows_of l.routes (g.L.StateLanes.heads l.fn.lanes) (g.L.StateLanes.ends l.fn.lanes))
-      (rows_of l.routes (g.L.StateLanes.heads l.lanes) (g.L.StateLanes.ends l.lanes));
-  seen : Sees l.routes.machines (IsIn l.fn.marks) l.end (g.L.StateLanes.heads l.fn.lanes)
+  raised : AreMarksRaised g.L.StateLanes.GREATEST l.ahead.routes l.ahead.next.now l.fn.marks l.end l.todo
+      (rows_of l.ahead.routes (g.L.StateLanes.heads l.fn.lanes) (g.L.StateLanes.ends l.fn.lanes))
+      (rows_of l.ahead.routes (g.L.StateLanes.heads l.lanes) (g.L.StateLanes.ends l.lanes));
+  seen : Sees l.ahead.routes.machines (IsIn l.fn.marks) l.end (g.L.StateLanes.heads l.fn.lanes)
       (g.L.StateLanes.heads l.lanes) (raises_in g.L.StateLanes.value l.fn.raises)
       (raises_in g.L.StateLanes.value l.raises);
   machines : length (raises_in g.L.StateLanes.value l.raises)

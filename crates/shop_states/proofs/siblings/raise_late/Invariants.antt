@@ -8,7 +8,8 @@ use Rattle.shop_states.proofs.siblings.raise_late.Given as goal
 
 abbrev pub invariant-loop-position : goal.invariant-loop-position
 invariant-loop-position g l = record {
-  raises : RaisesBehind l.routes (IsLateIn l.from l.position l.last l.latest.end l.latest.second)
+  raises : RaisesBehind l.routes (IsLateIn l.late.from l.position l.late.last l.late.latest.end
+      l.late.latest.second)
       (rows_of l.routes (g.L.StateLanes.heads l.fn.lanes) (g.L.StateLanes.ends l.fn.lanes))
       (rows_of l.routes (g.L.StateLanes.heads l.lanes) (g.L.StateLanes.ends l.lanes));
   noted : Watches no_floor l.routes.machines (g.L.StateLanes.heads l.fn.lanes) (g.L.StateLanes.heads l.lanes)
