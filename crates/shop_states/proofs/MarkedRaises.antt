@@ -10,7 +10,8 @@ use Rattle.shop_states.specs.inner.RaiseCalls.{CanRaise, HasRaised}
 use Rattle.shop_states.specs.inner.Raises.{IsInBlocks, Raises}
 use Rattle.shop_states.specs.inner.RisingLists.{IsIn}
 use Rattle.shop_states.specs.inner.Watchers.{Sees}
-use Rattle.shop_states.proofs.RaiseLoops.{blocks_raisable, marks_in, marks_raisable, marks_raised, more_blocks, no_blocks}
+use Rattle.shop_states.proofs.RaiseLoops.{blocks_raisable, marks_in, marks_raisable, marks_raised, more_blocks}
+use Rattle.shop_states.proofs.RaiseLoops.{no_blocks}
 use Rattle.shop_states.proofs.Watching.{sees_both, sees_none}
 
 -- a machine of a few blocks is marked to its end

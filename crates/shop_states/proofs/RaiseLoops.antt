@@ -51,7 +51,8 @@ then_least {l} {A} {B} {C} {e} {a} {b} x y split in_a in_b = record {
   least = λ other raised. y.least other (go_on l A B C e a b other x in_a in_b raised);
 }
 
-pub then_raises : {greatest : ℕ} {l : LayoutState} {nexts : List ℕ} {A B : ℕ → Type 0} (C : ℕ → Type 0) {e : ℕ} {a b c : Rows}
+pub then_raises : {greatest : ℕ} {l : LayoutState} {nexts : List ℕ} {A B : ℕ → Type 0} (C : ℕ → Type 0) {e : ℕ}
+    {a b c : Rows}
     → Raises greatest l nexts A e a b → Raises greatest l nexts B e b c → ((q : ℕ) → C q → A q ⊎ B q)
     → ((q : ℕ) → A q → C q)
     → ((q : ℕ) → B q → C q) → Raises greatest l nexts C e a c
@@ -67,7 +68,8 @@ then_raises {l} {A} {B} C {e} {a} {b} {c} x y split in_a in_b = record {
 }
 
 -- what can be raised at more positions can be raised at those that are left
-pub still_raisable : {greatest : ℕ} {l : LayoutState} {nexts : List ℕ} {A : ℕ → Type 0} (B : ℕ → Type 0) {C : ℕ → Type 0} {e : ℕ} {a b : Rows}
+pub still_raisable : {greatest : ℕ} {l : LayoutState} {nexts : List ℕ} {A : ℕ → Type 0} (B : ℕ → Type 0)
+    {C : ℕ → Type 0} {e : ℕ} {a b : Rows}
     → IsRaisable greatest l nexts a C e → Raises greatest l nexts A e a b → ((q : ℕ) → A q → C q)
     → ((q : ℕ) → B q → C q)
     → IsRaisable greatest l nexts b B e
@@ -230,7 +232,8 @@ module _ (old : Rows) {marks : List ℕ} (from to e : ℕ) (ordered : from ≤ t
     rises = subst Rises (sym are) (below_rises old from to e ordered within);
   }
 
-  pub marks_raisable : {greatest : ℕ} {l : LayoutState} {nexts : List ℕ} → IsRaisable greatest l nexts old (IsInBlocks from to) e
+  pub marks_raisable : {greatest : ℕ} {l : LayoutState} {nexts : List ℕ}
+      → IsRaisable greatest l nexts old (IsInBlocks from to) e
       → IsRaisable greatest l nexts old (IsIn marks) e
   marks_raisable {greatest} {l} {nexts} can = record {
     firsts = can.firsts;
@@ -248,7 +251,8 @@ module _ (old : Rows) {marks : List ℕ} (from to e : ℕ) (ordered : from ≤ t
     computable = can.computable;
   }
 
-  pub marks_raised : {greatest : ℕ} {l : LayoutState} {nexts : List ℕ} {new : Rows} → Raises greatest l nexts (IsIn marks) e old new
+  pub marks_raised : {greatest : ℕ} {l : LayoutState} {nexts : List ℕ} {new : Rows}
+      → Raises greatest l nexts (IsIn marks) e old new
       → Raises greatest l nexts (IsInBlocks from to) e old new
   marks_raised {greatest} {l} {nexts} {new} x = record {
     raised = record {

@@ -79,7 +79,8 @@ pub(crate) fn advance_below<L: StateLanes>(
         (rows_of grid.now (L.heads state.old.lanes) (L.ends state.old.lanes)) state.old.next.items
         → IsWord shop (w ++ dispatch.job ∷ [])
         → OnSome result (IsKeptInLanes L.GREATEST shop (w ++ dispatch.job ∷ []) grid.now
-        (rows_of grid.now (L.heads state.new.lanes) (L.ends state.new.lanes)) state.new.next.items) }
+        (rows_of grid.now (L.heads state.new.lanes) (L.ends state.new.lanes))
+        state.new.next.items) }
     ensures room { HasSameRoom (rows_of grid.now (L.heads state.old.lanes) (L.ends state.old.lanes))
         (rows_of grid.now (L.heads state.new.lanes) (L.ends state.new.lanes))
         state.old.next.items state.new.next.items }

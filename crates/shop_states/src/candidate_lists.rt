@@ -2,7 +2,8 @@
 ghost use Rattle.std.specs.Prelude.{◌≡◌, ℕ, ◌+◌, ◌*◌, ◌≤◌, ◌<◌, List, [], ◌∷◌, ◌++◌, length, map};
 ghost use Rattle.std.specs.Prelude.{slice_index, vec_capacity};
 ghost use Rattle.shop_model.specs.Shop.{Shop};
-ghost use Rattle.shop_states.specs.inner.Candidates.{AreCandidatesOf, CanGather, CanList, IsChosenBy};
+ghost use Rattle.shop_states.specs.inner.Candidates.{AreCandidatesOf, CanGather, CanList};
+ghost use Rattle.shop_states.specs.inner.Candidates.{IsChosenBy};
 ghost use Rattle.shop_states.specs.inner.Candidates.{IsTold, ListsGathered, ListsOwn, told_at};
 ghost use Rattle.shop_states.specs.inner.JobSets.{members};
 ghost use Rattle.shop_states.specs.inner.LaneChoices.{IsJobBelow};
@@ -85,7 +86,8 @@ fn list_marked<L: StateLanes>(
         → ListsOwn limit (told_at next.now first (map L.value owns.now)) js candidates.old.items n
         → ListsOwn limit (told_at next.now first (map L.value owns.now)) (js ++ jobs)
         candidates.new.items (n + result) }
-    ensures count { length candidates.new.items + result ≡ length candidates.old.items + length jobs }
+    ensures count { length candidates.new.items + result
+        ≡ length candidates.old.items + length jobs }
     ensures room { vec_capacity candidates.new ≡ vec_capacity candidates.old }
 {
     let mut others = 0;
@@ -110,10 +112,12 @@ fn list_words<L: StateLanes>(
 ) -> usize
     requires words { length words.now ≤ 16 }
     requires small { length next.now < 1024 }
-    requires told { (j : ℕ) → IsIn (members 0 words.now) j → IsTold next.now first (length owns.now) j }
+    requires told { (j : ℕ) → IsIn (members 0 words.now) j
+        → IsTold next.now first (length owns.now) j }
     requires none { candidates.old.items ≡ [] }
     requires room { length next.now ≤ vec_capacity candidates.old }
-    ensures listed { ListsOwn limit (told_at next.now first (map L.value owns.now)) (members 0 words.now)
+    ensures listed { ListsOwn limit (told_at next.now first (map L.value owns.now))
+        (members 0 words.now)
         candidates.new.items result }
     ensures room { vec_capacity candidates.new ≡ vec_capacity candidates.old }
 {
@@ -183,7 +187,8 @@ fn list_on_machine<L: StateLanes>(
         (rows_of grid.now (L.heads state.now.lanes) (L.ends state.now.lanes)) state.now.next.items }
     requires chosen { (shop : Shop) (w : List ℕ) → IsKeptInLanes L.GREATEST shop w grid.now
         (rows_of grid.now (L.heads state.now.lanes) (L.ends state.now.lanes)) state.now.next.items
-        → IsChosenBy L.GREATEST shop w grid.now (L.heads state.now.lanes) state.now.next.items first }
+        → IsChosenBy L.GREATEST shop w grid.now (L.heads state.now.lanes)
+        state.now.next.items first }
     requires none { candidates.old.items ≡ [] }
     requires owns { length owns.old ≡ length (L.heads state.now.lanes) }
     requires room { length state.now.next.items ≤ vec_capacity candidates.old }

@@ -44,7 +44,8 @@ fn dispatch_in_copy<L: StateLanes>(
     job: u16,
 ) -> Dispatch
     requires can { CanGoOn L.GREATEST grid.now
-        (rows_of grid.now (L.heads from.now.lanes) (L.ends from.now.lanes)) from.now.next.items job }
+        (rows_of grid.now (L.heads from.now.lanes) (L.ends from.now.lanes))
+        from.now.next.items job }
     requires long { IsAsLong L.heads L.ends from.now to.old }
     ensures job { result.job ≡ job }
     ensures is { IsDispatchOf grid.now (L.heads to.new.lanes) to.new.next.items result }

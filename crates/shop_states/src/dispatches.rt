@@ -82,7 +82,8 @@ impl Dispatch {
     #[inline(always)]
     pub(crate) fn of<L: StateLanes>(state: &State<L>, grid: &Grid<L>, job: usize) -> Dispatch
         requires { CanGoOn L.GREATEST grid.now
-            (rows_of grid.now (L.heads state.now.lanes) (L.ends state.now.lanes)) state.now.next.items job }
+            (rows_of grid.now (L.heads state.now.lanes) (L.ends state.now.lanes))
+            state.now.next.items job }
         ensures job { result.job ≡ job }
         ensures is { IsDispatchOf grid.now (L.heads state.now.lanes) state.now.next.items result }
     {

@@ -1,5 +1,6 @@
 // The trait `Dispatching`: how a walk fills, copies and extends the states of words.
-ghost use Rattle.std.specs.Prelude.{◌≡◌, ℕ, ◌≤◌, List, [], ◌∷◌, ◌++◌, All, IfOk, IfSome, OnSome, length};
+ghost use Rattle.std.specs.Prelude.{◌≡◌, ℕ, ◌≤◌, List, [], ◌∷◌, ◌++◌, All, IfOk, IfSome, OnSome};
+ghost use Rattle.std.specs.Prelude.{length};
 ghost use Rattle.std.specs.Prelude.{vec_capacity};
 ghost use Rattle.shop_model.specs.Limits.{IsWithinLimits};
 ghost use Rattle.shop_model.specs.Shop.{Shop};

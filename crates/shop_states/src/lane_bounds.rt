@@ -34,7 +34,8 @@ fn span_of_rows<L: StateLanes>(
     limit: u64,
 ) -> u64
     requires { CanBoundRows L.value L.GREATEST each rows.now raise }
-    ensures { IsSpanByRaise (raise_in L.value raise) (lanes_in L.value rows.now) limit least result }
+    ensures { IsSpanByRaise (raise_in L.value raise) (lanes_in L.value rows.now)
+        limit least result }
 {
     if limit <= least {
         return least;
@@ -56,7 +57,8 @@ fn span_of_machine<L: StateLanes>(
     limit: u64,
 ) -> u64
     requires { CanBoundRows L.value L.GREATEST each rows.now raise }
-    ensures { IsSpanByRaise (raise_in L.value raise) (lanes_in L.value rows.now) limit least result }
+    ensures { IsSpanByRaise (raise_in L.value raise) (lanes_in L.value rows.now)
+        limit least result }
 {
     match each {
         1 => span_of_rows::<L>(1, rows, raise, least, limit),

@@ -6,7 +6,8 @@ ghost use Rattle.shop_states.specs.inner.Dispatches.{AreDelayedOn};
 ghost use Rattle.shop_states.specs.inner.HeadRaises.{nothing_raised, raise_of, raises_in};
 ghost use Rattle.shop_layout.specs.Lanes.{lanes_on, rows_of};
 ghost use Rattle.shop_states.specs.inner.LaidLanes.{laid_rows};
-ghost use Rattle.shop_states.specs.inner.MachineRaises.{AreEmpty, AreListed, AreRaisesFit, CanTakeSpans};
+ghost use Rattle.shop_states.specs.inner.MachineRaises.{AreEmpty, AreListed, AreRaisesFit};
+ghost use Rattle.shop_states.specs.inner.MachineRaises.{CanTakeSpans};
 ghost use Rattle.shop_states.specs.inner.RaiseCalls.{CanRaise, HasRaised};
 ghost use Rattle.shop_states.specs.inner.Raises.{HasBlocks, IsOnMachine};
 ghost use Rattle.shop_states.specs.inner.Siblings.{BoundsRaises, CanRaiseBehind, IsLateOn};
@@ -86,9 +87,11 @@ impl<L: StateLanes> MachineRaises<L> {
         requires machine { HasBlocks grid.now (length (L.heads lanes.old)) dispatch.machine }
         requires delayed { AreDelayedOn grid.now dispatch.machine dispatch.end (L.heads lanes.old)
             dispatch.delayed }
-        requires can { CanRaise L.GREATEST grid.now next.now (IsOnMachine grid.now dispatch.machine) dispatch.end
+        requires can { CanRaise L.GREATEST grid.now next.now
+            (IsOnMachine grid.now dispatch.machine) dispatch.end
             (rows_of grid.now (L.heads lanes.old) (L.ends lanes.old)) (length self.old) }
-        ensures { HasRaised L.GREATEST grid.now next.now (IsOnMachine grid.now dispatch.machine) dispatch.end
+        ensures { HasRaised L.GREATEST grid.now next.now
+            (IsOnMachine grid.now dispatch.machine) dispatch.end
             (rows_of grid.now (L.heads lanes.old) (L.ends lanes.old))
             (rows_of grid.now (L.heads lanes.new) (L.ends lanes.new)) self.old self.new result }
     {
@@ -129,7 +132,8 @@ impl<L: StateLanes> MachineRaises<L> {
             ≤ result + 1 }
         ensures within { (c : ℕ) → least ≤ c → ((m above upto : ℕ) → m < length self.old
             → spans_between above upto
-            (lanes_on (laid_rows L.heads L.ends laid.now) laid.now.grid.now m) ≤ c + 1) → result ≤ c }
+            (lanes_on (laid_rows L.heads L.ends laid.now) laid.now.grid.now m) ≤ c + 1)
+            → result ≤ c }
     {
         let raises = self.raises.as_mut_slice();
         let spans = take_spans(raises, raised, ceilings, laid, least + 1, limit + 1);

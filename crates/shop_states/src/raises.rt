@@ -167,11 +167,13 @@ fn raise_longer<L: StateLanes>(
     requires machine { HasBlocks grid.now (length (L.heads lanes.old)) dispatch.machine }
     requires delayed { AreDelayedOn grid.now dispatch.machine dispatch.end (L.heads lanes.old)
         dispatch.delayed }
-    requires can { CanRaise L.GREATEST grid.now next.now (IsOnMachine grid.now dispatch.machine) dispatch.end
+    requires can { CanRaise L.GREATEST grid.now next.now
+        (IsOnMachine grid.now dispatch.machine) dispatch.end
         (rows_of grid.now (L.heads lanes.old) (L.ends lanes.old)) (length raises.old) }
     requires machines_fit { 0 < L.EACH → length raises.old ≤ 64 }
     requires listed { AreListed (raises_in L.value raises.old) raised.old }
-    ensures { HasRaised L.GREATEST grid.now next.now (IsOnMachine grid.now dispatch.machine) dispatch.end
+    ensures { HasRaised L.GREATEST grid.now next.now
+        (IsOnMachine grid.now dispatch.machine) dispatch.end
         (rows_of grid.now (L.heads lanes.old) (L.ends lanes.old))
         (rows_of grid.now (L.heads lanes.new) (L.ends lanes.new))
         (raises_in L.value raises.old) (raises_in L.value raises.new) raised.new }
@@ -210,11 +212,13 @@ pub(crate) fn raise<L: StateLanes>(
     requires machine { HasBlocks grid.now (length (L.heads lanes.old)) dispatch.machine }
     requires delayed { AreDelayedOn grid.now dispatch.machine dispatch.end (L.heads lanes.old)
         dispatch.delayed }
-    requires can { CanRaise L.GREATEST grid.now next.now (IsOnMachine grid.now dispatch.machine) dispatch.end
+    requires can { CanRaise L.GREATEST grid.now next.now
+        (IsOnMachine grid.now dispatch.machine) dispatch.end
         (rows_of grid.now (L.heads lanes.old) (L.ends lanes.old)) (length raises.old) }
     requires machines_fit { 0 < L.EACH → length raises.old ≤ 64 }
     requires listed { AreListed (raises_in L.value raises.old) raised.old }
-    ensures { HasRaised L.GREATEST grid.now next.now (IsOnMachine grid.now dispatch.machine) dispatch.end
+    ensures { HasRaised L.GREATEST grid.now next.now
+        (IsOnMachine grid.now dispatch.machine) dispatch.end
         (rows_of grid.now (L.heads lanes.old) (L.ends lanes.old))
         (rows_of grid.now (L.heads lanes.new) (L.ends lanes.new))
         (raises_in L.value raises.old) (raises_in L.value raises.new) raised.new }

@@ -2,7 +2,8 @@
 // the other operations that wait there until its own ends, at the latest until the latest of these ends. So if heads
 // are raised as if every operation there had to wait until then, no head of a child is higher, and no span is greater.
 // One pass over the machines whose heads rose thus bounds nearly all children.
-ghost use Rattle.std.specs.Prelude.{◌≡◌, ℕ, ◌+◌, ◌*◌, ◌^◌, ◌≤◌, ◌<◌, ◌⊎◌, List, ◌∷◌, ◌++◌, [], IsTrue, false};
+ghost use Rattle.std.specs.Prelude.{◌≡◌, ℕ, ◌+◌, ◌*◌, ◌^◌, ◌≤◌, ◌<◌, ◌⊎◌, List, ◌∷◌, ◌++◌, []};
+ghost use Rattle.std.specs.Prelude.{IsTrue, false};
 ghost use Rattle.std.specs.Prelude.{length, slice_index};
 ghost use Rattle.shop_model.specs.Shop.{Shop};
 ghost use Rattle.shop_bound.specs.Bound.{lb};
@@ -12,7 +13,8 @@ ghost use Rattle.shop_states.specs.inner.Ceilings.{AreChildCeilings};
 ghost use Rattle.shop_states.specs.inner.HeadRaises.{raises_in};
 ghost use Rattle.shop_states.specs.inner.LaneStates.{IsKeptInLanes};
 ghost use Rattle.shop_states.specs.inner.MachineRaises.{AreEmpty, AreListed};
-ghost use Rattle.shop_states.specs.inner.Siblings.{AreLatest, AreSiblings, CanBoundChildren, CanEnd};
+ghost use Rattle.shop_states.specs.inner.Siblings.{AreLatest, AreSiblings, CanBoundChildren};
+ghost use Rattle.shop_states.specs.inner.Siblings.{CanEnd};
 ghost use Rattle.shop_states.specs.inner.Siblings.{CanRaiseBehind, IsAmong, IsEndAt, IsLateOn};
 ghost use Rattle.shop_states.specs.inner.Siblings.{RaisesBehind, end_by, job_at};
 ghost use Rattle.shop_states.specs.inner.Watchers.{AreKnown, Watches, no_floor};
@@ -60,7 +62,8 @@ fn last_of<L: StateLanes>(
     ensures among { IsAmong candidates.now result.0 }
     ensures end { result.1 ≡ end_by (L.heads lanes.now) routes.now.times next.now result.0 }
     ensures each { (i : ℕ) → i < length candidates.now
-        → end_by (L.heads lanes.now) routes.now.times next.now (job_at candidates.now i) ≤ result.1 }
+        → end_by (L.heads lanes.now) routes.now.times next.now (job_at candidates.now i)
+        ≤ result.1 }
 {
     let mut last = candidates[0].job as usize;
     let mut end = end_of(lanes, routes, next, last);
@@ -114,7 +117,8 @@ fn latest_of<L: StateLanes>(
     requires some { 0 < length candidates.now }
     requires can { (i : ℕ) → i < length candidates.now
         → CanEnd L.GREATEST routes.now (L.heads lanes.now) next.now (job_at candidates.now i) }
-    ensures { AreLatest (end_by (L.heads lanes.now) routes.now.times next.now) candidates.now result }
+    ensures { AreLatest (end_by (L.heads lanes.now) routes.now.times next.now)
+        candidates.now result }
 {
     let (job, end) = last_of(candidates, lanes, routes, next);
     let second = second_of(candidates, lanes, routes, next, job);
@@ -227,7 +231,8 @@ pub(crate) fn raise_late<L: StateLanes>(
 fn positions_of<L: StateLanes>(grid: &Grid<L>, machine: usize) -> (usize, usize)
     requires small { machine + 1 < 2 ^ 64 }
     requires known { machine + 1 < length grid.now.blocks }
-    requires ordered { slice_index grid.now.blocks machine ≤ slice_index grid.now.blocks (machine + 1) }
+    requires ordered { slice_index grid.now.blocks machine
+        ≤ slice_index grid.now.blocks (machine + 1) }
     requires within { 8 * slice_index grid.now.blocks (machine + 1) ≤ length grid.now.following }
     ensures first { result.0 ≡ 8 * slice_index grid.now.blocks machine }
     ensures behind { result.1 ≡ 8 * slice_index grid.now.blocks (machine + 1) }

@@ -7,7 +7,8 @@
 --     CanStrike greatest l rows ..     some word is kept in lanes whose conflict set is one job
 --     foreseen l heads ends q least    the end of that operation and what else waits there from it on
 --     HasSameRoom old new ..           as many heads, ends and next operations as before
-use Rattle.std.specs.Prelude.{◌≡◌, ℕ, ◌+◌, ◌-◌, max, List, [], ◌∷◌, ◌++◌, length, slice_index, slice_set}
+use Rattle.std.specs.Prelude.{◌≡◌, ℕ, ◌+◌, ◌-◌, max, List, [], ◌∷◌, ◌++◌, length, slice_index}
+use Rattle.std.specs.Prelude.{slice_set}
 use Rattle.shop_lanes.specs.Rows.{Rows}
 use Rattle.shop_lanes.specs.Spans.{span}
 use Rattle.shop_model.specs.Shop.{Shop}

@@ -18,7 +18,8 @@ pub record HasRoomOf (shop : Shop) (b : Beginning) : Type 0 where
 pub record IsBeginningOf (shop : Shop) (l : LayoutState) (b : Beginning) : Type 0 where
   pub room : length b.path.items ≡ operation_count shop
   pub within : b.len ≤ length b.path.items
-  pub placed : IsPlacedAt shop (placing shop (take b.len b.path.items)) l b.next.items b.ready.items b.free.items
+  pub placed : IsPlacedAt shop (placing shop (take b.len b.path.items)) l b.next.items b.ready.items
+      b.free.items
 
 pub record Begins (w : List ℕ) (b : Beginning) : Type 0 where
   pub within : b.len ≤ length w

@@ -5,7 +5,8 @@
 --     AreEndsOf greatest nexts rows      the ends of all jobs in lanes are `end_at`
 --     CanKeepEnds greatest l nexts rows  the end of each job can be set
 --     HasEnds old new                    the ends alone differ
-use Rattle.std.specs.Prelude.{◌≡◌, ℕ, ◌+◌, ◌≤◌, ◌<◌, ◌^◌, List, length, slice_index, if◌then◌else◌, nat_lt}
+use Rattle.std.specs.Prelude.{◌≡◌, ℕ, ◌+◌, ◌≤◌, ◌<◌, ◌^◌, List, length, slice_index, if◌then◌else◌}
+use Rattle.std.specs.Prelude.{nat_lt}
 use Rattle.shop_lanes.specs.Rows.{Rows}
 use Rattle.shop_states.specs.inner.LaneChoices.{AreNextPlaced}
 use Rattle.shop_layout.specs.Positions.{LayoutState}

@@ -36,7 +36,8 @@ pub record AreRaisesFit (greatest : ℕ) (raises : List Raise) (l : LayoutState)
   pub fits : (m : ℕ) → m < length raises
       → FitsSpan greatest (raise_of raises m).to (lanes_on rows l m)
 
-pub record CanBoundRows {N : Type 0} (value : N → ℕ) (greatest each : ℕ) (rows : LaneRows N) (raise : LaneRaise N)
+pub record CanBoundRows {N : Type 0} (value : N → ℕ) (greatest each : ℕ) (rows : LaneRows N)
+    (raise : LaneRaise N)
     : Type 0 where
   pub whole_blocks : length rows.heads.now % 8 ≡ 0
   pub count : 0 < each → length rows.heads.now ≡ 8 * each

@@ -4,7 +4,8 @@
 --     IsWordAt shop l nexts ..       next operations and times are those of some word
 --     placement_at l nexts ready ..  the placement that next operations and times stand for
 --     step_at l j q                  the step of job j at position q, or the number of its steps
-use Rattle.std.specs.Prelude.{◌≡◌, ℕ, ◌<◌, List, [], length, map, slice_index, slice_index_or, if◌then◌else◌, nat_lt}
+use Rattle.std.specs.Prelude.{◌≡◌, ℕ, ◌<◌, List, [], length, map, slice_index, slice_index_or}
+use Rattle.std.specs.Prelude.{if◌then◌else◌, nat_lt}
 use Rattle.std.specs.List.{range_with_len}
 use Rattle.shop_model.specs.Placements.{PlacementState}
 use Rattle.shop_model.specs.Shop.{Shop, release_of}

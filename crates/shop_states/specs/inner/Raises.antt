@@ -7,7 +7,8 @@
 --     IsRaisable greatest l nexts .. some raised heads fit into lanes
 --     AreWaiting heads marks         marked positions, in order, at each of which something waits
 --     Raises greatest l nexts ..     heads are raised least, and the ends of next operations kept up
-use Rattle.std.specs.Prelude.{◌≡◌, ℕ, ◌+◌, ◌*◌, ◌≤◌, ◌<◌, ◌^◌, List, [], length, slice_index, slice_index_or}
+use Rattle.std.specs.Prelude.{◌≡◌, ℕ, ◌+◌, ◌*◌, ◌≤◌, ◌<◌, ◌^◌, List, [], length, slice_index}
+use Rattle.std.specs.Prelude.{slice_index_or}
 use Rattle.shop_lanes.specs.Rows.{Rows}
 use Rattle.shop_layout.specs.Positions.{place_or, LayoutState, place}
 use Rattle.shop_states.specs.inner.LaneEnds.{IsEndOf}

@@ -5,7 +5,8 @@
 --     Sees ms among end ..           `Watches` for positions on one machine
 --     Notes ms p end ..              nothing is foreseen, and what position p rises to is noted
 --                                    already: so is all afterwards, if all was before
-use Rattle.std.specs.Prelude.{◌≡◌, ℕ, ◌≤◌, ◌<◌, ◌⊎◌, max, List, length, slice_index, ◌==◌, if◌then◌else◌}
+use Rattle.std.specs.Prelude.{◌≡◌, ℕ, ◌≤◌, ◌<◌, ◌⊎◌, max, List, length, slice_index, ◌==◌}
+use Rattle.std.specs.Prelude.{if◌then◌else◌}
 use Rattle.shop_states.specs.inner.HeadRaises.{Raise, raise_of}
 use Rattle.shop_states.specs.inner.LaneBounds.{AreRaisesUpTo}
 

@@ -3,7 +3,8 @@ use Rattle.std.proofs.lemmas.List.{length-set}
 use Rattle.shop_lanes.specs.Marks.{positions_among}
 use Rattle.shop_layout.proofs.Written.{written_vec}
 use Rattle.shop_states.specs.inner.Dispatches.{marked_up_to}
-use Rattle.shop_states.proofs.Trials.{its_end, its_job, its_position, now_heads, same_machines, trial_blocks, trial_bound}
+use Rattle.shop_states.proofs.Trials.{its_end, its_job, its_position, now_heads, same_machines, trial_blocks}
+use Rattle.shop_states.proofs.Trials.{trial_bound}
 use Rattle.shop_states.proofs.Trials.{trial_keep, trial_kept, trial_raisable, trial_raises_fit, trial_under}
 use Rattle.shop_states.proofs.advances.advance_below.Goals as goal
 

@@ -32,7 +32,8 @@ raise_marked-requires-clause-can g c =
     c.args.dispatch.end (rows_of r (g.L.StateLanes.heads c.args.lanes.now) (g.L.StateLanes.ends c.args.lanes.now))
     (length c.args.raises.now)) (sym c.routes-routes.ensures)
     (can_raise_marked g.L.StateLanes.GREATEST l c.args.next.now rows c.args.dispatch.delayed (get_or l.blocks m 0)
-    (marked_up_to l m) c.args.dispatch.end (omega arith) (omega arith) c.requires.delayed (length c.args.raises.now) can)
+    (marked_up_to l m) c.args.dispatch.end (omega arith) (omega arith) c.requires.delayed
+    (length c.args.raises.now) can)
 
 pub returns : goal.returns
 returns g c =

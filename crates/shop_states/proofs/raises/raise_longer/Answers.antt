@@ -20,7 +20,8 @@ loop-from-init g c =
     in let old = rows_of l (g.L.StateLanes.heads c.args.lanes.now) (g.L.StateLanes.ends c.args.lanes.now)
     in let before = raises_in g.L.StateLanes.value c.args.raises.now
     in let many = length-map c.args.raises.now (raise_in g.L.StateLanes.value)
-    in let can = subst (λ (n : ℕ). CanRaise g.L.StateLanes.GREATEST l c.args.next.now (IsInBlocks first behind) end old n)
+    in let can = subst (λ (n : ℕ). CanRaise g.L.StateLanes.GREATEST l c.args.next.now (IsInBlocks first behind)
+    end old n)
     (sym many) c.requires.can
     in record {
       raised = subst (λ (f : ℕ). AreRaisedUpTo g.L.StateLanes.GREATEST l c.args.next.now first f behind end old old
@@ -57,11 +58,13 @@ raise_marked-requires-clause-can g c =
     in let so_far = c.loop-from.invariant.raised in let long = so_far.raises.raised.positions
     in let on = so_far.ordered in let up = so_far.within in let within = c.requires.machine.within
     in let many = length-map c.args.raises.now (raise_in g.L.StateLanes.value)
-    in let can = subst (λ (n : ℕ). CanRaise g.L.StateLanes.GREATEST l c.args.next.now (IsInBlocks first behind) end old n)
+    in let can = subst (λ (n : ℕ). CanRaise g.L.StateLanes.GREATEST l c.args.next.now (IsInBlocks first behind)
+    end old n)
     (sym many) c.requires.can
-    in let its = can_raise_marked g.L.StateLanes.GREATEST l c.args.next.now now c.loop-from.marks from to end (omega arith)
-    (omega arith) c.loop-from.invariant.marked (length mid) (can_raise_on g.L.StateLanes.GREATEST l c.args.next.now first
-    behind end old before can from to now mid (omega arith) (omega arith) so_far)
+    in let its = can_raise_marked g.L.StateLanes.GREATEST l c.args.next.now now c.loop-from.marks from to end
+    (omega arith) (omega arith) c.loop-from.invariant.marked (length mid)
+    (can_raise_on g.L.StateLanes.GREATEST l c.args.next.now first behind end old before can from to
+    now mid (omega arith) (omega arith) so_far)
     in subst (λ (r : LayoutState). CanRaise g.L.StateLanes.GREATEST r c.args.next.now (IsIn c.loop-from.marks) end
     (rows_of r (g.L.StateLanes.heads c.loop-from.lanes) (g.L.StateLanes.ends c.loop-from.lanes))
     (length c.loop-from.raises)) (sym c.routes-routes.ensures)
@@ -80,12 +83,15 @@ loop-from-preserved g c =
     in let so_far = c.loop-from.invariant.raised in let long = so_far.raises.raised.positions
     in let on = so_far.ordered in let up = so_far.within in let within = c.requires.machine.within
     in let many = length-map c.args.raises.now (raise_in g.L.StateLanes.value)
-    in let can = subst (λ (n : ℕ). CanRaise g.L.StateLanes.GREATEST l c.args.next.now (IsInBlocks first behind) end old n)
+    in let can = subst (λ (n : ℕ). CanRaise g.L.StateLanes.GREATEST l c.args.next.now (IsInBlocks first behind)
+    end old n)
     (sym many) c.requires.can
-    in let new = rows_of l (g.L.StateLanes.heads c.raise_marked.new.lanes) (g.L.StateLanes.ends c.raise_marked.new.lanes)
+    in let new = rows_of l (g.L.StateLanes.heads c.raise_marked.new.lanes)
+    (g.L.StateLanes.ends c.raise_marked.new.lanes)
     in let after = raises_in g.L.StateLanes.value c.raise_marked.new.raises
-    in let its = subst (λ (r : LayoutState). HasRaised g.L.StateLanes.GREATEST r c.args.next.now (IsIn c.loop-from.marks)
-    end (rows_of r (g.L.StateLanes.heads c.loop-from.lanes) (g.L.StateLanes.ends c.loop-from.lanes))
+    in let its = subst (λ (r : LayoutState). HasRaised g.L.StateLanes.GREATEST r c.args.next.now
+    (IsIn c.loop-from.marks) end
+    (rows_of r (g.L.StateLanes.heads c.loop-from.lanes) (g.L.StateLanes.ends c.loop-from.lanes))
     (rows_of r (g.L.StateLanes.heads c.raise_marked.new.lanes) (g.L.StateLanes.ends c.raise_marked.new.lanes)) mid after
     c.raise_marked.new.raised) c.routes-routes.ensures c.raise_marked.ensures
     in let turn = raised_on g.L.StateLanes.GREATEST l c.args.next.now first behind end old before can from to now mid
@@ -116,12 +122,15 @@ returns g c =
     in let so_far = c.loop-from.invariant.raised in let long = so_far.raises.raised.positions
     in let on = so_far.ordered in let up = so_far.within in let within = c.requires.machine.within
     in let many = length-map c.args.raises.now (raise_in g.L.StateLanes.value)
-    in let can = subst (λ (n : ℕ). CanRaise g.L.StateLanes.GREATEST l c.args.next.now (IsInBlocks first behind) end old n)
+    in let can = subst (λ (n : ℕ). CanRaise g.L.StateLanes.GREATEST l c.args.next.now (IsInBlocks first behind)
+    end old n)
     (sym many) c.requires.can
-    in let new = rows_of l (g.L.StateLanes.heads c.raise_marked.new.lanes) (g.L.StateLanes.ends c.raise_marked.new.lanes)
+    in let new = rows_of l (g.L.StateLanes.heads c.raise_marked.new.lanes)
+    (g.L.StateLanes.ends c.raise_marked.new.lanes)
     in let after = raises_in g.L.StateLanes.value c.raise_marked.new.raises
-    in let its = subst (λ (r : LayoutState). HasRaised g.L.StateLanes.GREATEST r c.args.next.now (IsIn c.loop-from.marks)
-    end (rows_of r (g.L.StateLanes.heads c.loop-from.lanes) (g.L.StateLanes.ends c.loop-from.lanes))
+    in let its = subst (λ (r : LayoutState). HasRaised g.L.StateLanes.GREATEST r c.args.next.now
+    (IsIn c.loop-from.marks) end
+    (rows_of r (g.L.StateLanes.heads c.loop-from.lanes) (g.L.StateLanes.ends c.loop-from.lanes))
     (rows_of r (g.L.StateLanes.heads c.raise_marked.new.lanes) (g.L.StateLanes.ends c.raise_marked.new.lanes)) mid after
     c.raise_marked.new.raised) c.routes-routes.ensures c.raise_marked.ensures
     in let turn = raised_on g.L.StateLanes.GREATEST l c.args.next.now first behind end old before can from to now mid
