@@ -1,7 +1,11 @@
-// A dispatch in a copy of a state, by one call and by two: the same bounds, and states that behave alike.
-ghost use Rattle.std.specs.Prelude.{◌≡◌, ℕ, ◌<◌, ◌≤◌, ◌++◌, ◌∷◌, [], List, OnSome, length, vec_capacity};
+// A dispatch in a copy of a state, by one call and by two: the same bounds, and states that behave alike. So too where
+// the children of a word were bounded together.
+ghost use Rattle.std.specs.Prelude.{◌≡◌, ℕ, ◌<◌, ◌≤◌, ◌++◌, ◌∷◌, [], All, IfSome, List, OnSome};
+ghost use Rattle.std.specs.Prelude.{length, vec_capacity};
 ghost use Rattle.shop_bound.specs.Bound.{lb};
-ghost use Rattle.shop_states.specs.States.{CanDispatch, IsOfSomeWord, TellsBoundBelow};
+ghost use Rattle.shop_bound.specs.Conflicts.{conflict};
+ghost use Rattle.shop_states.specs.States.{CanDispatch, HasListed, IsOfSomeWord, ListsBelow};
+ghost use Rattle.shop_states.specs.States.{TellsBoundBelow};
 
 use crate::long_machines::{LATEST, SHAPES, made};
 use crate::numbers::Numbers;
@@ -34,43 +38,136 @@ fn rooms_of<D: Dispatching<S>, S: Drop>(rt: &impl Abort, alloc: Global, dispatch
     }
 }
 
-/// Dispatches `candidate` in a copy of the state by two calls, and in another copy by one, and asserts that both tell
+/// A candidate of a word that is dispatched, with the word's bound, and the limit below which the child's is told.
+/// `together` is what `bound_children` answered of the word, or `None` if it wasn't called.
+#[derive(Clone, Copy)]
+struct Trial {
+    candidate: Candidate,
+    bound: u64,
+    limit: u64,
+    together: Option<u64>,
+}
+
+/// Dispatches a candidate in a copy of the state by one call: that after `bound_children`, if children were bounded
+/// together.
+fn dispatch_in_copy<D: Dispatching<S>, S: Drop>(
+    dispatcher: &D,
+    scratch: &mut D::Scratch,
+    state: &S,
+    direct: &mut S,
+    trial: Trial,
+) -> Option<u64>
+    requires scratch { D.IsScratch dispatcher.now scratch.old }
+    requires direct { D.IsSlot dispatcher.now direct.old }
+    requires can { CanDispatch (D.shop dispatcher.now)
+        (λ w. D.IsStateOf dispatcher.now w state.now
+        × D.IsCandidate dispatcher.now w trial.candidate
+        × IfSome trial.together
+        (λ top. D.KnowsChild dispatcher.now scratch.old w trial.candidate.job))
+        trial.candidate.job trial.bound }
+    ensures told { (w : List ℕ) → D.IsStateOf dispatcher.now w state.now
+        → D.IsCandidate dispatcher.now w trial.candidate
+        → trial.bound ≡ lb (D.shop dispatcher.now) w
+        → TellsBoundBelow trial.limit
+        (lb (D.shop dispatcher.now) (w ++ trial.candidate.job ∷ [])) result }
+    ensures state { (w : List ℕ) → D.IsStateOf dispatcher.now w state.now
+        → D.IsCandidate dispatcher.now w trial.candidate
+        → OnSome result (D.IsStateOf dispatcher.now (w ++ trial.candidate.job ∷ []) direct.new) }
+    ensures direct { D.IsSlot dispatcher.now direct.new }
+    ensures scratch { D.IsScratch dispatcher.now scratch.new }
+{
+    let (candidate, bound, limit) = (trial.candidate, trial.bound, trial.limit);
+    match trial.together {
+        Some(_) => dispatcher.dispatch_child_below_in_copy(
+            scratch, state, direct, candidate, bound, limit,
+        ),
+        None => dispatcher.dispatch_below_in_copy(scratch, state, direct, candidate, bound, limit),
+    }
+}
+
+/// Dispatches a candidate in a copy of the state by two calls, and in another copy by one, and asserts that both tell
 /// the same bound.
 fn dispatch_twice<D: Dispatching<S>, S: Drop>(
     rt: &impl Abort,
     dispatcher: &D,
     scratch: &mut D::Scratch,
     rooms: &mut Rooms<S>,
-    candidate: Candidate,
-    bound: u64,
-    limit: u64,
+    trial: Trial,
 ) -> Option<u64>
     requires scratch { D.IsScratch dispatcher.now scratch.old }
     requires copied { D.IsSlot dispatcher.now rooms.old.copied }
     requires direct { D.IsSlot dispatcher.now rooms.old.direct }
     requires can { CanDispatch (D.shop dispatcher.now)
-        (λ w. D.IsStateOf dispatcher.now w rooms.old.state × D.IsCandidate dispatcher.now w candidate)
-        candidate.job bound }
+        (λ w. D.IsStateOf dispatcher.now w rooms.old.state
+        × D.IsCandidate dispatcher.now w trial.candidate
+        × IfSome trial.together
+        (λ top. D.KnowsChild dispatcher.now scratch.old w trial.candidate.job))
+        trial.candidate.job trial.bound }
     ensures told { (w : List ℕ) → D.IsStateOf dispatcher.now w rooms.old.state
-        → D.IsCandidate dispatcher.now w candidate → bound ≡ lb (D.shop dispatcher.now) w
-        → TellsBoundBelow limit (lb (D.shop dispatcher.now) (w ++ candidate.job ∷ [])) result }
+        → D.IsCandidate dispatcher.now w trial.candidate
+        → trial.bound ≡ lb (D.shop dispatcher.now) w
+        → TellsBoundBelow trial.limit
+        (lb (D.shop dispatcher.now) (w ++ trial.candidate.job ∷ [])) result }
     ensures state { (w : List ℕ) → D.IsStateOf dispatcher.now w rooms.old.state
-        → D.IsCandidate dispatcher.now w candidate
-        → OnSome result (D.IsStateOf dispatcher.now (w ++ candidate.job ∷ []) rooms.new.copied) }
+        → D.IsCandidate dispatcher.now w trial.candidate
+        → OnSome result
+        (D.IsStateOf dispatcher.now (w ++ trial.candidate.job ∷ []) rooms.new.copied) }
     ensures same { (w : List ℕ) → D.IsStateOf dispatcher.now w rooms.old.state
-        → D.IsCandidate dispatcher.now w candidate
-        → OnSome result (D.IsStateOf dispatcher.now (w ++ candidate.job ∷ []) rooms.new.direct) }
+        → D.IsCandidate dispatcher.now w trial.candidate
+        → OnSome result
+        (D.IsStateOf dispatcher.now (w ++ trial.candidate.job ∷ []) rooms.new.direct) }
     ensures first { rooms.new.state ≡ rooms.old.state }
     ensures copied { D.IsSlot dispatcher.now rooms.new.copied }
     ensures direct { D.IsSlot dispatcher.now rooms.new.direct }
     ensures scratch { D.IsScratch dispatcher.now scratch.new }
 {
+    let (candidate, bound, limit) = (trial.candidate, trial.bound, trial.limit);
     dispatcher.copy(&rooms.state, &mut rooms.copied);
     let told = dispatcher.dispatch_below(scratch, &mut rooms.copied, candidate, bound, limit);
     let (state, direct) = (&rooms.state, &mut rooms.direct);
-    let again = dispatcher.dispatch_below_in_copy(scratch, state, direct, candidate, bound, limit);
+    let again = dispatch_in_copy(dispatcher, scratch, state, direct, trial);
     assert_eq!(rt; told, again);
     again
+}
+
+/// How children are dispatched in a walk: each alone, or after `bound_children`, where that bounds them together.
+#[derive(Clone, Copy)]
+enum Manner {
+    Alone,
+    Together,
+}
+
+/// Bounds the children of the word together, if they are to be dispatched so. Uses up the first copy.
+fn bound_together<D: Dispatching<S>, S: Drop>(
+    dispatcher: &D,
+    scratch: &mut D::Scratch,
+    rooms: &mut Rooms<S>,
+    candidates: &[Candidate],
+    bound: u64,
+    manner: Manner,
+) -> Option<u64>
+    requires scratch { D.IsScratch dispatcher.now scratch.old }
+    requires copied { D.IsSlot dispatcher.now rooms.old.copied }
+    requires can { HasListed (D.shop dispatcher.now)
+        (λ w. D.IsStateOf dispatcher.now w rooms.old.state)
+        (D.IsCandidate dispatcher.now) candidates.now bound }
+    ensures known { IfSome result (λ top. (w : List ℕ) (limit others : ℕ)
+        → D.IsStateOf dispatcher.now w rooms.old.state → bound ≡ lb (D.shop dispatcher.now) w
+        → ListsBelow (D.shop dispatcher.now) w limit (D.IsCandidate dispatcher.now w)
+        (conflict (D.shop dispatcher.now) w) candidates.now others
+        → All (λ c. D.KnowsChild dispatcher.now scratch.new w c.job) candidates.now) }
+    ensures state { rooms.new.state ≡ rooms.old.state }
+    ensures copied { D.IsSlot dispatcher.now rooms.new.copied }
+    ensures direct { rooms.new.direct ≡ rooms.old.direct }
+    ensures scratch { D.IsScratch dispatcher.now scratch.new }
+{
+    match manner {
+        Manner::Alone => None,
+        Manner::Together => {
+            let (state, copied) = (&rooms.state, &mut rooms.copied);
+            dispatcher.bound_children(scratch, state, copied, candidates, bound)
+        }
+    }
 }
 
 /// Asserts that two lists have the same candidates.
@@ -90,6 +187,7 @@ fn assert_walk<D: Dispatching<S>, S: Drop>(
     numbers: &mut Numbers,
     dispatcher: &D,
     instance: &Instance,
+    manner: Manner,
 )
     requires { D.shop dispatcher.now ≡ instance.now }
 {
@@ -109,15 +207,21 @@ fn assert_walk<D: Dispatching<S>, S: Drop>(
         let index = numbers.up_to(u32::MAX) as usize % count;
         let candidate = candidates[index];
         let limit = bound.saturating_add(numbers.up_to(99));
-        let told = dispatch_twice(
-            rt,
+        let together = bound_together(
             dispatcher,
             &mut scratch,
             &mut rooms,
+            &candidates,
+            bound,
+            manner,
+        );
+        let trial = Trial {
             candidate,
             bound,
             limit,
-        );
+            together,
+        };
+        let told = dispatch_twice(rt, dispatcher, &mut scratch, &mut rooms, trial);
         let Some(below) = told else {
             continue;
         };
@@ -135,14 +239,25 @@ fn assert_walk_in_lanes(
     alloc: Global,
     numbers: &mut Numbers,
     instance: &Instance,
+    manner: Manner,
 ) {
     let layout = Layout::of(alloc, instance).expect(rt, "memory");
     match layout.lanes() {
-        LaneLayout::In16By2(laid_out) => assert_walk(rt, alloc, numbers, laid_out, instance),
-        LaneLayout::In16By3(laid_out) => assert_walk(rt, alloc, numbers, laid_out, instance),
-        LaneLayout::In16(laid_out) => assert_walk(rt, alloc, numbers, laid_out, instance),
-        LaneLayout::In32(laid_out) => assert_walk(rt, alloc, numbers, laid_out, instance),
-        LaneLayout::In64(laid_out) => assert_walk(rt, alloc, numbers, laid_out, instance),
+        LaneLayout::In16By2(laid_out) => {
+            assert_walk(rt, alloc, numbers, laid_out, instance, manner)
+        }
+        LaneLayout::In16By3(laid_out) => {
+            assert_walk(rt, alloc, numbers, laid_out, instance, manner)
+        }
+        LaneLayout::In16(laid_out) => {
+            assert_walk(rt, alloc, numbers, laid_out, instance, manner)
+        }
+        LaneLayout::In32(laid_out) => {
+            assert_walk(rt, alloc, numbers, laid_out, instance, manner)
+        }
+        LaneLayout::In64(laid_out) => {
+            assert_walk(rt, alloc, numbers, laid_out, instance, manner)
+        }
     }
 }
 
@@ -151,7 +266,7 @@ fn dispatches_in_copies(rt: HostRuntime) {
     let mut numbers = Numbers { state: 7 };
     for shape in &SHAPES {
         let instance = made(&rt, rt.alloc(), &mut numbers, shape, 5);
-        assert_walk_in_lanes(&rt, rt.alloc(), &mut numbers, &instance);
+        assert_walk_in_lanes(&rt, rt.alloc(), &mut numbers, &instance, Manner::Alone);
     }
 }
 
@@ -194,13 +309,23 @@ fn made_square(
     }
 }
 
-#[test]
-fn dispatches_in_copies_of_even_machines(rt: HostRuntime) {
+/// Walks a random word of each square instance.
+fn assert_walks_of_squares(rt: &impl Abort, alloc: Global, manner: Manner) {
     let mut numbers = Numbers { state: 7 };
     for shape in &SQUARES {
         for latest in &LATEST {
-            let instance = made_square(&rt, rt.alloc(), &mut numbers, shape, *latest);
-            assert_walk_in_lanes(&rt, rt.alloc(), &mut numbers, &instance);
+            let instance = made_square(rt, alloc, &mut numbers, shape, *latest);
+            assert_walk_in_lanes(rt, alloc, &mut numbers, &instance, manner);
         }
     }
+}
+
+#[test]
+fn dispatches_in_copies_of_even_machines(rt: HostRuntime) {
+    assert_walks_of_squares(&rt, rt.alloc(), Manner::Alone);
+}
+
+#[test]
+fn dispatches_children_in_copies(rt: HostRuntime) {
+    assert_walks_of_squares(&rt, rt.alloc(), Manner::Together);
 }
