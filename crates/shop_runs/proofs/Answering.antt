@@ -122,7 +122,8 @@ module _ (shop : Shop) (plan : Planned) (t : OpenRun) (of : IsSearchOf shop plan
       (in_order shop plan.order (stand_of t).open_words) (in_order_is shop plan.order (stand_of t).open_words))
       in let landed : IsSearchAt shop plan.order (rejoined whole (gathered (front_of whole))) v =
       joined_at shop plan.order (rejoined whole (gathered (front_of whole))) left others v stood
-      (makespan ∙ ap (lb shop) word) (All-filter (λ n. ltb n.bound o.makespan) (IsNode shop) all first.nodes_left) bounds
+      (makespan ∙ ap (lb shop) word)
+      (All-filter (λ n. ltb n.bound o.makespan) (IsNode shop) all first.nodes_left) bounds
       (kept ∙ of.kept) rises after.joined
       in subst (λ x. IsSearchAt shop plan.order x v)
       (sym (gathered_front whole (cut_is_round shop plan (stand_of t) of.standing))) landed
@@ -143,7 +144,8 @@ cut_again shop plan s t at = ap (cut_of shop plan) at.stands_at ∙ ap (λ ws. r
 }) (ordered_twice shop plan.order s.open_words)
 
 -- the round of a run's front, given the other nodes as its rest, is what is cut of where the run stands
-pub with_rest : (shop : Shop) (plan : Plan) (s : Stand) (t : OpenRun) (r : Round) (others : OpenNodes) (rest : List Node)
+pub with_rest : (shop : Shop) (plan : Plan) (s : Stand) (t : OpenRun) (r : Round) (others : OpenNodes)
+    (rest : List Node)
     → IsSearchAt shop plan.order s t → IsFront shop plan t r others → rest ≡ open_list others
     → record (told r) { rest = words_of rest } ≡ cut_of shop (planned plan) s
 with_rest shop plan s t r others rest at front is =

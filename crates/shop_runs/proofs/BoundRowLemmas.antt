@@ -1,9 +1,10 @@
 -- Rows of stacks by bound: what is put into them, taken from them, and let go.
-use Rattle.std.proofs.Common.{◌≡◌, true, false, ℕ, zero, suc, ◌+◌, ◌≤◌, ◌<◌, min, inl, inr, cond, Option, Some, None}
+use Rattle.std.proofs.Common.{◌≡◌, true, false, ℕ, zero, suc, ◌+◌, ◌≤◌, ◌<◌, min, inl, inr, cond, Some, None}
 use Rattle.std.proofs.Common.{List, [], ◌∷◌, ◌++◌, length, take, drop, refl, sym, ◌∙◌, ap, arith, ltb}
 use Rattle.std.proofs.Common.{append_assoc, length-append, eqb}
 use Rattle.std.specs.Prelude.{IsSome, slice_index_or, slice_set}
 use Rattle.std.specs.List.{AllByRecursion}
+use Rattle.std.specs.Global.{Box}
 use Rattle.std.proofs.lemmas.Bool.{cases_eq, eq-eqb, ne_eqb, le-leb, le-ltb, lt-ltb}
 use Rattle.std.proofs.lemmas.List.Elements.{filter-append}
 use Rattle.shop_nodes.specs.Branching.{insert_by}
@@ -12,23 +13,23 @@ use Rattle.shop_runs.specs.declared.stacks.Stack.{Stack}
 use Rattle.shop_nodes.specs.inner.HeldNodes.{nodes_below}
 use Rattle.shop_runs.specs.inner.NodeLists.{least_of_bounds}
 use Rattle.shop_runs.specs.inner.BoundRows.{AreEmptyBelow, IsFirstFrom}
-use Rattle.shop_runs.specs.inner.Stacks.{words_left, nodes_of_bound, nodes_in_row}
+use Rattle.shop_runs.specs.inner.Stacks.{Place, words_at, nodes_of_bound, nodes_in_row}
 use Rattle.shop_runs.proofs.StackLemmas.{insert_past, below_one, least_all, bounds_all, words_under}
 
 -- an empty place more
-pub row_more : (b : ℕ) (os : List (Option Stack)) → nodes_in_row b (os ++ None ∷ []) ≡ nodes_in_row b os
+pub row_more : (b : ℕ) (os : List Place) → nodes_in_row b (os ++ None ∷ []) ≡ nodes_in_row b os
 row_more b [] = refl
-row_more b (o ∷ os) = ap (λ ns. nodes_of_bound b (words_left o) ++ ns) (row_more (suc b) os)
+row_more b (o ∷ os) = ap (λ ns. nodes_of_bound b (words_at o) ++ ns) (row_more (suc b) os)
 
-pub more_empty : (b n : ℕ) (os : List (Option Stack))
+pub more_empty : (b n : ℕ) (os : List Place)
     → nodes_in_row b (take n (os ++ None ∷ [])) ≡ nodes_in_row b (take n os)
 more_empty b zero os = refl
 more_empty b (suc zero) [] = refl
 more_empty b (suc (suc n)) [] = refl
-more_empty b (suc n) (o ∷ os) = ap (λ ns. nodes_of_bound b (words_left o) ++ ns) (more_empty (suc b) n os)
+more_empty b (suc n) (o ∷ os) = ap (λ ns. nodes_of_bound b (words_at o) ++ ns) (more_empty (suc b) n os)
 
 -- where no node stands before a place, none stands before a lower one
-pub lower_empty : (b n m : ℕ) (os : List (Option Stack)) → m ≤ n → nodes_in_row b (take n os) ≡ []
+pub lower_empty : (b n m : ℕ) (os : List Place) → m ≤ n → nodes_in_row b (take n os) ≡ []
     → nodes_in_row b (take m os) ≡ []
 lower_empty b n zero os h e = refl
 lower_empty b zero (suc m) os h e = absurd (omega arith)
@@ -37,7 +38,7 @@ lower_empty b (suc n) (suc m) (None ∷ os) h e = lower_empty (suc b) n m os (om
 lower_empty b (suc n) (suc m) (Some s ∷ os) h e = absurd (cc)
 
 -- and all nodes stand from there on
-pub from_first : (b n : ℕ) (os : List (Option Stack)) → nodes_in_row b (take n os) ≡ []
+pub from_first : (b n : ℕ) (os : List Place) → nodes_in_row b (take n os) ≡ []
     → nodes_in_row b os ≡ nodes_in_row (b + n) (drop n os)
 from_first b zero os e = ap (λ c. nodes_in_row c os) (let x : b ≡ b + 0 = omega arith in x)
 from_first b (suc n) [] e = refl
@@ -46,22 +47,22 @@ from_first b (suc n) (None ∷ os) e =
 from_first b (suc n) (Some s ∷ os) e = absurd (cc)
 
 -- a place without a stack is passed
-pub pass_empty : (b k : ℕ) (os : List (Option Stack)) (d : Option Stack) → k < length os
+pub pass_empty : (b k : ℕ) (os : List Place) (d : Place) → k < length os
     → slice_index_or os k d ≡ None → nodes_in_row b (drop k os) ≡ nodes_in_row (suc b) (drop (suc k) os)
 pass_empty b k [] d h e = absurd (omega arith)
-pass_empty b zero (o ∷ os) d h e = ap (λ x. nodes_of_bound b (words_left x) ++ nodes_in_row (suc b) os) e
+pass_empty b zero (o ∷ os) d h e = ap (λ x. nodes_of_bound b (words_at x) ++ nodes_in_row (suc b) os) e
 pass_empty b (suc k) (o ∷ os) d h e = pass_empty b k os d (omega arith) e
 
-pub pass_place : (k : ℕ) (os : List (Option Stack)) (d : Option Stack) → k < length os
+pub pass_place : (k : ℕ) (os : List Place) (d : Place) → k < length os
     → slice_index_or os k d ≡ None → nodes_in_row k (drop k os) ≡ nodes_in_row (k + 1) (drop (k + 1) os)
 pass_place k os d h e =
     let next : suc k ≡ k + 1 = omega arith
     in pass_empty k k os d h e ∙ ap (λ n. nodes_in_row n (drop n os)) next
 
 -- the nodes of a row have its first bound or more
-pub all_from : (c b : ℕ) (os : List (Option Stack)) → c ≤ b → AllByRecursion (λ n. c ≤ n.bound) (nodes_in_row b os)
+pub all_from : (c b : ℕ) (os : List Place) → c ≤ b → AllByRecursion (λ n. c ≤ n.bound) (nodes_in_row b os)
 all_from c b [] h = tt
-all_from c b (o ∷ os) h = bounds_all c b (words_left o) (nodes_in_row (suc b) os) h (all_from c (suc b) os (omega arith))
+all_from c b (o ∷ os) h = bounds_all c b (words_at o) (nodes_in_row (suc b) os) h (all_from c (suc b) os (omega arith))
 
 -- a node of no greater bound than all others goes first
 insert_first : (n : Node) (ns : List Node) → AllByRecursion (λ m. n.bound ≤ m.bound) ns
@@ -70,14 +71,15 @@ insert_first n [] a = refl
 insert_first n (m ∷ ms) a = rw (le-leb n.bound m.bound a.0) refl
 
 -- a word is put on the stack of its bound
-pub put_at : (b k : ℕ) (os : List (Option Stack)) (w : List ℕ) (o : Option Stack) (d : Option Stack) → k < length os
-    → words_left o ≡ w ∷ words_left (slice_index_or os k d)
+pub put_at : (b k : ℕ) (os : List Place) (w : List ℕ) (o : Place) (d : Place) → k < length os
+    → words_at o ≡ w ∷ words_at (slice_index_or os k d)
     → nodes_in_row b (slice_set os k o)
     ≡ insert_by (λ m. m.bound) (record { word = w; bound = b + k }) (nodes_in_row b os)
 put_at b k [] w o d h e = absurd (omega arith)
 put_at b zero (p ∷ os) w o d h e =
     let n : Node = record { word = w; bound = b }
-    in let all = bounds_all b b (words_left p) (nodes_in_row (suc b) os) (omega arith) (all_from b (suc b) os (omega arith))
+    in let behind = all_from b (suc b) os (omega arith)
+    in let all = bounds_all b b (words_at p) (nodes_in_row (suc b) os) (omega arith) behind
     in ap (λ ws. nodes_of_bound b ws ++ nodes_in_row (suc b) os) e
     ∙ (sym (insert_first n (nodes_in_row b (p ∷ os)) all)
     ∙ ap (λ c. insert_by (λ m. m.bound) (record { word = w; bound = c }) (nodes_in_row b (p ∷ os)))
@@ -85,13 +87,13 @@ put_at b zero (p ∷ os) w o d h e =
 put_at b (suc k) (p ∷ os) w o d h e =
     let n : Node = record { word = w; bound = b + suc k }
     in let same : suc b + k ≡ b + suc k = omega arith
-    in ap (λ ns. nodes_of_bound b (words_left p) ++ ns) (put_at (suc b) k os w o d (omega arith) e
+    in ap (λ ns. nodes_of_bound b (words_at p) ++ ns) (put_at (suc b) k os w o d (omega arith) e
     ∙ ap (λ c. insert_by (λ m. m.bound) (record { word = w; bound = c }) (nodes_in_row (suc b) os)) same)
-    ∙ sym (insert_past n b (words_left p) (nodes_in_row (suc b) os) (omega arith))
+    ∙ sym (insert_past n b (words_at p) (nodes_in_row (suc b) os) (omega arith))
 
 -- the top word of the first stack is taken
-pub take_at : (b k : ℕ) (os : List (Option Stack)) (w : List ℕ) (o : Option Stack) (d : Option Stack) → k < length os
-    → nodes_in_row b (take k os) ≡ [] → words_left (slice_index_or os k d) ≡ w ∷ words_left o
+pub take_at : (b k : ℕ) (os : List Place) (w : List ℕ) (o : Place) (d : Place) → k < length os
+    → nodes_in_row b (take k os) ≡ [] → words_at (slice_index_or os k d) ≡ w ∷ words_at o
     → nodes_in_row b os ≡ record { word = w; bound = b + k } ∷ nodes_in_row b (slice_set os k o)
 take_at b k [] w o d h none e = absurd (omega arith)
 take_at b zero (p ∷ os) w o d h none e =
@@ -104,7 +106,7 @@ take_at b (suc k) (None ∷ os) w o d h none e =
 take_at b (suc k) (Some s ∷ os) w o d h none e = absurd (cc)
 
 -- no node before a place, whatever is put there or behind it
-pub still_empty : (b m k : ℕ) (os : List (Option Stack)) (o : Option Stack) → m ≤ k → nodes_in_row b (take m os) ≡ []
+pub still_empty : (b m k : ℕ) (os : List Place) (o : Place) → m ≤ k → nodes_in_row b (take m os) ≡ []
     → nodes_in_row b (take m (slice_set os k o)) ≡ []
 still_empty b zero k os o h e = refl
 still_empty b (suc m) zero os o h e = absurd (omega arith)
@@ -113,7 +115,7 @@ still_empty b (suc m) (suc k) (None ∷ os) o h e = still_empty (suc b) m k os o
 still_empty b (suc m) (suc k) (Some s ∷ os) o h e = absurd (cc)
 
 -- and where the places from one on are let go
-pub cut_empty : (b n m : ℕ) (os : List (Option Stack)) → nodes_in_row b (take n os) ≡ []
+pub cut_empty : (b n m : ℕ) (os : List Place) → nodes_in_row b (take n os) ≡ []
     → nodes_in_row b (take n (take m os)) ≡ []
 cut_empty b zero m os e = refl
 cut_empty b (suc n) zero os e = refl
@@ -126,29 +128,31 @@ none_below : (c : ℕ) (ns : List Node) → AllByRecursion (λ n. c ≤ n.bound)
 none_below c [] a = refl
 none_below c (n ∷ ns) a = rw (le-ltb n.bound c a.0) (none_below c ns a.1)
 
-pub kept_is : (b k : ℕ) (os : List (Option Stack)) → nodes_in_row b (take k os) ≡ nodes_below (b + k) (nodes_in_row b os)
+pub kept_is : (b k : ℕ) (os : List Place) → nodes_in_row b (take k os) ≡ nodes_below (b + k) (nodes_in_row b os)
 kept_is b zero os =
     sym (none_below (b + 0) (nodes_in_row b os) (all_from (b + 0) b os (omega arith)))
 kept_is b (suc k) [] = refl
 kept_is b (suc k) (o ∷ os) =
     let c = b + suc k
+    in let same : suc b + k ≡ c = omega arith
     in let rest : nodes_in_row (suc b) (take k os) ≡ nodes_below c (nodes_in_row (suc b) os) =
-    kept_is (suc b) k os ∙ ap (λ x. nodes_below x (nodes_in_row (suc b) os)) (let x : suc b + k ≡ b + suc k = omega arith in x)
-    in let one : nodes_below c (nodes_of_bound b (words_left o)) ≡ nodes_of_bound b (words_left o) =
-    below_one c b (words_left o) ∙ ap (λ t. cond t (nodes_of_bound b (words_left o)) []) (lt-ltb b c (omega arith))
-    in let all = filter-append (λ n. ltb n.bound c) (nodes_of_bound b (words_left o)) (nodes_in_row (suc b) os)
+    kept_is (suc b) k os ∙ ap (λ x. nodes_below x (nodes_in_row (suc b) os)) same
+    in let one : nodes_below c (nodes_of_bound b (words_at o)) ≡ nodes_of_bound b (words_at o) =
+    below_one c b (words_at o) ∙ ap (λ t. cond t (nodes_of_bound b (words_at o)) []) (lt-ltb b c (omega arith))
+    in let all = filter-append (λ n. ltb n.bound c) (nodes_of_bound b (words_at o)) (nodes_in_row (suc b) os)
     in sym (all ∙ (λ i. one i ++ sym rest i))
 
 -- the least bound is that of the first stack
-pub least_at : (c b : ℕ) (s : Stack) (os : List (Option Stack))
+pub least_at : (c b : ℕ) (s : Box Stack) (os : List Place)
     → least_of_bounds c (nodes_in_row b (Some s ∷ os)) ≡ min c b
 least_at c b s os =
     let low : min c b ≤ b = omega arith
-    in least_all (min c b) (nodes_of_bound b (words_under s) ++ nodes_in_row (suc b) os)
-    (bounds_all (min c b) b (words_under s) (nodes_in_row (suc b) os) low (all_from (min c b) (suc b) os (omega arith)))
+    in let behind = all_from (min c b) (suc b) os (omega arith)
+    in least_all (min c b) (nodes_of_bound b (words_under s.value) ++ nodes_in_row (suc b) os)
+    (bounds_all (min c b) b (words_under s.value) (nodes_in_row (suc b) os) low behind)
 
 -- how many nodes there are doesn't depend on the bounds
-pub row_length : (b c : ℕ) (os : List (Option Stack)) → length (nodes_in_row b os) ≡ length (nodes_in_row c os)
+pub row_length : (b c : ℕ) (os : List Place) → length (nodes_in_row b os) ≡ length (nodes_in_row c os)
 row_length b c os = go b c os
   where
     words : (b c : ℕ) (ws : List (List ℕ)) (ms ns : List Node) → length ms ≡ length ns
@@ -156,17 +160,17 @@ row_length b c os = go b c os
     words b c [] ms ns e = e
     words b c (w ∷ ws) ms ns e = ap suc (words b c ws ms ns e)
 
-    go : (b c : ℕ) (os : List (Option Stack)) → length (nodes_in_row b os) ≡ length (nodes_in_row c os)
+    go : (b c : ℕ) (os : List Place) → length (nodes_in_row b os) ≡ length (nodes_in_row c os)
     go b c [] = refl
-    go b c (o ∷ os) = words b c (words_left o) (nodes_in_row (suc b) os) (nodes_in_row (suc c) os) (go (suc b) (suc c) os)
+    go b c (o ∷ os) = words b c (words_at o) (nodes_in_row (suc b) os) (nodes_in_row (suc c) os) (go (suc b) (suc c) os)
 
 -- a row in two parts
-row_split : (k b : ℕ) (os : List (Option Stack))
+row_split : (k b : ℕ) (os : List Place)
     → nodes_in_row b os ≡ nodes_in_row b (take k os) ++ nodes_in_row (b + k) (drop k os)
 row_split zero b os = ap (λ c. nodes_in_row c os) (let x : b ≡ b + 0 = omega arith in x)
 row_split (suc k) b [] = refl
 row_split (suc k) b (o ∷ os) =
-    let front = nodes_of_bound b (words_left o)
+    let front = nodes_of_bound b (words_at o)
     in ap (λ ns. front ++ ns) (row_split k (suc b) os)
     ∙ (sym (append_assoc front (nodes_in_row (suc b) (take k os)) (nodes_in_row (suc b + k) (drop k os)))
     ∙ ap (λ c. (front ++ nodes_in_row (suc b) (take k os)) ++ nodes_in_row c (drop k os))
@@ -178,71 +182,73 @@ none_in_front (m ∷ ms) ns e =
     let long : length ((m ∷ ms) ++ ns) ≡ length ns = ap length e
     in absurd (omega (arith, length-append (m ∷ ms) ns))
 
-next_at : (k : ℕ) (os : List (Option Stack)) (d : Option Stack) → k < length os
+next_at : (k : ℕ) (os : List Place) (d : Place) → k < length os
     → drop k os ≡ slice_index_or os k d ∷ drop (suc k) os
 next_at k [] d h = absurd (omega arith)
 next_at zero (o ∷ os) d h = refl
 next_at (suc k) (o ∷ os) d h = next_at k os d (omega arith)
 
 -- from where no node stands before to the first stack
-pub first_left : (n k : ℕ) (os : List (Option Stack)) → AreEmptyBelow n os → IsFirstFrom os n k
+pub first_left : (n k : ℕ) (os : List Place) → AreEmptyBelow n os → IsFirstFrom os n k
     → nodes_in_row 0 os ≡ nodes_in_row k (drop k os)
 first_left n k os e f =
     from_first 0 n os e.1 ∙ (ap (λ b. nodes_in_row b (drop n os)) (let x : 0 + n ≡ n = omega arith in x) ∙ f.2)
 
-pub now_empty : (n k : ℕ) (os : List (Option Stack)) → AreEmptyBelow n os → IsFirstFrom os n k → AreEmptyBelow k os
+pub now_empty : (n k : ℕ) (os : List Place) → AreEmptyBelow n os → IsFirstFrom os n k → AreEmptyBelow k os
 now_empty n k os e f =
     let same : k ≡ 0 + k = omega arith
     in let whole : nodes_in_row 0 (take k os) ++ nodes_in_row k (drop k os) ≡ nodes_in_row 0 os =
     ap (λ b. nodes_in_row 0 (take k os) ++ nodes_in_row b (drop k os)) same ∙ sym (row_split k 0 os)
     in (f.1, none_in_front (nodes_in_row 0 (take k os)) (nodes_in_row k (drop k os)) (whole ∙ first_left n k os e f))
 
-pub none_left : (n k : ℕ) (os : List (Option Stack)) → AreEmptyBelow n os → IsFirstFrom os n k → k ≡ length os
+pub none_left : (n k : ℕ) (os : List Place) → AreEmptyBelow n os → IsFirstFrom os n k → k ≡ length os
     → nodes_in_row 0 os ≡ []
 none_left n k os e f end = first_left n k os e f ∙ ap (nodes_in_row k) (all_gone k os end)
   where
-    all_gone : (k : ℕ) (os : List (Option Stack)) → k ≡ length os → drop k os ≡ []
+    all_gone : (k : ℕ) (os : List Place) → k ≡ length os → drop k os ≡ []
     all_gone zero [] h = refl
     all_gone zero (o ∷ os) h = absurd (omega arith)
     all_gone (suc k) [] h = refl
     all_gone (suc k) (o ∷ os) h = all_gone k os (omega arith)
 
-pub some_left : (n k : ℕ) (os : List (Option Stack)) → AreEmptyBelow n os → IsFirstFrom os n k → k < length os
-    → (s : Stack) × (nodes_in_row 0 os ≡ nodes_in_row k (Some s ∷ drop (suc k) os))
+pub some_left : (n k : ℕ) (os : List Place) → AreEmptyBelow n os → IsFirstFrom os n k → k < length os
+    → (s : Box Stack) × (nodes_in_row 0 os ≡ nodes_in_row k (Some s ∷ drop (suc k) os))
 some_left n k os e f l = go (slice_index_or os k None) (f.3 l)
     (first_left n k os e f ∙ ap (nodes_in_row k) (next_at k os None l))
   where
-    go : (o : Option Stack) → IsSome o → nodes_in_row 0 os ≡ nodes_in_row k (o ∷ drop (suc k) os)
-        → (s : Stack) × (nodes_in_row 0 os ≡ nodes_in_row k (Some s ∷ drop (suc k) os))
+    go : (o : Place) → IsSome o → nodes_in_row 0 os ≡ nodes_in_row k (o ∷ drop (suc k) os)
+        → (s : Box Stack) × (nodes_in_row 0 os ≡ nodes_in_row k (Some s ∷ drop (suc k) os))
     go None h r = absurd (let wrong : false ≡ true = h in cc)
     go (Some s) h r = (s, r)
 
-pub least_from_first : (c n k : ℕ) (os : List (Option Stack)) → AreEmptyBelow n os → IsFirstFrom os n k
+pub least_from_first : (c n k : ℕ) (os : List Place) → AreEmptyBelow n os → IsFirstFrom os n k
     → k < length os → least_of_bounds c (nodes_in_row 0 os) ≡ min c k
 least_from_first c n k os e f l =
     let some = some_left n k os e f l
     in ap (least_of_bounds c) some.1 ∙ least_at c k some.0 (drop (suc k) os)
 
-pub is_none_left : (n k : ℕ) (os : List (Option Stack)) → AreEmptyBelow n os → IsFirstFrom os n k
+pub is_none_left : (n k : ℕ) (os : List Place) → AreEmptyBelow n os → IsFirstFrom os n k
     → eqb k (length os) ≡ eqb (length (nodes_in_row 0 os)) 0
 is_none_left n k os e f = elim (cases_eq k (length os)) [
   | inl same ↦ eq-eqb k (length os) same ∙ ap (λ ns. eqb (length ns) 0) (sym (none_left n k os e f same))
   | inr other ↦ (let l : k < length os = (let h = f.1 in omega arith)
       in let some = some_left n k os e f l
-      in let long : length (nodes_in_row 0 os) ≡ 0 → ⊥ = (λ z. let x : length (nodes_in_row k (Some some.0 ∷ drop (suc k) os)) ≡ 0 = sym (ap length some.1) ∙ z in absurd (omega arith))
+      in let long : length (nodes_in_row 0 os) ≡ 0 → ⊥ = (λ z. let x : length (nodes_in_row k
+      (Some some.0 ∷ drop (suc k) os)) ≡ 0 = sym (ap length some.1) ∙ z in absurd (omega arith))
       in ne_eqb k (length os) other ∙ sym (ne_eqb (length (nodes_in_row 0 os)) 0 long))
 ]
 
 -- the nodes from a place on, and from the next one on
-pub count_next : (k : ℕ) (os : List (Option Stack)) (d : Option Stack) → k < length os
+pub count_next : (k : ℕ) (os : List Place) (d : Place) → k < length os
     → length (nodes_in_row 0 (drop k os))
-    ≡ length (words_left (slice_index_or os k d)) + length (nodes_in_row 0 (drop (k + 1) os))
+    ≡ length (words_at (slice_index_or os k d)) + length (nodes_in_row 0 (drop (k + 1) os))
 count_next k os d h =
     let o = slice_index_or os k d
     in let next : suc k ≡ k + 1 = omega arith
+    in let behind = row_length 1 0 (drop (suc k) os) ∙ ap (λ n. length (nodes_in_row 0 (drop n os))) next
     in ap (λ xs. length (nodes_in_row 0 xs)) (next_at k os d h)
-    ∙ (length-append (nodes_of_bound 0 (words_left o)) (nodes_in_row 1 (drop (suc k) os))
-    ∙ (λ i. named 0 (words_left o) i + (row_length 1 0 (drop (suc k) os) ∙ ap (λ n. length (nodes_in_row 0 (drop n os))) next) i))
+    ∙ (length-append (nodes_of_bound 0 (words_at o)) (nodes_in_row 1 (drop (suc k) os))
+    ∙ (λ i. named 0 (words_at o) i + behind i))
   where
     named : (b : ℕ) (ws : List (List ℕ)) → length (nodes_of_bound b ws) ≡ length ws
     named b [] = refl

@@ -79,7 +79,8 @@ pub put_last_left : (o : Order) (c : ℕ) (ls : List Leaving) (l : Leaving) (nod
 put_last_left o c ls l nodes =
     let e = ap (nodes_below c) (sym (flat_map_more open_of [] ls l))
     ∙ filter-append (λ (m : Node). ltb m.bound c) (left_open ls) (open_of l)
-    in ap (λ ms. put_all_before o ms nodes) e ∙ put_append o (nodes_below c (left_open ls)) (nodes_below c (open_of l)) nodes
+    in ap (λ ms. put_all_before o ms nodes) e
+    ∙ put_append o (nodes_below c (left_open ls)) (nodes_below c (open_of l)) nodes
 
 -- the nodes of one more entry of what waits are put before those of the later ones
 pub put_entry : (o : Order) (c : ℕ) (path : List ℕ) (waiting : List Waiting) (k : ℕ) (d : Waiting) (nodes : List Node)

@@ -1,9 +1,10 @@
 // Open nodes for the order `Bound` where bounds are small: a row of stacks of words, one for each bound.
-ghost use Rattle.std.specs.Prelude.{◌≡◌, ◌==◌, ◌^◌, ◌<◌, ◌≤◌, ◌∷◌, [], length, vec_len, IfOk, OnOk, OnErr};
+ghost use Rattle.std.specs.Prelude.{◌≡◌, ◌==◌, ◌^◌, ◌<◌, ◌≤◌, ◌∷◌, [], length, vec_len};
+ghost use Rattle.std.specs.Prelude.{IfOk, OnOk, OnErr};
 ghost use Rattle.shop_nodes.specs.Branching.{insert_by};
 ghost use Rattle.shop_nodes.specs.inner.HeldNodes.{nodes_below};
 ghost use Rattle.shop_runs.specs.inner.NodeLists.{least_of_bounds};
-ghost use Rattle.shop_runs.specs.inner.Stacks.{words_left, nodes_in_row, IsNextOf, IsTopIfAny};
+ghost use Rattle.shop_runs.specs.inner.Stacks.{words_at, nodes_in_row, IsNextOf, IsTopIfMore};
 ghost use Rattle.shop_runs.specs.inner.BoundRows.{IsFirstFrom, StaysEmpty, TakesTop};
 
 use crate::stacks::Stack;
@@ -12,50 +13,57 @@ use shop_nodes::{Node, SharedNode};
 use std::alloc::{AllocError as NoMemory, Global};
 use std::marker::Model;
 
+/// A place of a row: the stack of a bound, if there is one. It takes 16 bytes.
+type Place = Option<Box<Stack>>;
+
+/// Makes a stack of one word, in a box. Fails with `NoMemory` if memory runs out; the word is then lost.
+fn boxed(alloc: Global, word: SharedWord) -> Result<Box<Stack>, NoMemory>
+    ensures { IfOk result (λ b. words_at (Some b) ≡ word ∷ []) }
+{
+    Ok(Box::new(alloc, Stack::of(alloc, word))?)
+}
+
 /// Puts `word` on top of the stack at a place, or makes a stack of `word` if the place is empty. Fails with `NoMemory`
 /// if memory runs out; the stack has then lost words.
 #[inline(always)]
-fn push_at(alloc: Global, place: &mut Option<Stack>, word: SharedWord) -> Result<(), NoMemory>
-    ensures { OnOk result (words_left place.new ≡ word ∷ words_left place.old) }
+fn push_at(alloc: Global, place: &mut Place, word: SharedWord) -> Result<(), NoMemory>
+    ensures { OnOk result (words_at place.new ≡ word ∷ words_at place.old) }
 {
     match place {
         Some(stack) => stack.push(alloc, word),
         None => {
-            *place = Some(Stack::of(alloc, word));
+            *place = Some(boxed(alloc, word)?);
             Ok(())
         }
     }
 }
 
-/// Takes the top word off the stack at a place, if the topmost chunk has another word. Else answers `None` and changes
-/// nothing.
-fn pop_in_chunk_at(place: &mut Option<Stack>) -> Option<SharedWord>
-    ensures { IsTopIfAny result (words_left place.old) (words_left place.new) }
+/// Takes the top word off the stack at a place, if other words lie below it. Else answers `None` and changes nothing.
+fn pop_if_more_at(place: &mut Place) -> Option<SharedWord>
+    ensures { IsTopIfMore result (words_at place.old) (words_at place.new) }
 {
     match place {
-        Some(stack) => stack.pop_in_chunk(),
+        Some(stack) => stack.pop_if_more(),
         None => None,
     }
 }
 
-/// Takes the top word off the stack at a place, or answers `None` if there is no stack. Leaves no empty stack. Nearly
-/// all words are taken from where they lie; where a chunk ends, the stack is moved out and back.
-fn pop_at(place: &mut Option<Stack>) -> Option<SharedWord>
+/// Takes the top word off the stack at a place, or answers `None` if there is no stack. Leaves no empty stack: the box
+/// is given back with the last word.
+fn pop_at(place: &mut Place) -> Option<SharedWord>
     ensures { TakesTop result place.old place.new }
 {
-    if let Some(word) = pop_in_chunk_at(place) {
+    if let Some(word) = pop_if_more_at(place) {
         return Some(word);
     }
     let stack = place.take()?;
-    let (word, others) = stack.pop();
-    *place = others;
-    Some(word)
+    Some(Box::into_inner(stack).into_last())
 }
 
 /// Answers how many words the stack at a place holds. Fails with `NoMemory` if they are 2^64 or more.
-fn count_at(place: &Option<Stack>) -> Result<usize, NoMemory>
-    ensures count { IfOk result (λ n. n ≡ length (words_left place.now)) }
-    ensures too_many { OnErr result (2 ^ 64 ≤ length (words_left place.now)) }
+fn count_at(place: &Place) -> Result<usize, NoMemory>
+    ensures count { IfOk result (λ n. n ≡ length (words_at place.now)) }
+    ensures too_many { OnErr result (2 ^ 64 ≤ length (words_at place.now)) }
 {
     match place {
         Some(stack) => stack.count(),
@@ -64,7 +72,7 @@ fn count_at(place: &Option<Stack>) -> Result<usize, NoMemory>
 }
 
 /// Answers the first index from `from` on at which there is a stack, or else the number of places.
-fn first_from(stacks: &[Option<Stack>], from: usize) -> usize
+fn first_from(stacks: &[Place], from: usize) -> usize
     requires { from ≤ length stacks.now }
     ensures { IsFirstFrom stacks.now from result }
 {
@@ -77,7 +85,7 @@ fn first_from(stacks: &[Option<Stack>], from: usize) -> usize
 }
 
 /// Adds empty places until there is one at `index`. Fails with `NoMemory` if memory runs out.
-fn reach(stacks: &mut Vec<Option<Stack>>, index: usize) -> Result<(), NoMemory>
+fn reach(stacks: &mut Vec<Place>, index: usize) -> Result<(), NoMemory>
     ensures reached { OnOk result (index < vec_len stacks.new) }
     ensures len { vec_len stacks.old ≤ vec_len stacks.new }
     ensures nodes { nodes_in_row 0 stacks.new.items ≡ nodes_in_row 0 stacks.old.items }
@@ -90,11 +98,11 @@ fn reach(stacks: &mut Vec<Option<Stack>>, index: usize) -> Result<(), NoMemory>
 }
 
 /// Open nodes by bound: `stacks[b]` has the words of the open nodes of bound b. No node has a bound below `first`. The
-/// row ends at the greatest bound that was put, and takes some 70 bytes for each place. Contracts see the list of
-/// nodes, from the least bound up.
+/// row ends at the greatest bound that was put, and takes 16 bytes for each place, and some 80 for each stack.
+/// Contracts see the list of nodes, from the least bound up.
 #[derive(Drop)]
 pub(crate) struct BoundRow {
-    stacks: Vec<Option<Stack>>,
+    stacks: Vec<Place>,
     first: usize,
 }
 

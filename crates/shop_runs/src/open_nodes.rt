@@ -19,7 +19,7 @@ use std::alloc::{AllocError as NoMemory, Global};
 use std::collections::BTreeMap;
 use std::sync::ArcSlice;
 
-/// The greatest opening makespan at which open nodes are kept in a row by bound, which then takes some 5 MB at most.
+/// The greatest opening makespan at which open nodes are kept in a row by bound, whose places then take 1 MB at most.
 const MOST_IN_ROW: u64 = 65_536;
 
 /// The most places of a row for each operation of the instance. A round goes through the empty places between two

@@ -3,7 +3,7 @@ ghost use Rattle.std.specs.Prelude.{◌≡◌, ◌^◌, ◌≤◌, ◌∷◌, []
 ghost use Rattle.shop_runs.specs.inner.NodeLists.{least_of_bounds};
 ghost use Rattle.shop_runs.specs.inner.Stacks.{words_in, words_in_rest, words_on, words_left};
 ghost use Rattle.shop_runs.specs.inner.Stacks.{nodes_in_stacks, IsPutByBound, IsNextByBound};
-ghost use Rattle.shop_runs.specs.inner.Stacks.{KeepsBelow, IsTopIfAny};
+ghost use Rattle.shop_runs.specs.inner.Stacks.{KeepsBelow, IsTopIfMore};
 
 use shop_model::{SharedWord, Word};
 use shop_nodes::{Node, SharedNode};
@@ -119,13 +119,27 @@ impl Stack {
         Ok(count)
     }
 
-    /// Takes the top word off the topmost chunk where it lies, if there is another word in this chunk. Else answers
-    /// `None` and changes nothing.
-    pub(crate) fn pop_in_chunk(&mut self) -> Option<SharedWord>
-        ensures { IsTopIfAny result (words_on self.old) (words_on self.new) }
+    /// Takes the top word, if other words lie below it. Else answers `None` and changes nothing.
+    pub(crate) fn pop_if_more(&mut self) -> Option<SharedWord>
+        ensures { IsTopIfMore result (words_on self.old) (words_on self.new) }
     {
-        let next = self.topmost.below.pop()?;
-        Some(mem::replace(&mut self.topmost.top, next))
+        match self.topmost.below.pop() {
+            Some(next) => Some(mem::replace(&mut self.topmost.top, next)),
+            None => {
+                let under = self.covered.pop()?;
+                let Chunk { top, below: _ } = mem::replace(&mut self.topmost, under);
+                Some(top)
+            }
+        }
+    }
+
+    /// Answers the only word.
+    pub(crate) fn into_last(self) -> SharedWord
+        requires { length (words_on self) ≤ 1 }
+        ensures { words_on self ≡ result ∷ [] }
+    {
+        let Chunk { top, below: _ } = self.topmost;
+        top
     }
 
     /// Answers the top word, and the stack of the other words, or `None` if there are no others.

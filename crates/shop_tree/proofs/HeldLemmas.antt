@@ -7,7 +7,8 @@ use Rattle.std.proofs.lemmas.List.Elements.{All-append, All-map, All-from_recurs
 use Rattle.shop_nodes.specs.declared.halts.Waiting.{Waiting}
 use Rattle.shop_nodes.specs.declared.halts.Waiting.TheVariants.{Child, Rest}
 use Rattle.shop_tree.specs.declared.held.Held.{Held}
-use Rattle.shop_tree.specs.inner.Held.{IsHeld, IsKept, Kept, held, opens_in, waiting_in, with_held_rest, HasSetRestBelow}
+use Rattle.shop_tree.specs.inner.Held.{IsHeld, IsKept, Kept, held, opens_in, waiting_in, with_held_rest}
+use Rattle.shop_tree.specs.inner.Held.{HasSetRestBelow}
 use Rattle.shop_tree.specs.inner.Pushing.{with_opens, with_rest}
 
 children_moved : {S : Type 0} (ks : List (Kept S)) → waiting_in (map held ks) ≡ map (λ o. Child o) (opens_in ks)
@@ -57,8 +58,8 @@ rest_long {S} old depth (suc n) =
     in let a = length_push old rest in omega arith
 
 -- what waits once closed ones are put on top
-pub rest_waits : {S : Type 0} (old : List (Held S)) {new : List (Held S)} (word : List ℕ) {depth : ℕ} (n : ℕ) → depth ≡ length word
-    → new ≡ with_held_rest old depth n → waiting_in new ≡ with_rest (waiting_in old) (length word) n
+pub rest_waits : {S : Type 0} (old : List (Held S)) {new : List (Held S)} (word : List ℕ) {depth : ℕ} (n : ℕ)
+    → depth ≡ length word → new ≡ with_held_rest old depth n → waiting_in new ≡ with_rest (waiting_in old) (length word) n
 rest_waits old word {depth} n deep put = ap waiting_in put
     ∙ (waiting_rest old depth n ∙ ap (λ (k : ℕ). with_rest (waiting_in old) k n) deep)
 

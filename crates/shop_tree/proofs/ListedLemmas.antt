@@ -129,7 +129,8 @@ module _ {shop : Shop} {word : List ℕ} {limit : ℕ} {is : Candidate → Type 
   pub none_kept : (cs : List Candidate) (n : ℕ) → cs ≡ [] → ListsBelow shop word limit is (conflict shop word) cs n
       → AreChildren shop limit word [] n
   none_kept cs n e all = all_gathered
-      (subst (λ (k : ℕ). IsGathered shop limit word [] k (conflict shop word ++ [])) (let f : 0 + n ≡ n = omega arith in f)
+      (subst (λ (k : ℕ). IsGathered shop limit word [] k (conflict shop word ++ []))
+      (let f : 0 + n ≡ n = omega arith in f)
       (closed_gathered all e [] 0 [] (gathered_none shop limit word [] refl))) (append-nil (conflict shop word))
 
   -- one candidate alone

@@ -24,7 +24,8 @@ begins_alike v w n alike k h = sym (take-take k n v h) ∙ (ap (take k) alike �
 module _ (shop : Shop) (v w : List ℕ) (n : ℕ) (alike : take n v ≡ take n w) where
   entry-same : (x : Waiting) → IsUpTo n x → waiting_words shop v x ≡ waiting_words shop w x
   entry-same (Child o) h = ap (λ (u : List ℕ). (u ++ o.job ∷ []) ∷ []) (begins_alike v w n alike o.depth h)
-  entry-same (Rest depth count) h = ap (λ (u : List ℕ). last_of count (branch shop u)) (begins_alike v w n alike depth h)
+  entry-same (Rest depth count) h =
+      ap (λ (u : List ℕ). last_of count (branch shop u)) (begins_alike v w n alike depth h)
 
   pub words-same : (stack : List Waiting) → AllByRecursion (IsUpTo n) stack
       → stack_words shop v stack ≡ stack_words shop w stack
@@ -36,7 +37,8 @@ module _ (shop : Shop) (v w : List ℕ) (n : ℕ) (alike : take n v ≡ take n w
   waits-same : (best : ℕ) (x : Waiting) → n ≤ length v → IsUpTo n x → IsWaiting shop best w x
       → IsWaiting shop best v x
   waits-same best (Child o) long h own =
-      let same : word_at w o ≡ word_at v o = ap (λ (u : List ℕ). u ++ o.job ∷ []) (sym (begins_alike v w n alike o.depth h))
+      let same : word_at w o ≡ word_at v o =
+      ap (λ (u : List ℕ). u ++ o.job ∷ []) (sym (begins_alike v w n alike o.depth h))
       in record {
         depth = omega arith;
         is_word = subst (IsWord shop) same own.is_word;
@@ -172,7 +174,8 @@ waits-lower shop best lower word (Rest depth count) le own = record {
 pub all-lower : (shop : Shop) (best lower : ℕ) (word : List ℕ) (stack : List Waiting) → lower ≤ best
     → AreWaiting shop best word stack → AreWaiting shop lower word stack
 all-lower shop best lower word stack le all = record {
-  each = all_weaker (IsWaiting shop best word) (IsWaiting shop lower word) (λ x h. waits-lower shop best lower word x le h)
+  each = all_weaker (IsWaiting shop best word) (IsWaiting shop lower word)
+      (λ x h. waits-lower shop best lower word x le h)
       stack all.each;
   rising = all.rising;
 }

@@ -50,7 +50,8 @@ turn_cut s o on some high =
     let p = popped s.stack (Child o) on
     in let own = p.own.bound
     in record {
-      walk = ap (λ t. walk_stack s.shop s.word t s.stack) (sym (cuts s.shop s.walk (word_at s.word o) some (omega arith)))
+      walk = ap (λ t. walk_stack s.shop s.word t s.stack)
+          (sym (cuts s.shop s.walk (word_at s.word o) some (omega arith)))
           ∙ sym (walk-top s.shop s.walk s.word s.stack (Child o));
       in_order = p.rest_waits;
       fewer = one_less s.walk.budget (s.walk.budget - 1) (length s.shop.jobs) (length s.stack)
@@ -164,8 +165,8 @@ turn_halted s depth count on some few =
           ∙ sym (walk-top s.shop s.walk s.word s.stack (Rest depth count)));
       in_order = replaced s.shop s.walk.best s.word s.stack (Rest depth count) rest on refl
           (fewer_closed s.shop s.walk.best s.word depth count b few p.own);
-      fewer = none_spent b (length s.shop.jobs) (length (s.stack ++ rest ∷ [])) (length (s.stack ++ Rest depth count ∷ []))
-          some (length_push s.stack rest ∙ sym (length_push s.stack (Rest depth count)));
+      fewer = none_spent b (length s.shop.jobs) (length (s.stack ++ rest ∷ []))
+          (length (s.stack ++ Rest depth count ∷ [])) some (length_push s.stack rest ∙ sym (length_push s.stack (Rest depth count)));
       shop = refl;
       spent = omega arith;
     }
@@ -198,7 +199,8 @@ pub node_expanded : (s m t : Stage) (node : Node) → s.stack ≡ [] → 0 < s.w
     → HasWalked s t (node_walk s node)
 node_expanded s m t node empty some below e h = record {
   walk = h.walk ∙ (e.walk
-      ∙ (ap (λ (xs : List Waiting). fold (walk s.shop) (entered s.shop (spent_one s.walk) node.word) (stack_words s.shop node.word xs)) empty
+      ∙ (ap (λ (xs : List Waiting). fold (walk s.shop) (entered s.shop (spent_one s.walk) node.word)
+      (stack_words s.shop node.word xs)) empty
       ∙ sym (enters s.shop s.walk node.word some below)));
   in_order = h.in_order;
   shop = h.shop ∙ e.shop;
@@ -219,8 +221,8 @@ told_sheet s t nodes k shop best budget same begun none h over =
     in let spent = h.spent
     in let rest : budget - (budget - t.walk.budget) ≡ t.walk.budget = omega arith
     in let ended : (t.walk.budget ≡ 0) ⊎ (ws ≡ []) = elim (cases_lt 0 t.walk.budget) [
-      | inl some ↦ inr (ap (λ (xs : List Waiting). stack_words t.shop t.word xs ++ words_of (drop k nodes)) (h.done some)
-          ∙ ap words_of (drop_all k nodes (over some)))
+      | inl some ↦ inr (ap (λ (xs : List Waiting). stack_words t.shop t.word xs ++ words_of (drop k nodes))
+          (h.done some) ∙ ap words_of (drop_all k nodes (over some)))
       | inr no_more ↦ inl (omega arith)
     ]
     in ap (walk_told t.walk.found t.walk.best ws) rest

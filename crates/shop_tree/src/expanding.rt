@@ -10,6 +10,7 @@ ghost use Rattle.shop_tree.specs.inner.StateWalkers.{HasGoneOn, HasReached, IsAt
 ghost use Rattle.shop_tree.specs.inner.StateWalkers.{StandsAt};
 ghost use Rattle.shop_tree.specs.inner.Walkers.{gone_on, HasBranched, HasExpanded, IsInOrder};
 
+use crate::branchings::Branching;
 use crate::closed_children::{put_rest, set_rest_below};
 use crate::walkers::Walker;
 use shop_model::{SharedWord, Word};
@@ -196,15 +197,16 @@ impl<'l, 'a, D: Dispatching<S>, S: Drop> Walker<'l, 'a, D, S> {
         let (below, depth) = (self.stack.len(), self.path.len());
         self.stripped = self.stripped.min(below);
         put_rest(&mut self.stack, depth, closed)?;
-        let all = self.states.try_candidates(
-            alloc,
-            &mut self.stack,
-            self.candidates.as_slice(),
-            closed,
-            self.path.as_slice(),
+        let branching = Branching {
+            word: self.path.as_slice(),
             bound,
-            self.progress.best,
-        )?;
+            limit: self.progress.best,
+            candidates: self.candidates.as_slice(),
+            closed,
+        };
+        let all = self
+            .states
+            .try_candidates(alloc, &mut self.stack, &branching)?;
         set_rest_below(&mut self.stack, below, depth, closed, all)
     }
 

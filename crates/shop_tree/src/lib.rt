@@ -1,6 +1,7 @@
 // Searches a piece by branch and bound: a depth-first walk over states of words.
 #![tactic(auto)]
 
+mod branchings;
 mod closed_children;
 mod expanding;
 mod held;

@@ -6,36 +6,35 @@ ghost use Rattle.shop_nodes.specs.Branching.{conflict};
 ghost use Rattle.shop_tree.specs.inner.Slots.{HoldSlots};
 ghost use Rattle.shop_tree.specs.inner.Tried.{HasGiven, HasPutChildren};
 
+use crate::branchings::Branching;
 use crate::held::Held;
 use crate::open_children::{bare_top, put};
 use crate::walk_states::WalkStates;
 use shop_nodes::Open;
-use shop_states::{Candidate, Dispatching};
+use shop_states::Dispatching;
 use std::alloc::{AllocError as NoMemory, Global};
 
 impl<'l, D: Dispatching<S>, S: Drop> WalkStates<'l, D, S> {
     /// Gives the child on top of the stack a state, if the child lies from index `from` on and has none, and another
     /// state can take the place of the current one: dispatches its job in the current state, which the walk no longer
-    /// needs. `bound` is the bound of the current word; the child's bound is below `limit`. Fails with `NoMemory` if
-    /// memory runs out.
+    /// needs. The child is one of `branching`, with a bound below its limit. Fails with `NoMemory` if memory runs out.
     fn give_current(
         &mut self,
         alloc: Global,
         stack: &mut Vec<Held<S>>,
         from: usize,
-        candidates: &[Candidate],
-        bound: u64,
-        limit: u64,
+        branching: &Branching<'_>,
     ) -> Result<(), NoMemory>
         requires sound { HoldSlots D.IsSlot D.IsScratch self.old }
         requires can { All (λ c. CanDispatch (D.shop self.old.dispatcher.now)
             (λ w. D.IsStateOf self.old.dispatcher.now w self.old.current.value
             × D.IsCandidate self.old.dispatcher.now w c
-            × D.KnowsChild self.old.dispatcher.now self.old.scratch w c.job) c.job bound) candidates.now }
+            × D.KnowsChild self.old.dispatcher.now self.old.scratch w c.job)
+            c.job branching.now.bound) branching.now.candidates.now }
         ensures sound { OnOk result (HoldSlots D.IsSlot D.IsScratch self.new) }
         ensures given { OnOk result ((w : List ℕ)
             → D.IsStateOf self.old.dispatcher.now w self.old.current.value
-            → All (D.IsCandidate self.old.dispatcher.now w) candidates.now
+            → All (D.IsCandidate self.old.dispatcher.now w) branching.now.candidates.now
             → HasGiven (D.IsStateOf self.old.dispatcher.now) w from stack.old.items stack.new.items) }
         ensures dispatcher { self.new.dispatcher.now ≡ self.old.dispatcher.now }
     {
@@ -45,7 +44,8 @@ impl<'l, D: Dispatching<S>, S: Drop> WalkStates<'l, D, S> {
         let Some(child) = bare_top(stack, from) else {
             return Ok(());
         };
-        if !self.advance_to(child.job, candidates, bound, limit) {
+        let candidates = branching.candidates;
+        if !self.advance_to(child.job, candidates, branching.bound, branching.limit) {
             return Ok(());
         }
         let top = stack.len() - 1;
@@ -53,41 +53,47 @@ impl<'l, D: Dispatching<S>, S: Drop> WalkStates<'l, D, S> {
         Ok(())
     }
 
-    /// Does what `try_candidates` does, after `bound_children` answered `top`. A child is settled if `bound` or its own
-    /// number reaches `top`: the greater of the two is then its bound, as a trial would find. A settled child goes on
-    /// the stack without a trial and without a state. Only the child that ends on top, which is walked next, gets a
-    /// state, by a dispatch in the current one; if another settled child's turn comes, its state is filled from its
-    /// word. The children that aren't settled are tried in copies, since the current state is needed to the end. Fails
-    /// with `NoMemory` if memory runs out.
+    /// Does what `try_candidates` does, after `bound_children` answered `top`. A child is settled if the bound of
+    /// `branching` or its own number reaches `top`: the greater of the two is then its bound, as a trial would find. A
+    /// settled child goes on the stack without a trial and without a state. Only the child that ends on top, which is
+    /// walked next, gets a state, by a dispatch in the current one; if another settled child's turn comes, its state is
+    /// filled from its word. The children that aren't settled are tried in copies, since the current state is needed to
+    /// the end. Fails with `NoMemory` if memory runs out.
     #[inline(never)]
     pub(crate) fn settle_candidates(
         &mut self,
         alloc: Global,
         stack: &mut Vec<Held<S>>,
-        candidates: &[Candidate],
-        closed: usize,
-        word: &[u16],
-        bound: u64,
-        limit: u64,
+        branching: &Branching<'_>,
         top: u64,
     ) -> Result<usize, NoMemory>
         requires sound { HoldSlots D.IsSlot D.IsScratch self.old }
-        requires state { D.IsStateOf self.old.dispatcher.now word.now self.old.current.value }
-        requires bound { bound ≡ lb (D.shop self.old.dispatcher.now) word.now }
-        requires listed { ListsBelow (D.shop self.old.dispatcher.now) word.now limit
-            (D.IsCandidate self.old.dispatcher.now word.now)
-            (conflict (D.shop self.old.dispatcher.now) word.now) candidates.now closed }
-        requires settled { Settles (D.shop self.old.dispatcher.now) word.now bound top
-            candidates.now }
-        requires known { All
-            (λ c. D.KnowsChild self.old.dispatcher.now self.old.scratch word.now c.job)
-            candidates.now }
+        requires state { D.IsStateOf self.old.dispatcher.now branching.now.word.now
+            self.old.current.value }
+        requires bound { branching.now.bound
+            ≡ lb (D.shop self.old.dispatcher.now) branching.now.word.now }
+        requires listed { ListsBelow (D.shop self.old.dispatcher.now) branching.now.word.now
+            branching.now.limit (D.IsCandidate self.old.dispatcher.now branching.now.word.now)
+            (conflict (D.shop self.old.dispatcher.now) branching.now.word.now)
+            branching.now.candidates.now branching.now.closed }
+        requires settled { Settles (D.shop self.old.dispatcher.now) branching.now.word.now
+            branching.now.bound top branching.now.candidates.now }
+        requires known { All (λ c. D.KnowsChild self.old.dispatcher.now self.old.scratch
+            branching.now.word.now c.job) branching.now.candidates.now }
         ensures sound { OnOk result (HoldSlots D.IsSlot D.IsScratch self.new) }
         ensures children { IfOk result (λ n. HasPutChildren (D.IsStateOf self.old.dispatcher.now)
-            (D.shop self.old.dispatcher.now) limit word.now stack.old.items stack.new.items n) }
-        ensures more { IfOk result (λ n. closed ≤ n) }
+            (D.shop self.old.dispatcher.now) branching.now.limit branching.now.word.now
+            stack.old.items stack.new.items n) }
+        ensures more { IfOk result (λ n. branching.now.closed ≤ n) }
         ensures dispatcher { self.new.dispatcher.now ≡ self.old.dispatcher.now }
     {
+        let Branching {
+            word,
+            bound,
+            limit,
+            candidates,
+            closed,
+        } = *branching;
         let (from, depth) = (stack.len(), word.len() as u32);
         let mut others = closed;
         // The last job first, as in `try_candidates`.
@@ -114,7 +120,7 @@ impl<'l, D: Dispatching<S>, S: Drop> WalkStates<'l, D, S> {
             };
             self.put_tried(alloc, stack, from, Open { depth, job, bound })?;
         }
-        self.give_current(alloc, stack, from, candidates, bound, limit)?;
+        self.give_current(alloc, stack, from, branching)?;
         Ok(others)
     }
 }

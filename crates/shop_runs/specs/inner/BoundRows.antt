@@ -4,22 +4,21 @@
 --     IsFirstFrom stacks n first    no stack from the n-th place up to the first, which has one or
 --                                   is the end
 --     TakesTop word before after    the top word is taken from the stack at a place, if there is one
-use Rattle.std.specs.Prelude.{◌≡◌, ℕ, ◌<◌, ◌≤◌, List, [], ◌∷◌, Option, Some, None, IsSome, length, take, drop}
-use Rattle.std.specs.Prelude.{slice_index_or}
-use Rattle.shop_runs.specs.declared.stacks.Stack.{Stack}
-use Rattle.shop_runs.specs.inner.Stacks.{words_left, nodes_in_row}
+use Rattle.std.specs.Prelude.{◌≡◌, ℕ, ◌<◌, ◌≤◌, List, [], ◌∷◌, Option, Some, None, IsSome}
+use Rattle.std.specs.Prelude.{length, take, drop, slice_index_or}
+use Rattle.shop_runs.specs.inner.Stacks.{Place, words_at, nodes_in_row}
 
-abbrev pub AreEmptyBelow : ℕ → List (Option Stack) → Type 0
+abbrev pub AreEmptyBelow : ℕ → List Place → Type 0
 AreEmptyBelow n stacks = (n ≤ length stacks) × (nodes_in_row 0 (take n stacks) ≡ [])
 
-abbrev pub StaysEmpty : List (Option Stack) → List (Option Stack) → Type 0
+abbrev pub StaysEmpty : List Place → List Place → Type 0
 StaysEmpty before after = (n : ℕ) → AreEmptyBelow n before → AreEmptyBelow n after
 
-abbrev pub IsFirstFrom : List (Option Stack) → ℕ → ℕ → Type 0
+abbrev pub IsFirstFrom : List Place → ℕ → ℕ → Type 0
 IsFirstFrom stacks n first = (n ≤ first) × (first ≤ length stacks)
     × (nodes_in_row n (drop n stacks) ≡ nodes_in_row first (drop first stacks))
     × (first < length stacks → IsSome (slice_index_or stacks first None))
 
-abbrev pub TakesTop : Option (List ℕ) → Option Stack → Option Stack → Type 0
+abbrev pub TakesTop : Option (List ℕ) → Place → Place → Type 0
 TakesTop None before after = (before ≡ None) × (after ≡ None)
-TakesTop (Some word) before after = words_left before ≡ word ∷ words_left after
+TakesTop (Some word) before after = words_at before ≡ word ∷ words_at after

@@ -3,6 +3,8 @@
 --     words_in_rest block             those of a block, if there is one
 --     words_on stack                  the words of a stack, from its top down
 --     words_left stack                those of a stack, if there is one
+--     Place                           a place of a row: the stack of a bound, if there is one
+--     words_at place                  the words of this stack
 --     nodes_of_bound bound words      nodes of these words, of one bound
 --     nodes_by_bound entries          the nodes of stacks by bound, in order
 --     nodes_in_row bound stacks       the nodes of a row of stacks, the first one of this bound
@@ -10,10 +12,12 @@
 --     put_all_before order ns nodes   each node of ns before those that the order has behind it,
 --                                     the last one put first
 --     IsNextOf node before after      the first node is taken from the list, if there is one
---     IsTopIfAny word before after    the first word is taken from the list, or nothing is
-use Rattle.std.specs.Prelude.{◌≡◌, ℕ, suc, Option, Some, None, List, [], ◌∷◌, ◌++◌}
-use Rattle.std.specs.Prelude.{map, flat_map, reverse}
+--     IsTopIfMore word before after   the first word is taken from the list, or nothing is, as there is
+--                                     at most one word
+use Rattle.std.specs.Prelude.{◌≡◌, ℕ, suc, ◌≤◌, Option, Some, None, List, [], ◌∷◌, ◌++◌}
+use Rattle.std.specs.Prelude.{map, flat_map, reverse, length}
 use Rattle.std.specs.BTreeMap.{BTreeMap}
+use Rattle.std.specs.Global.{Box}
 use Rattle.shop_nodes.specs.Branching.{insert_by}
 use Rattle.shop_nodes.specs.declared.nodes.Node.{Node}
 use Rattle.shop_runs.specs.declared.stacks.Chunk.{Chunk}
@@ -36,6 +40,13 @@ abbrev pub words_left : Option Stack → List (List ℕ)
 words_left None = []
 words_left (Some s) = words_on s
 
+abbrev pub Place : Type 0
+Place = Option (Box Stack)
+
+abbrev pub words_at : Place → List (List ℕ)
+words_at None = []
+words_at (Some b) = words_on b.value
+
 abbrev pub nodes_of_bound : ℕ → List (List ℕ) → List Node
 nodes_of_bound bound words = map (λ w. record { word = w; bound = bound }) words
 
@@ -43,10 +54,10 @@ abbrev pub nodes_by_bound : List (ℕ × Stack) → List Node
 nodes_by_bound [] = []
 nodes_by_bound (e ∷ es) = nodes_of_bound e.0 (words_on e.1) ++ nodes_by_bound es
 
-abbrev pub nodes_in_row : ℕ → List (Option Stack) → List Node
+abbrev pub nodes_in_row : ℕ → List Place → List Node
 nodes_in_row bound [] = []
 nodes_in_row bound (s ∷ stacks) =
-    nodes_of_bound bound (words_left s) ++ nodes_in_row (suc bound) stacks
+    nodes_of_bound bound (words_at s) ++ nodes_in_row (suc bound) stacks
 
 abbrev pub nodes_in_stacks : BTreeMap ℕ Stack → List Node
 nodes_in_stacks stacks = nodes_by_bound stacks.entries
@@ -63,9 +74,9 @@ abbrev pub IsNextOf : Option Node → List Node → List Node → Type 0
 IsNextOf None before after = (before ≡ []) × (after ≡ [])
 IsNextOf (Some node) before after = before ≡ node ∷ after
 
-abbrev pub IsTopIfAny : Option (List ℕ) → List (List ℕ) → List (List ℕ) → Type 0
-IsTopIfAny None before after = after ≡ before
-IsTopIfAny (Some word) before after = before ≡ word ∷ after
+abbrev pub IsTopIfMore : Option (List ℕ) → List (List ℕ) → List (List ℕ) → Type 0
+IsTopIfMore None before after = (after ≡ before) × (length before ≤ 1)
+IsTopIfMore (Some word) before after = before ≡ word ∷ after
 
 -- of stacks by bound: a node is put, one is taken, those below a makespan are kept
 abbrev pub IsPutByBound : Node → BTreeMap ℕ Stack → BTreeMap ℕ Stack → Type 0

@@ -13,7 +13,8 @@
 --                                    n closed children at place i, below some kids, become m
 --     AreStates slot is_scratch ..   what the states of a walk hold is room for states, and what a
 --                                    dispatch needs
-use Rattle.std.specs.Prelude.{◌≡◌, ℕ, zero, suc, [], ◌∷◌, ◌++◌, Option, Some, None, List, length, map, All}
+use Rattle.std.specs.Prelude.{◌≡◌, ℕ, zero, suc, [], ◌∷◌, ◌++◌, Option, Some, None, List}
+use Rattle.std.specs.Prelude.{length, map, All}
 use Rattle.std.specs.Global.{Box}
 use Rattle.shop_nodes.specs.declared.halts.Open.{Open}
 use Rattle.shop_nodes.specs.declared.halts.Waiting.{Waiting}

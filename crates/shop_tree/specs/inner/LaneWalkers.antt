@@ -5,7 +5,8 @@
 use Rattle.std.specs.Prelude.{◌≡◌}
 use Rattle.shop_model.specs.Shop.{Shop}
 use Rattle.shop_tree.specs.declared.lane_walkers.LaneWalker.{LaneWalker}
-use Rattle.shop_tree.specs.declared.lane_walkers.LaneWalker.TheVariants.{In16By2, In16By3, In16, In32, In64}
+use Rattle.shop_tree.specs.declared.lane_walkers.LaneWalker.TheVariants.{In16By2, In16By3, In16}
+use Rattle.shop_tree.specs.declared.lane_walkers.LaneWalker.TheVariants.{In32, In64}
 use Rattle.shop_tree.specs.inner.StateWalkers.{HasStates}
 
 abbrev pub shop_walked : LaneWalker → Shop

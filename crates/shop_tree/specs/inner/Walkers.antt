@@ -17,7 +17,8 @@
 --                                  before, and there is less to do
 --     HasWalked s t whole          all that is left of this walk waits: nothing, unless the budget
 --                                  has ended
-use Rattle.std.specs.Prelude.{◌≡◌, ℕ, ◌+◌, ◌-◌, ◌*◌, ◌≤◌, ◌<◌, List, [], ◌∷◌, ◌++◌, length, drop, fold}
+use Rattle.std.specs.Prelude.{◌≡◌, ℕ, ◌+◌, ◌-◌, ◌*◌, ◌≤◌, ◌<◌, List, [], ◌∷◌, ◌++◌}
+use Rattle.std.specs.Prelude.{length, drop, fold}
 use Rattle.shop_model.specs.Shop.{Shop}
 use Rattle.shop_tree.specs.inner.Opens.{AreWaiting}
 use Rattle.shop_tree.specs.inner.Searching.{walk_stack, Adds, entered}

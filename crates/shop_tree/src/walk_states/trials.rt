@@ -8,6 +8,7 @@ ghost use Rattle.shop_tree.specs.inner.Slots.{HoldSlots};
 ghost use Rattle.shop_tree.specs.inner.Tried.{AreSlotsFrom, HasMadeRoom, HasPutChildren, HasPutTried};
 
 use super::WalkStates;
+use crate::branchings::Branching;
 use crate::held::Held;
 use crate::open_children::{put, strip_top};
 use shop_nodes::Open;
@@ -185,7 +186,8 @@ impl<'l, D: Dispatching<S>, S: Drop> WalkStates<'l, D, S> {
     }
 
     /// Puts `child`, whose state is the trial's, among its siblings on the stack, which lie from index `from` on. The
-    /// child stays without a state if no other one can take the trial's place. Fails with `NoMemory` if memory runs out.
+    /// child stays without a state if no other one can take the trial's place. Fails with `NoMemory` if memory runs
+    /// out.
     #[inline(always)]
     pub(crate) fn put_tried(
         &mut self,
@@ -209,36 +211,44 @@ impl<'l, D: Dispatching<S>, S: Drop> WalkStates<'l, D, S> {
         put(stack, from, child, state)
     }
 
-    /// Tries each of `candidates`, and puts the children of `word` with bounds below `limit` on the stack: by bound,
-    /// then by job, the first on top, each with its state while there is room. Answers how many children are closed:
-    /// those tried in vain, and `closed` others without a listed candidate. Where the dispatcher bounds all children at
-    /// once, `settle_candidates` goes on in place of the trials. Fails with `NoMemory` if memory runs out.
+    /// Tries each candidate of `branching`, and puts the children of its word with bounds below its limit on the stack:
+    /// by bound, then by job, the first on top, each with its state while there is room. Answers how many children are
+    /// closed: those tried in vain, and the others without a listed candidate. Where the dispatcher bounds all children
+    /// at once, `settle_candidates` goes on in place of the trials. Fails with `NoMemory` if memory runs out.
+    #[inline(always)]
     pub(crate) fn try_candidates(
         &mut self,
         alloc: Global,
         stack: &mut Vec<Held<S>>,
-        candidates: &[Candidate],
-        closed: usize,
-        word: &[u16],
-        bound: u64,
-        limit: u64,
+        branching: &Branching<'_>,
     ) -> Result<usize, NoMemory>
         requires sound { HoldSlots D.IsSlot D.IsScratch self.old }
-        requires state { D.IsStateOf self.old.dispatcher.now word.now self.old.current.value }
-        requires bound { bound ≡ lb (D.shop self.old.dispatcher.now) word.now }
-        requires listed { ListsBelow (D.shop self.old.dispatcher.now) word.now limit
-            (D.IsCandidate self.old.dispatcher.now word.now)
-            (conflict (D.shop self.old.dispatcher.now) word.now) candidates.now closed }
+        requires state { D.IsStateOf self.old.dispatcher.now branching.now.word.now
+            self.old.current.value }
+        requires bound { branching.now.bound
+            ≡ lb (D.shop self.old.dispatcher.now) branching.now.word.now }
+        requires listed { ListsBelow (D.shop self.old.dispatcher.now) branching.now.word.now
+            branching.now.limit (D.IsCandidate self.old.dispatcher.now branching.now.word.now)
+            (conflict (D.shop self.old.dispatcher.now) branching.now.word.now)
+            branching.now.candidates.now branching.now.closed }
         ensures sound { OnOk result (HoldSlots D.IsSlot D.IsScratch self.new) }
         ensures children { IfOk result (λ n. HasPutChildren (D.IsStateOf self.old.dispatcher.now)
-            (D.shop self.old.dispatcher.now) limit word.now stack.old.items stack.new.items n) }
-        ensures more { IfOk result (λ n. closed ≤ n) }
+            (D.shop self.old.dispatcher.now) branching.now.limit branching.now.word.now
+            stack.old.items stack.new.items n) }
+        ensures more { IfOk result (λ n. branching.now.closed ≤ n) }
         ensures dispatcher { self.new.dispatcher.now ≡ self.old.dispatcher.now }
     {
+        let Branching {
+            word,
+            bound,
+            limit,
+            candidates,
+            closed,
+        } = *branching;
         if let Some(top) = self.bound_children(candidates, bound) {
-            return self.settle_candidates(
-                alloc, stack, candidates, closed, word, bound, limit, top,
-            );
+            // A record of its own: the caller's is then never written to memory.
+            let branching = *branching;
+            return self.settle_candidates(alloc, stack, &branching, top);
         }
         let (from, depth) = (stack.len(), word.len() as u32);
         let mut others = closed;

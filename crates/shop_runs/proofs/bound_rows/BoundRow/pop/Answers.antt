@@ -1,7 +1,7 @@
 use Rattle.std.proofs.Common.{rules, arith, ◌+◌, ◌≡◌, ◌∷◌, Some, ◌∙◌, ap, sym, subst}
 use Rattle.std.specs.Prelude.{slice_index_or, slice_set}
 use Rattle.shop_runs.specs.inner.BoundRows.{AreEmptyBelow, TakesTop}
-use Rattle.shop_runs.specs.inner.Stacks.{words_left, nodes_in_row}
+use Rattle.shop_runs.specs.inner.Stacks.{words_at, nodes_in_row}
 use Rattle.shop_runs.proofs.BoundRowLemmas.{none_left, now_empty, still_empty, take_at}
 use Rattle.shop_runs.proofs.bound_rows.BoundRow.pop.Goals as goal
 
@@ -32,8 +32,8 @@ returns c =
     in let word = c.in_ok-word.word
     in let there : slice_index_or os first now ≡ now = search rules
     in let was : c.pop_at.result ≡ Some word = search rules
-    in let taken : words_left now ≡ word ∷ words_left left = subst (λ r. TakesTop r now left) was c.pop_at.ensures
+    in let taken : words_at now ≡ word ∷ words_at left = subst (λ r. TakesTop r now left) was c.pop_at.ensures
     in let same : 0 + first ≡ first = omega arith
     in rw c.of_shared-word.ensures (sym c.self.view_is
-    ∙ (take_at 0 first os word left now (search rules) at.1 (ap words_left there ∙ taken)
+    ∙ (take_at 0 first os word left now (search rules) at.1 (ap words_at there ∙ taken)
     ∙ ap (λ b. record { word = word; bound = b } ∷ nodes_in_row 0 (slice_set os first left)) same))

@@ -4,7 +4,7 @@ use Rattle.std.proofs.lemmas.Result.{on_ok_weaker}
 use Rattle.shop_nodes.specs.Branching.{insert_by}
 use Rattle.shop_nodes.specs.declared.nodes.Node.{Node}
 use Rattle.shop_runs.specs.inner.BoundRows.{AreEmptyBelow}
-use Rattle.shop_runs.specs.inner.Stacks.{words_left, nodes_in_row}
+use Rattle.shop_runs.specs.inner.Stacks.{words_at, nodes_in_row}
 use Rattle.shop_runs.proofs.BoundRowLemmas.{lower_empty, still_empty, put_at}
 use Rattle.shop_runs.proofs.bound_rows.BoundRow.put.Goals as goal
 
@@ -33,8 +33,8 @@ returns c =
     in let there : slice_index_or os bound now ≡ now = search rules
     in let same : 0 + bound ≡ bound = omega arith
     in on_ok_weaker c.push_at.result (λ pushed.
-    let top : words_left o ≡ word ∷ words_left (slice_index_or os bound now) =
-    pushed ∙ ap (λ x. word ∷ words_left x) (sym there)
+    let top : words_at o ≡ word ∷ words_at (slice_index_or os bound now) =
+    pushed ∙ ap (λ x. word ∷ words_at x) (sym there)
     in put_at 0 bound os word o now (search rules) top
     ∙ (ap (λ b. insert_by (λ (n : Node). n.bound) (record { word = word; bound = b }) (nodes_in_row 0 os)) same
     ∙ ((λ i. insert_by (λ (n : Node). n.bound)

@@ -17,9 +17,9 @@ use Rattle.shop_tree.proofs.walk_states.WalkStates.settle_candidates.Goals as go
 pub overflow_cast-depth : goal.overflow_cast-depth
 overflow_cast-depth g c =
     let d = c.args.self.now.dispatcher.now
-    in let a = word_length (g.D.Dispatching.shop d) c.args.word.now
-    (g.met.D.Dispatching.state_is_within_limits d c.args.word.now _ c.requires.state)
-    (g.met.D.Dispatching.state_is_of_word d c.args.word.now _ c.requires.state)
+    in let a = word_length (g.D.Dispatching.shop d) c.args.branching.now.word.now
+    (g.met.D.Dispatching.state_is_within_limits d c.args.branching.now.word.now _ c.requires.state)
+    (g.met.D.Dispatching.state_is_of_word d c.args.branching.now.word.now _ c.requires.state)
     in omega arith
 
 pub loop-index-init : goal.loop-index-init
@@ -40,8 +40,8 @@ overflow_add-others g c =
     let d = c.loop-index.self.dispatcher.now
     in let now = c.loop-index.invariant
     in let a = now.trying.few
-    in let limits = g.met.D.Dispatching.state_is_within_limits d c.args.word.now _ now.state
-    in let b = conflict_few (g.D.Dispatching.shop d) c.args.word.now in let e = limits.jobs
+    in let limits = g.met.D.Dispatching.state_is_within_limits d c.args.branching.now.word.now _ now.state
+    in let b = conflict_few (g.D.Dispatching.shop d) c.args.branching.now.word.now in let e = limits.jobs
     in let some = c.loop-index-test.true in omega arith
 
 pub overflow_add-others-in_default : goal.overflow_add-others-in_default
@@ -49,8 +49,8 @@ overflow_add-others-in_default g c =
     let d = c.loop-index.self.dispatcher.now
     in let now = c.loop-index.invariant
     in let a = now.trying.few
-    in let limits = g.met.D.Dispatching.state_is_within_limits d c.args.word.now _ now.state
-    in let b = conflict_few (g.D.Dispatching.shop d) c.args.word.now in let e = limits.jobs
+    in let limits = g.met.D.Dispatching.state_is_within_limits d c.args.branching.now.word.now _ now.state
+    in let b = conflict_few (g.D.Dispatching.shop d) c.args.branching.now.word.now in let e = limits.jobs
     in let some = c.loop-index-test.true in omega arith
 
 pub loop-index-preserved-in_ok-put : goal.loop-index-preserved-in_ok-put
@@ -59,19 +59,20 @@ loop-index-preserved-in_ok-put g c =
     in let d = c.loop-index.self.dispatcher.now
     in let is = g.D.Dispatching.IsStateOf d
     in let shop = g.D.Dispatching.shop d
-    in let word = c.args.word.now
-    in let cs = c.args.candidates.now
+    in let at = c.args.branching.now
+    in let word = at.word.now
+    in let cs = at.candidates.now
     in let i = c.loop-index.index
     in let some : 0 < i = (let a = c.loop-index-test.true in omega arith)
     in let none : Candidate = record { job = 0; own = 0 }
     in let job = (get_or cs (i - 1) none).job
     in let b = c.max-settled.result
-    in let settles = subst (λ x. Settles (g.D.Dispatching.shop x) word c.args.bound c.args.top cs) (sym now.same)
+    in let settles = subst (λ x. Settles (g.D.Dispatching.shop x) word at.bound c.args.top cs) (sym now.same)
     c.requires.settled
     in let within : i - 1 < length cs = (let a = now.trying.within in omega arith)
-    in let told = settled_bound shop word c.args.bound c.args.top cs settles (i - 1) none within b c.max-settled.ensures
+    in let told = settled_bound shop word at.bound c.args.top cs settles (i - 1) none within b c.max-settled.ensures
     c.if-top-settled.true
-    in let child = settled_child is shop word c.args.limit job b told c.if-settled-limit.true
+    in let child = settled_child is shop word at.limit job b told c.if-settled-limit.true
     in let e : c.len-from.result ≡ length c.args.stack.now.items =
     (let a = c.len-from.ensures in let k = c.args.stack.now.ok.0 in omega arith)
     in let put = c.in_ok-put.ensures c.args.stack.now.items now.kids e now.stack
@@ -94,19 +95,20 @@ loop-index-preserved-else-settled-limit g c =
     let now = c.loop-index.invariant
     in let d = c.loop-index.self.dispatcher.now
     in let shop = g.D.Dispatching.shop d
-    in let word = c.args.word.now
-    in let cs = c.args.candidates.now
+    in let at = c.args.branching.now
+    in let word = at.word.now
+    in let cs = at.candidates.now
     in let i = c.loop-index.index
     in let some : 0 < i = (let a = c.loop-index-test.true in omega arith)
     in let none : Candidate = record { job = 0; own = 0 }
     in let job = (get_or cs (i - 1) none).job
     in let b = c.max-settled.result
-    in let settles = subst (λ x. Settles (g.D.Dispatching.shop x) word c.args.bound c.args.top cs) (sym now.same)
+    in let settles = subst (λ x. Settles (g.D.Dispatching.shop x) word at.bound c.args.top cs) (sym now.same)
     c.requires.settled
     in let within : i - 1 < length cs = (let a = now.trying.within in omega arith)
-    in let told = settled_bound shop word c.args.bound c.args.top cs settles (i - 1) none within b c.max-settled.ensures
+    in let told = settled_bound shop word at.bound c.args.top cs settles (i - 1) none within b c.max-settled.ensures
     c.if-top-settled.true
-    in let high : c.args.limit ≤ lb shop (word ++ job ∷ []) = (let a = c.if-settled-limit.false in omega arith)
+    in let high : at.limit ≤ lb shop (word ++ job ∷ []) = (let a = c.if-settled-limit.false in omega arith)
     in record {
       kids = now.kids;
       stack = now.stack;
@@ -122,11 +124,11 @@ loop-index-preserved-else-settled-limit g c =
 pub try_child-requires-clause-can : goal.try_child-requires-clause-can
 try_child-requires-clause-can g c =
     let now = c.loop-index.invariant
-    in let word = c.args.word.now
+    in let word = c.args.branching.now.word.now
     in let i = c.loop-index.index
     in let some : 0 < i = (let a = c.loop-index-test.true in omega arith)
     in let none : Candidate = record { job = 0; own = 0 }
-    in let within : i - 1 < length c.args.candidates.now = (let a = now.trying.within in omega arith)
+    in let within : i - 1 < length c.args.branching.now.candidates.now = (let a = now.trying.within in omega arith)
     in record {
       word = word;
       is = (now.state, next_own some now.trying, now.known (i - 1) none within);
@@ -139,12 +141,13 @@ pub loop-index-preserved-in_default : goal.loop-index-preserved-in_default
 loop-index-preserved-in_default g c =
     let now = c.loop-index.invariant
     in let d = c.loop-index.self.dispatcher.now
-    in let word = c.args.word.now
-    in let cs = c.args.candidates.now
+    in let at = c.args.branching.now
+    in let word = at.word.now
+    in let cs = at.candidates.now
     in let i = c.loop-index.index
     in let some : 0 < i = (let a = c.loop-index-test.true in omega arith)
     in let job = (get_or cs (i - 1) (record { job = 0; own = 0 })).job
-    in let high = told_high c.args.limit (lb (g.D.Dispatching.shop d) (word ++ job ∷ [])) c.try_child.result
+    in let high = told_high at.limit (lb (g.D.Dispatching.shop d) (word ++ job ∷ [])) c.try_child.result
     c.in_default.is (c.try_child.ensures.told word now.state (next_own some now.trying) now.bound)
     in let left = c.try_child.new.self.current.value
     in let same = c.try_child.ensures.dispatcher
@@ -153,7 +156,7 @@ loop-index-preserved-in_default g c =
       kids = now.kids;
       stack = now.stack;
       trying = subst (λ x. IsTrying (g.D.Dispatching.IsStateOf x) (g.D.Dispatching.IsCandidate x word)
-          (g.D.Dispatching.shop x) c.args.limit word cs (i - 1) now.kids (c.loop-index.others + 1) left) (sym same)
+          (g.D.Dispatching.shop x) at.limit word cs (i - 1) now.kids (c.loop-index.others + 1) left) (sym same)
           (turn_counted some now.trying left high (λ more. state));
       state = subst (λ x. g.D.Dispatching.IsStateOf x word left) (sym same) state;
       known = λ k e h. subst (λ x. g.D.Dispatching.KnowsChild x c.try_child.new.self.scratch word (get_or cs k e).job)
@@ -178,7 +181,7 @@ put_tried-requires g c =
       slots = subst (λ x. AreSlotsFrom (g.D.Dispatching.IsSlot x) c.len-from.result stack)
           (sym c.try_child.ensures.dispatcher)
           (are_slots old now.kids c.len-from.result e stack now.stack (g.D.Dispatching.IsStateOf d)
-          c.args.word.now now.trying.states (g.D.Dispatching.IsSlot d)
+          c.args.branching.now.word.now now.trying.states (g.D.Dispatching.IsSlot d)
           (λ w s. g.met.D.Dispatching.state_is_slot d w s));
       from = omega arith;
     }
@@ -187,8 +190,9 @@ pub loop-index-preserved : goal.loop-index-preserved
 loop-index-preserved g c =
     let now = c.loop-index.invariant
     in let d = c.loop-index.self.dispatcher.now
-    in let word = c.args.word.now
-    in let cs = c.args.candidates.now
+    in let at = c.args.branching.now
+    in let word = at.word.now
+    in let cs = at.candidates.now
     in let i = c.loop-index.index
     in let some : 0 < i = (let a = c.loop-index-test.true in omega arith)
     in let e : c.len-from.result ≡ length c.args.stack.now.items =
@@ -205,12 +209,13 @@ loop-index-preserved g c =
       kids = kept.kids;
       stack = kept.stack;
       trying = subst (λ x. IsTrying (g.D.Dispatching.IsStateOf x) (g.D.Dispatching.IsCandidate x word)
-          (g.D.Dispatching.shop x) c.args.limit word cs (i - 1) kept.kids c.loop-index.others left)
+          (g.D.Dispatching.shop x) at.limit word cs (i - 1) kept.kids c.loop-index.others left)
           (sym same) kept.trying;
       state = subst (λ x. g.D.Dispatching.IsStateOf x word left) (sym same) state;
       known = λ k f h. subst (λ x. g.D.Dispatching.KnowsChild x c.put_tried.new.self.scratch word (get_or cs k f).job)
           (sym same) (subst (λ s. g.D.Dispatching.KnowsChild d s word (get_or cs k f).job)
-          (sym c.in_ok-put_tried.ensures.scratch) (c.try_child.ensures.kept word (get_or cs k f).job (now.known k f h)));
+          (sym c.in_ok-put_tried.ensures.scratch)
+          (c.try_child.ensures.kept word (get_or cs k f).job (now.known k f h)));
       bound = now.bound ∙ ap (λ x. lb (g.D.Dispatching.shop x) word) (sym same);
       more = now.more;
       sound = c.in_ok-put_tried.ensures.sound;
@@ -221,10 +226,11 @@ pub give_current-requires-clause-can : goal.give_current-requires-clause-can
 give_current-requires-clause-can g c =
     let now = c.loop-index.invariant
     in let d = c.loop-index.self.dispatcher.now
-    in let word = c.args.word.now
-    in let cs = c.args.candidates.now
-    in let lists = subst (λ x. ListsBelow (g.D.Dispatching.shop x) word c.args.limit (g.D.Dispatching.IsCandidate x word)
-    (conflict (g.D.Dispatching.shop x) word) cs c.args.closed) (sym now.same) c.requires.listed
+    in let at = c.args.branching.now
+    in let word = at.word.now
+    in let cs = at.candidates.now
+    in let lists = subst (λ x. ListsBelow (g.D.Dispatching.shop x) word at.limit (g.D.Dispatching.IsCandidate x word)
+    (conflict (g.D.Dispatching.shop x) word) cs at.closed) (sym now.same) c.requires.listed
     in can_each (λ x w. g.D.Dispatching.IsStateOf d w c.loop-index.self.current.value
     × g.D.Dispatching.IsCandidate d w x × g.D.Dispatching.KnowsChild d c.loop-index.self.scratch w x.job) lists
     (g.met.D.Dispatching.state_is_of_word d word _ now.state) now.bound
@@ -232,21 +238,22 @@ give_current-requires-clause-can g c =
 
 pub returns-clause-children : goal.returns-clause-children
 returns-clause-children g c =
-    let word = c.args.word.now
+    let at = c.args.branching.now
+    in let word = at.word.now
     in let old = c.args.stack.now.items
     in let mid = c.loop-index.stack.items
     in let new = c.give_current.new.stack.items
     in let now = c.loop-index.invariant
     in let d = c.loop-index.self.dispatcher.now
     in let is = g.D.Dispatching.IsStateOf d
-    in let cs = c.args.candidates.now
-    in let lists = subst (λ x. ListsBelow (g.D.Dispatching.shop x) word c.args.limit (g.D.Dispatching.IsCandidate x word)
-    (conflict (g.D.Dispatching.shop x) word) cs c.args.closed) (sym now.same) c.requires.listed
+    in let cs = at.candidates.now
+    in let lists = subst (λ x. ListsBelow (g.D.Dispatching.shop x) word at.limit (g.D.Dispatching.IsCandidate x word)
+    (conflict (g.D.Dispatching.shop x) word) cs at.closed) (sym now.same) c.requires.listed
     in let e : c.len-from.result ≡ length old =
     (let a = c.len-from.ensures in let b = c.args.stack.now.ok.0 in omega arith)
     in let put = all_tried c.loop-index.index now.kids c.loop-index.others c.loop-index.self.current.value old mid
     (let a = c.loop-index-test.false in omega arith) now.stack now.trying
-    in subst (λ x. HasPutChildren (g.D.Dispatching.IsStateOf x) (g.D.Dispatching.shop x) c.args.limit word old new
+    in subst (λ x. HasPutChildren (g.D.Dispatching.IsStateOf x) (g.D.Dispatching.shop x) at.limit word old new
     c.loop-index.others) now.same
-    (put_given is (g.D.Dispatching.shop d) c.args.limit word old mid new c.loop-index.others c.len-from.result e put
+    (put_given is (g.D.Dispatching.shop d) at.limit word old mid new c.loop-index.others c.len-from.result e put
     (c.in_ok-give_current.ensures.given word now.state (own_each lists)))

@@ -13,35 +13,36 @@ use Rattle.shop_tree.proofs.walk_states.WalkStates.try_candidates.Goals as goal
 pub overflow_cast-depth : goal.overflow_cast-depth
 overflow_cast-depth g c =
     let d = c.args.self.now.dispatcher.now
-    in let a = word_length (g.D.Dispatching.shop d) c.args.word.now
-    (g.met.D.Dispatching.state_is_within_limits d c.args.word.now _ c.requires.state)
-    (g.met.D.Dispatching.state_is_of_word d c.args.word.now _ c.requires.state)
+    in let a = word_length (g.D.Dispatching.shop d) c.args.branching.now.word.now
+    (g.met.D.Dispatching.state_is_within_limits d c.args.branching.now.word.now _ c.requires.state)
+    (g.met.D.Dispatching.state_is_of_word d c.args.branching.now.word.now _ c.requires.state)
     in omega arith
 
 pub settle_candidates-requires-clause-settled : goal.settle_candidates-requires-clause-settled
 settle_candidates-requires-clause-settled g c =
-    subst (λ x. Settles (g.D.Dispatching.shop x) c.args.word.now c.args.bound c.in-Some.top c.args.candidates.now)
+    let at = c.args.branching.now
+    in subst (λ x. Settles (g.D.Dispatching.shop x) at.word.now at.bound c.in-Some.top at.candidates.now)
     (sym c.bound_children.ensures.dispatcher)
-    (c.in-Some.ensures.settled c.args.word.now c.args.limit c.args.closed c.requires.state c.requires.bound
-    c.requires.listed)
+    (c.in-Some.ensures.settled at.word.now at.limit at.closed c.requires.state c.requires.bound c.requires.listed)
 
 pub settle_candidates-requires-clause-known : goal.settle_candidates-requires-clause-known
 settle_candidates-requires-clause-known g c =
-    subst (λ x. All (λ k. g.D.Dispatching.KnowsChild x c.bound_children.new.self.scratch c.args.word.now k.job)
-    c.args.candidates.now) (sym c.bound_children.ensures.dispatcher)
-    (c.in-Some.ensures.known c.args.word.now c.args.limit c.args.closed c.requires.state c.requires.bound
-    c.requires.listed)
+    let at = c.args.branching.now
+    in subst (λ x. All (λ k. g.D.Dispatching.KnowsChild x c.bound_children.new.self.scratch at.word.now k.job)
+    at.candidates.now) (sym c.bound_children.ensures.dispatcher)
+    (c.in-Some.ensures.known at.word.now at.limit at.closed c.requires.state c.requires.bound c.requires.listed)
 
 pub loop-index-init : goal.loop-index-init
 loop-index-init g c =
-    let word = c.args.word.now
+    let at = c.args.branching.now
+    in let word = at.word.now
     in let same = c.bound_children.ensures.dispatcher
     in record {
       kids = [];
       stack = sym (append-nil _);
       trying = subst (λ x. IsTrying (g.D.Dispatching.IsStateOf x) (g.D.Dispatching.IsCandidate x word)
-          (g.D.Dispatching.shop x) c.args.limit word c.args.candidates.now (length c.args.candidates.now) []
-          c.args.closed c.bound_children.new.self.current.value) (sym same)
+          (g.D.Dispatching.shop x) at.limit word at.candidates.now (length at.candidates.now) []
+          at.closed c.bound_children.new.self.current.value) (sym same)
           (trying_begins c.requires.listed
           (subst (λ s. g.D.Dispatching.IsStateOf c.args.self.now.dispatcher.now word s)
           (sym c.bound_children.ensures.current) c.requires.state));
@@ -57,13 +58,14 @@ overflow_add-others g c =
     in let now = c.loop-index.invariant
     in let a = now.trying.few
     in let some : 0 < c.loop-index.index = (let a = c.loop-index-test.true in omega arith)
-    in let limits = g.met.D.Dispatching.state_is_within_limits d c.args.word.now _ (now.trying.wanted some)
-    in let b = conflict_few (g.D.Dispatching.shop d) c.args.word.now in let e = limits.jobs in omega arith
+    in let word = c.args.branching.now.word.now
+    in let limits = g.met.D.Dispatching.state_is_within_limits d word _ (now.trying.wanted some)
+    in let b = conflict_few (g.D.Dispatching.shop d) word in let e = limits.jobs in omega arith
 
 pub try_candidate-requires-clause-can : goal.try_candidate-requires-clause-can
 try_candidate-requires-clause-can g c =
     let now = c.loop-index.invariant
-    in let word = c.args.word.now
+    in let word = c.args.branching.now.word.now
     in let some : 0 < c.loop-index.index = (let a = c.loop-index-test.true in omega arith)
     in let state = now.trying.wanted some
     in record {
@@ -78,13 +80,14 @@ pub loop-index-preserved-in_default-try_candidate : goal.loop-index-preserved-in
 loop-index-preserved-in_default-try_candidate g c =
     let now = c.loop-index.invariant
     in let d = c.loop-index.self.dispatcher.now
-    in let word = c.args.word.now
-    in let cs = c.args.candidates.now
+    in let at = c.args.branching.now
+    in let word = at.word.now
+    in let cs = at.candidates.now
     in let i = c.loop-index.index
     in let some : 0 < i = (let a = c.loop-index-test.true in omega arith)
     in let job = (get_or cs (i - 1) (record { job = 0; own = 0 })).job
     in let state = now.trying.wanted some
-    in let high = told_high c.args.limit (lb (g.D.Dispatching.shop d) (word ++ job ∷ [])) c.try_candidate.result
+    in let high = told_high at.limit (lb (g.D.Dispatching.shop d) (word ++ job ∷ [])) c.try_candidate.result
     c.in_default-try_candidate.is (c.try_candidate.ensures.told word state (next_own some now.trying) now.bound)
     in let left = c.try_candidate.new.self.current.value
     in let same = c.try_candidate.ensures.dispatcher
@@ -92,7 +95,7 @@ loop-index-preserved-in_default-try_candidate g c =
       kids = now.kids;
       stack = now.stack;
       trying = subst (λ x. IsTrying (g.D.Dispatching.IsStateOf x) (g.D.Dispatching.IsCandidate x word)
-          (g.D.Dispatching.shop x) c.args.limit word cs (i - 1) now.kids (c.loop-index.others + 1) left) (sym same)
+          (g.D.Dispatching.shop x) at.limit word cs (i - 1) now.kids (c.loop-index.others + 1) left) (sym same)
           (turn_counted some now.trying left high
           (still_wanted (g.D.Dispatching.IsStateOf d word) i c.try_candidate.ensures.current state));
       bound = now.bound ∙ ap (λ x. lb (g.D.Dispatching.shop x) word) (sym same);
@@ -115,7 +118,7 @@ put_tried-requires g c =
       slots = subst (λ x. AreSlotsFrom (g.D.Dispatching.IsSlot x) c.len-from.result stack)
           (sym c.try_candidate.ensures.dispatcher)
           (are_slots old now.kids c.len-from.result e stack now.stack (g.D.Dispatching.IsStateOf d)
-          c.args.word.now now.trying.states (g.D.Dispatching.IsSlot d)
+          c.args.branching.now.word.now now.trying.states (g.D.Dispatching.IsSlot d)
           (λ w s. g.met.D.Dispatching.state_is_slot d w s));
       from = omega arith;
     }
@@ -125,7 +128,8 @@ loop-index-preserved g c =
     let now = c.loop-index.invariant
     in let d = c.loop-index.self.dispatcher.now
     in let is = g.D.Dispatching.IsStateOf d
-    in let word = c.args.word.now
+    in let at = c.args.branching.now
+    in let word = at.word.now
     in let i = c.loop-index.index
     in let some : 0 < i = (let a = c.loop-index-test.true in omega arith)
     in let state = now.trying.wanted some
@@ -142,7 +146,7 @@ loop-index-preserved g c =
       kids = kept.kids;
       stack = kept.stack;
       trying = subst (λ x. IsTrying (g.D.Dispatching.IsStateOf x) (g.D.Dispatching.IsCandidate x word)
-          (g.D.Dispatching.shop x) c.args.limit word c.args.candidates.now (i - 1) kept.kids
+          (g.D.Dispatching.shop x) at.limit word at.candidates.now (i - 1) kept.kids
           c.loop-index.others left) (sym same) kept.trying;
       bound = now.bound ∙ ap (λ x. lb (g.D.Dispatching.shop x) word) (sym same);
       more = now.more;
@@ -152,11 +156,12 @@ loop-index-preserved g c =
 
 pub returns-clause-children : goal.returns-clause-children
 returns-clause-children g c =
-    let word = c.args.word.now
+    let at = c.args.branching.now
+    in let word = at.word.now
     in let old = c.args.stack.now.items
     in let new = c.loop-index.stack.items
     in let now = c.loop-index.invariant
-    in subst (λ x. HasPutChildren (g.D.Dispatching.IsStateOf x) (g.D.Dispatching.shop x) c.args.limit word old new
+    in subst (λ x. HasPutChildren (g.D.Dispatching.IsStateOf x) (g.D.Dispatching.shop x) at.limit word old new
     c.loop-index.others) now.same
     (all_tried c.loop-index.index now.kids c.loop-index.others c.loop-index.self.current.value old new
     (let a = c.loop-index-test.false in omega arith) now.stack now.trying)

@@ -9,10 +9,11 @@ invariant-loop-index g l = record {
   kids : List (Kept g.row.S.Denot);
   stack : l.stack.items ≡ l.fn.stack.items ++ map held kids;
   trying : IsTrying (g.D.Dispatching.IsStateOf l.self.dispatcher.now)
-      (g.D.Dispatching.IsCandidate l.self.dispatcher.now l.word) (g.D.Dispatching.shop l.self.dispatcher.now)
-      l.limit l.word l.candidates l.index kids l.others l.self.current.value;
-  bound : l.fn.bound ≡ lb (g.D.Dispatching.shop l.self.dispatcher.now) l.word;
-  more : l.fn.closed ≤ l.others;
+      (g.D.Dispatching.IsCandidate l.self.dispatcher.now l.branching.word.now)
+      (g.D.Dispatching.shop l.self.dispatcher.now) l.branching.limit l.branching.word.now
+      l.branching.candidates.now l.index kids l.others l.self.current.value;
+  bound : l.branching.bound ≡ lb (g.D.Dispatching.shop l.self.dispatcher.now) l.branching.word.now;
+  more : l.branching.closed ≤ l.others;
   sound : AreStates (g.D.Dispatching.IsSlot l.self.dispatcher.now) (g.D.Dispatching.IsScratch l.self.dispatcher.now)
       l.self.scratch l.self.current.value l.self.trial.value l.self.spare.items;
   same : l.self.dispatcher.now ≡ l.fn.self.dispatcher.now;

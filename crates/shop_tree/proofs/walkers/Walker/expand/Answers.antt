@@ -40,8 +40,8 @@ returns-then-not-can_go_on-clause-expanded g c =
     let s = stage_of c.args.self.now
     in let new = stage_of c.branch-self.new.self
     in on_ok _ (HasExpanded s new)
-    (λ e. expands_followed (followed_then c.loop-self.invariant.followed (followed_same c.list_candidates-closed.ensures.stage))
-    e)
+    (λ e. expands_followed
+    (followed_then c.loop-self.invariant.followed (followed_same c.list_candidates-closed.ensures.stage)) e)
     c.branch-self.result c.branch-self.ensures.expanded
 
 pub go_on-requires-clause-short : goal.go_on-requires-clause-short
@@ -62,7 +62,8 @@ go_on-requires-clause-at g c =
 
 pub returns-in_default-clause-expanded : goal.returns-in_default-clause-expanded
 returns-in_default-clause-expanded g c =
-    expands_followed (followed_then c.loop-self.invariant.followed (followed_same c.list_candidates-closed.ensures.stage))
+    expands_followed
+    (followed_then c.loop-self.invariant.followed (followed_same c.list_candidates-closed.ensures.stage))
     (ended c.list_candidates-closed.new.self c.go_on.new.self c.in_default.is c.in_ok-next.ensures).0
 
 pub returns-in_default-clause-states : goal.returns-in_default-clause-states

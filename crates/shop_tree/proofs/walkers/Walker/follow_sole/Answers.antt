@@ -27,8 +27,8 @@ take_job-requires-clause-held g c =
     in let e = c.strike.new.self.dispatcher.now
     in held_on (g.D.Dispatching.IsStateOf e) self.progress.instance.now self.progress.best self.path.items
     c.index.result.now.job self.stack.items c.requires.at.in_order
-    (subst (λ x. AreHeld (g.D.Dispatching.IsStateOf x) self.path.items self.stack.items) (sym c.strike.ensures.dispatcher)
-    c.requires.at.states.held)
+    (subst (λ x. AreHeld (g.D.Dispatching.IsStateOf x) self.path.items self.stack.items)
+    (sym c.strike.ensures.dispatcher) c.requires.at.states.held)
 
 pub take_job-requires-clause-state : goal.take_job-requires-clause-state
 take_job-requires-clause-state g c =
@@ -53,8 +53,8 @@ returns g c =
     in omega arith)
     in let keeps : SoleCandidateKeepsBound shop word = subst (λ (x : Shop). SoleCandidateKeepsBound x word)
     self.same_shop (g.met.D.Dispatching.sole_keeps_bound d word self.states.current.value at.state)
-    in let gone = follows_one (stage_of self) job short (ap (λ (x : Shop). conflict x word) (sym self.same_shop) ∙ alone)
-    keeps c.requires.some (let a = at.bound in let b = at.below in omega arith) at.in_order
+    in let gone = follows_one (stage_of self) job short
+    (ap (λ (x : Shop). conflict x word) (sym self.same_shop) ∙ alone) keeps c.requires.some (let a = at.bound in let b = at.below in omega arith) at.in_order
     in reached self c.take_job.new.self c.args.bound
     (subst (λ (t : Stage). HasGone (stage_of self) t c.args.bound) (sym c.take_job.ensures.stage)
     (subst (λ (b : ℕ). HasGone (stage_of self) (gone_on (stage_of self) job) b) (sym at.bound) gone))

@@ -26,5 +26,5 @@ pub returns-clause-state : goal.returns-clause-state
 returns-clause-state g c =
     let self = c.args.self.now
     in same_state g.D.Dispatching self.states.dispatcher.now c.list_candidates.new.self.dispatcher.now self.path.items
-    self.states.current.value c.list_candidates.new.self.current.value c.list_candidates.ensures.dispatcher c.list_candidates.ensures.current
-    c.requires.state
+    self.states.current.value c.list_candidates.new.self.current.value c.list_candidates.ensures.dispatcher
+    c.list_candidates.ensures.current c.requires.state

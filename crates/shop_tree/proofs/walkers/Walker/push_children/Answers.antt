@@ -63,7 +63,7 @@ returns-clause-branched g c =
     in let n = c.in_ok-all.all
     in let kids : AreChildren self.progress.instance.now best word opens n =
     subst (λ (x : Shop). AreChildren x best word opens n) self.same_shop
-    (subst (λ (w : List ℕ). AreChildren (g.D.Dispatching.shop d) best w opens n) c.as_slice-2.ensures.value
+    (subst (λ (w : List ℕ). AreChildren (g.D.Dispatching.shop d) best w opens n) c.as_slice.ensures.value
     put.children)
     in let is : IsWord self.progress.instance.now word = subst (λ (x : Shop). IsWord x word) self.same_shop
     (g.met.D.Dispatching.state_is_of_word d word self.states.current.value c.requires.state)
@@ -99,7 +99,7 @@ returns-clause-states g c =
       held = subst (λ x. AreHeld (g.D.Dispatching.IsStateOf x) word stack)
           (sym c.in_ok-all.ensures.dispatcher)
           (held_branched is word self.stack.items stack put.kids c.len-depth.result n c.requires.states.held
-          (subst (λ (w : List ℕ). All (IsKept is w) put.kids) c.as_slice-2.ensures.value put.states)
+          (subst (λ (w : List ℕ). All (IsKept is w) put.kids) c.as_slice.ensures.value put.states)
           (e self.stack.items (map held put.kids) place before));
       states = c.in_ok-all.ensures.sound;
     }) c.set_rest_below.result c.set_rest_below.ensures

@@ -8,7 +8,8 @@ use Rattle.shop_tree.proofs.walkers.Walker.take_job.Goals as goal
 pub returns-clause-stage : goal.returns-clause-stage
 returns-clause-stage g c =
     let self = c.args.self.now
-    in let went : c.push.new.self.items ≡ self.path.items ++ c.args.job ∷ [] = rw c.unwrap.ensures at c.push.ensures.items
+    in let went : c.push.new.self.items ≡ self.path.items ++ c.args.job ∷ [] =
+    rw c.unwrap.ensures at c.push.ensures.items
     in let at : List ℕ → Stage = λ w. record {
       shop = self.progress.instance.now;
       word = w;
@@ -20,7 +21,8 @@ returns-clause-stage g c =
 pub returns-clause-states : goal.returns-clause-states
 returns-clause-states g c =
     let self = c.args.self.now
-    in let went : c.push.new.self.items ≡ self.path.items ++ c.args.job ∷ [] = rw c.unwrap.ensures at c.push.ensures.items
+    in let went : c.push.new.self.items ≡ self.path.items ++ c.args.job ∷ [] =
+    rw c.unwrap.ensures at c.push.ensures.items
     in record {
       held = subst (λ (w : List ℕ). AreHeld (g.D.Dispatching.IsStateOf self.states.dispatcher.now) w self.stack.items)
           (sym went) c.requires.held;
@@ -30,6 +32,7 @@ returns-clause-states g c =
 pub returns-clause-state : goal.returns-clause-state
 returns-clause-state g c =
     let self = c.args.self.now
-    in let went : c.push.new.self.items ≡ self.path.items ++ c.args.job ∷ [] = rw c.unwrap.ensures at c.push.ensures.items
-    in subst (λ (w : List ℕ). g.D.Dispatching.IsStateOf self.states.dispatcher.now w self.states.current.value) (sym went)
-    c.requires.state
+    in let went : c.push.new.self.items ≡ self.path.items ++ c.args.job ∷ [] =
+    rw c.unwrap.ensures at c.push.ensures.items
+    in subst (λ (w : List ℕ). g.D.Dispatching.IsStateOf self.states.dispatcher.now w self.states.current.value)
+    (sym went) c.requires.state
