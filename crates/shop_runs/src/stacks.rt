@@ -15,6 +15,9 @@ use std::mem;
 /// How many words a full chunk holds below its top word. They take 4 KB.
 const BLOCK: usize = 256;
 
+/// For how many of them a chunk that covers another has room at first. Most stacks end in such a chunk.
+const FIRST_ROOM: usize = 64;
+
 /// A chunk of a stack of words: a top word, which `pop` takes, and the words below it.
 #[derive(Drop)]
 pub(crate) struct Chunk {
@@ -91,12 +94,12 @@ impl Stack {
         self.cover(alloc, word)
     }
 
-    /// Puts `word` on top, in a chunk of its own, which takes the memory of a full one at once. Fails with `NoMemory`
-    /// if memory runs out; the stack has then lost words.
+    /// Puts `word` on top, in a chunk of its own, which takes a quarter of the memory of a full one at once. Fails with
+    /// `NoMemory` if memory runs out; the stack has then lost words.
     fn cover(&mut self, alloc: Global, word: SharedWord) -> Result<(), NoMemory>
         ensures { OnOk result (words_on self.new ≡ word ∷ words_on self.old) }
     {
-        let below = Vec::with_capacity(alloc, BLOCK)?;
+        let below = Vec::with_capacity(alloc, FIRST_ROOM)?;
         let full = mem::replace(&mut self.topmost, Chunk { top: word, below });
         self.covered.push(full)?;
         Ok(())
