@@ -161,55 +161,55 @@ module _ {greatest : ℕ} {shop : Shop} {l : LayoutState} {rows : Rows} (can : C
     leg_few = let small = leg_small can.limits can.laid j job so_far.step so_far.within
         in let at = so_far.index_is in omega arith
 
-    module _ {leg : Leg} (is : leg ≡ get_or (all_legs read) index (end_of 0)) {n : ℕ} (count : n ≡ length read.following)
-      where
-        -- at the end of the route
-        pub job_filled : n ≤ leg.position → HasFilledJob shop l s j rows now
-        job_filled above =
-            let past = step_past can.limits can.laid j job so_far.step so_far.within same so_far.index_is is count above
-            in record {
-              beside = so_far.up_to.beside;
-              filled = λ p placed k op. so_far.up_to.filled p placed k op (omega arith);
-              others = so_far.up_to.others;
+    module _ {leg : Leg} (is : leg ≡ get_or (all_legs read) index (end_of 0)) {n : ℕ}
+        (count : n ≡ length read.following) where
+      -- at the end of the route
+      pub job_filled : n ≤ leg.position → HasFilledJob shop l s j rows now
+      job_filled above =
+          let past = step_past can.limits can.laid j job so_far.step so_far.within same so_far.index_is is count above
+          in record {
+            beside = so_far.up_to.beside;
+            filled = λ p placed k op. so_far.up_to.filled p placed k op (omega arith);
+            others = so_far.up_to.others;
+          }
+
+      -- at a step of it
+      module _ (below : leg.position < n) where
+        op_there : IsOperation shop j so_far.step
+        op_there = step_there can.limits can.laid j job so_far.step so_far.within same so_far.index_is is count below
+
+        leg_found : IsLegOf shop l j so_far.step leg
+        leg_found = leg_is can.limits can.laid j job so_far.step so_far.within same so_far.index_is is op_there
+
+        pub leg_position_known : leg.position < length now.heads
+        leg_position_known = position_known can job so_far.up_to op_there leg_found.position
+
+        leg_machine_known : leg.machine < shop.machines
+        leg_machine_known = let a = leg_found.machine in let b = can.limits.on_machines j so_far.step in omega arith
+
+        module _ {first from : ℕ} {free : List ℕ} (at : IsAtLeg shop l s j first from free) where
+          pub leg_machine_within : leg.machine < length free
+          leg_machine_within = let a = leg_machine_known in let b = ap length at.free_is
+              in let c = at.of.placed.places.free in omega arith
+
+          module _ {head : ℕ} (greater : head ≡ max ready (get_or free leg.machine 0)) where
+            above : head ≡ max ready (get_or s.free leg.machine 0)
+            above = greater ∙ ap (λ (xs : List ℕ). max ready (get_or xs leg.machine 0)) at.free_is
+
+            pub leg_fits : (head + 1 ≤ greatest) × (head + leg.time < greatest)
+            leg_fits = open_fits can job so_far.up_to op_there leg_found.position leg_found.machine leg_found.time
+                so_far.opened above at.of
+
+            pub filling_on : (new : Rows) → new ≡ with_head now leg.position (head + 1)
+                → IsFillingTo shop l s j (index + 1) (head + leg.time) rows new
+            filling_on new wrote = record {
+              step = so_far.step + 1;
+              within = (let op = op_there in omega arith);
+              opened = (let before = so_far.opened in omega arith);
+              index_is = (let at = so_far.index_is in omega arith);
+              up_to = filled_open can job so_far.up_to op_there leg_found.position leg_found.machine leg_found.time
+                  so_far.opened above new wrote;
             }
-
-        -- at a step of it
-        module _ (below : leg.position < n) where
-          op_there : IsOperation shop j so_far.step
-          op_there = step_there can.limits can.laid j job so_far.step so_far.within same so_far.index_is is count below
-
-          leg_found : IsLegOf shop l j so_far.step leg
-          leg_found = leg_is can.limits can.laid j job so_far.step so_far.within same so_far.index_is is op_there
-
-          pub leg_position_known : leg.position < length now.heads
-          leg_position_known = position_known can job so_far.up_to op_there leg_found.position
-
-          leg_machine_known : leg.machine < shop.machines
-          leg_machine_known = let a = leg_found.machine in let b = can.limits.on_machines j so_far.step in omega arith
-
-          module _ {first from : ℕ} {free : List ℕ} (at : IsAtLeg shop l s j first from free) where
-            pub leg_machine_within : leg.machine < length free
-            leg_machine_within = let a = leg_machine_known in let b = ap length at.free_is
-                in let c = at.of.placed.places.free in omega arith
-
-            module _ {head : ℕ} (greater : head ≡ max ready (get_or free leg.machine 0)) where
-              above : head ≡ max ready (get_or s.free leg.machine 0)
-              above = greater ∙ ap (λ (xs : List ℕ). max ready (get_or xs leg.machine 0)) at.free_is
-
-              pub leg_fits : (head + 1 ≤ greatest) × (head + leg.time < greatest)
-              leg_fits = open_fits can job so_far.up_to op_there leg_found.position leg_found.machine leg_found.time
-                  so_far.opened above at.of
-
-              pub filling_on : (new : Rows) → new ≡ with_head now leg.position (head + 1)
-                  → IsFillingTo shop l s j (index + 1) (head + leg.time) rows new
-              filling_on new wrote = record {
-                step = so_far.step + 1;
-                within = (let op = op_there in omega arith);
-                opened = (let before = so_far.opened in omega arith);
-                index_is = (let at = so_far.index_is in omega arith);
-                up_to = filled_open can job so_far.up_to op_there leg_found.position leg_found.machine leg_found.time
-                    so_far.opened above new wrote;
-              }
 
 -- the heads of the jobs below n
 pub record AreFilledUpTo (shop : Shop) (l : LayoutState) (s : PlacementState) (n : ℕ) (old now : Rows) : Type 0 where

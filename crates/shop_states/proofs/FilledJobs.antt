@@ -101,7 +101,8 @@ module _ {shop : Shop} {l : LayoutState} {p : Placing} {n : ℕ} {old now before
       | inl f ↦ (let past_n : length (route_of shop n) ≤ p.steps n =
           subst (λ (x : ℕ). length (route_of shop x) ≤ p.steps x) f (past (omega arith))
           in ap (λ (x : ℕ). get_or after x 0) f
-          ∙ (one.none past_n ∙ (so_far.none n (λ less. absurd (omega arith)) ∙ ap (λ (x : ℕ). get_or before x 0) (sym f))))
+          ∙ (one.none past_n ∙ (so_far.none n (λ less. absurd (omega arith))
+          ∙ ap (λ (x : ℕ). get_or before x 0) (sym f))))
       | inr ne ↦ one.others j ne ∙ so_far.none j (λ below. past (omega arith))
     ];
   }
@@ -122,7 +123,8 @@ module _ {shop : Shop} {l : LayoutState} {old ready free : List ℕ} (is : IsWor
     job_within : n < length old → n < length shop.jobs
     job_within below = let jobs = is.placed.next_jobs in omega arith
 
-    pub at_leg : n < length old → IsAtLeg shop l (placement_at l old ready free) n (get_or now n 0) (get_or ready n 0) free
+    pub at_leg : n < length old
+        → IsAtLeg shop l (placement_at l old ready free) n (get_or now n 0) (get_or ready n 0) free
     at_leg below = record {
       of = of_word_at is;
       index_is = word_so_far.later n (omega arith) ∙ (is.placed.next_at n (job_within below)

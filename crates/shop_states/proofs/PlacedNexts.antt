@@ -37,10 +37,10 @@ none_at shop l legs ready free old begun same none long = record {
 }
 
 -- one more job is at its first leg
-pub begun_more : {shop : Shop} → IsWithinLimits shop → {l : LayoutState} → IsLaidOut shop l → {n : ℕ}
-    → n < length shop.jobs → {legs ready : List ℕ} → AreBegun shop l n legs ready → {i t : ℕ} → i ≡ leg_index l n 0
-    → t ≡ release_of shop n → AreBegun shop l (n + 1) (set legs n i) (set ready n t)
-begun_more {shop} limits {l} laid {n} known {legs} {ready} begun {i} {t} first release = record {
+pub begun_more : {shop : Shop} {l : LayoutState} {n : ℕ} → n < length shop.jobs → {legs ready : List ℕ}
+    → AreBegun shop l n legs ready → {i t : ℕ} → i ≡ leg_index l n 0 → t ≡ release_of shop n
+    → AreBegun shop l (n + 1) (set legs n i) (set ready n t)
+begun_more {shop} {l} {n} known {legs} {ready} begun {i} {t} first release = record {
   next_jobs = length-set legs n i ∙ begun.next_jobs;
   jobs = length-set ready n t ∙ begun.jobs;
   first = λ j here. elim (cases_eq j n) [
@@ -58,7 +58,8 @@ begun_more {shop} limits {l} laid {n} known {legs} {ready} begun {i} {t} first r
 -- where the legs of the next job begin, which is a small number
 pub begins_behind : {shop : Shop} → IsWithinLimits shop → {l : LayoutState} → IsLaidOut shop l → {n : ℕ}
     → n < length shop.jobs → {read : LayoutState} → read ≡ l → {places : List ℕ} → places ≡ get_or read.places n []
-    → {i : ℕ} → i ≡ leg_index l n 0 → (i + (length places + 1) ≡ leg_index l (n + 1) 0) × (i + (length places + 1) < 2 ^ 32)
+    → {i : ℕ} → i ≡ leg_index l n 0
+    → (i + (length places + 1) ≡ leg_index l (n + 1) 0) × (i + (length places + 1) < 2 ^ 32)
 begins_behind limits {l} laid {n} known same {places} are at =
     let long : length places ≡ length (get_or l.places n []) =
     ap length are ∙ ap (λ (x : LayoutState). length (get_or x.places n [])) same

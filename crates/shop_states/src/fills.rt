@@ -66,11 +66,13 @@ fn fill_job<L: StateLanes>(
         (rows_of laid_out.now.layout (L.heads lanes.old) (L.ends lanes.old)) }
     requires ends { length (L.ends lanes.old) ≡ length laid_out.now.shop.jobs }
     requires of { IsAtSomeLeg laid_out.now.shop laid_out.now.layout job index ready free.now }
-    ensures heads { (s : PlacementState) → IsAtLeg laid_out.now.shop laid_out.now.layout s job index ready free.now
+    ensures heads { (s : PlacementState)
+        → IsAtLeg laid_out.now.shop laid_out.now.layout s job index ready free.now
         → HasFilledJob laid_out.now.shop laid_out.now.layout s job
         (rows_of laid_out.now.layout (L.heads lanes.old) (L.ends lanes.old))
         (rows_of laid_out.now.layout (L.heads lanes.new) (L.ends lanes.new)) }
-    ensures next { (s : PlacementState) → IsAtLeg laid_out.now.shop laid_out.now.layout s job index ready free.now
+    ensures next { (s : PlacementState)
+        → IsAtLeg laid_out.now.shop laid_out.now.layout s job index ready free.now
         → (p : Placing) → IsPlacement laid_out.now.shop p s
         → IsNextSet laid_out.now.shop laid_out.now.layout p job result (L.ends lanes.old)
         (L.ends lanes.new) }

@@ -2,7 +2,6 @@
 // the legs of a route lie side by side in memory: its first unplaced operation, or the end of its route.
 ghost use Rattle.std.specs.Prelude.{◌≡◌, ℕ, ◌<◌, ◌≤◌, length, slice_index, take};
 ghost use Rattle.shop_model.specs.Word.{IsWord, none_placed, placing};
-ghost use Rattle.shop_layout.specs.Positions.{IsLaidOut};
 ghost use Rattle.shop_states.specs.inner.PlacedNexts.{AreBegun, IsPlacedAt};
 
 use shop_lanes::StateLanes;
@@ -12,8 +11,7 @@ use shop_layout::LaidOut;
 fn begin_jobs<L: StateLanes>(laid_out: &LaidOut<L>, next_legs: &mut [u32], ready: &mut [u64])
     requires next { length next_legs.old ≡ length laid_out.now.shop.jobs }
     requires ready { length ready.old ≡ length laid_out.now.shop.jobs }
-    ensures laid { IsLaidOut laid_out.now.shop laid_out.now.layout }
-    ensures begun { AreBegun laid_out.now.shop laid_out.now.layout
+    ensures { AreBegun laid_out.now.shop laid_out.now.layout
         (length laid_out.now.shop.jobs) next_legs.new ready.new }
 {
     let instance = laid_out.instance();

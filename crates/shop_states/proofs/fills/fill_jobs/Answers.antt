@@ -30,4 +30,5 @@ returns-clause-heads g c = jobs_all c.requires.fill c.loop-job.invariant.filled
 
 pub returns-clause-nexts : goal.returns-clause-nexts
 returns-clause-nexts g c =
-    let past = c.loop-job-test.false in let most = c.loop-job.auto.job-end in nexts_all c.requires.of c.loop-job.invariant.nexts (omega arith)
+    let past = c.loop-job-test.false in let most = c.loop-job.auto.job-end
+    in nexts_all c.requires.of c.loop-job.invariant.nexts (omega arith)

@@ -24,8 +24,7 @@ pub loop-job-preserved : goal.loop-job-preserved
 loop-job-preserved g c =
     let known = c.loop-job-test.true in let jobs = c.requires.next
     in record {
-      begun = begun_more c.grid-grid.ensures.ready.limits c.grid-grid.ensures.ready.laid (omega arith)
-          c.loop-job.invariant.begun c.loop-job.invariant.first_is
+      begun = begun_more (omega arith) c.loop-job.invariant.begun c.loop-job.invariant.first_is
           (c.release.ensures ∙ ap (λ (x : Shop). release_of x c.loop-job.job) c.instance-instance.ensures);
       first_is = (begins_behind c.grid-grid.ensures.ready.limits c.grid-grid.ensures.ready.laid (omega arith)
           c.grid-grid.ensures.grid c.places.ensures c.loop-job.invariant.first_is).0;
