@@ -1,27 +1,29 @@
 -- Heads by position are set one by one.
-use Rattle.std.proofs.Common.{◌≡◌, ℕ, ◌+◌, ◌-◌, ◌≤◌, ◌<◌, max, inl, inr, List, [], length, get_or}
+use Rattle.std.proofs.Common.{◌≡◌, ℕ, ◌+◌, ◌-◌, ◌≤◌, ◌<◌, ◌^◌, max, inl, inr, List, length, get_or}
 use Rattle.std.proofs.Common.{set, refl, sym, ◌∙◌, ap, subst, arith}
 use Rattle.std.proofs.lemmas.Bool.{cases_eq}
 use Rattle.std.proofs.lemmas.Grind.{get_or-set_at}
 use Rattle.std.proofs.lemmas.List.{get_or-set_other, length-set}
 use Rattle.shop_lanes.specs.Rows.{Rows, with_head}
-use Rattle.shop_model.specs.declared.ops.Op.{Op}
-use Rattle.shop_model.specs.Shop.{Shop, no_op, IsOperation, route_of, time_of}
+use Rattle.shop_model.specs.Shop.{Shop, IsOperation, machine_of, route_of, time_of}
 use Rattle.shop_model.specs.Word.{Placing, placing}
 use Rattle.shop_model.proofs.Ends.{IsOperation-job}
+use Rattle.shop_model.proofs.Unders.{after_word}
 use Rattle.shop_bound.specs.Heads.{ready_after, head_of}
 use Rattle.shop_model.specs.Placements.{PlacementState, IsPlacement}
-use Rattle.shop_states.specs.inner.Fills.{IsStored, CanFill, AreSameBeside, HasFilledJob, HasFilled}
+use Rattle.shop_states.specs.inner.Fills.{IsAtLeg, IsStored, CanFill, AreSameBeside, HasFilledJob, HasFilled}
+use Rattle.shop_layout.specs.declared.legs.Leg.{Leg}
+use Rattle.shop_layout.specs.Legs.{all_legs, end_of, leg_index}
 use Rattle.shop_layout.specs.Positions.{IsFree, LayoutState, place}
 use Rattle.shop_bound.specs.inner.PlacedWords.{IsOfWord}
 use Rattle.shop_layout.proofs.LaidPlaces.{place_of}
+use Rattle.shop_states.proofs.JobLegs.{IsLegOf, index_there, leg_is, leg_small, step_past, step_there}
 use Rattle.shop_states.proofs.RowTurns.{open_turn}
 
 pub beside_both : (a b c : Rows) → AreSameBeside a b → AreSameBeside b c → AreSameBeside a c
 beside_both a b c x y = record {
   times = y.times ∙ x.times;
   tails = y.tails ∙ x.tails;
-  ends = y.ends ∙ x.ends;
   positions = y.positions ∙ x.positions;
 }
 
@@ -29,7 +31,6 @@ pub beside_one : (a b : Rows) (q v : ℕ) → b ≡ with_head a q v → AreSameB
 beside_one a b q v e = record {
   times = ap (λ (r : Rows). r.times) e;
   tails = ap (λ (r : Rows). r.tails) e;
-  ends = ap (λ (r : Rows). r.ends) e;
   positions = ap (λ (r : Rows). length r.heads) e ∙ length-set a.heads q v;
 }
 
@@ -45,33 +46,21 @@ pub record IsFilledUpTo (shop : Shop) (l : LayoutState) (s : PlacementState) (j 
 
 module _ {greatest : ℕ} {shop : Shop} {l : LayoutState} {s : PlacementState} {rows : Rows}
     (can : CanFill greatest shop l rows) {j : ℕ} (job : j < length shop.jobs) where
-  -- a step is read of the job's route, and its position of the job's places
-  module _ {k ready : ℕ} {now : Rows} (so_far : IsFilledUpTo shop l s j k ready rows now) {read : Shop}
-      (of_shop : read ≡ shop) {route : List Op} (is_route : route ≡ route_of read j) (known : k < length route)
-      {rows_read : LayoutState} (of_layout : rows_read ≡ l) {places : List ℕ}
-      (are : places ≡ get_or rows_read.places j []) where
-    same_route : route ≡ route_of shop j
-    same_route = is_route ∙ ap (λ (x : Shop). route_of x j) of_shop
-
-    op : IsOperation shop j k
-    op = let a = ap (λ (xs : List Op). length xs) same_route in omega arith
-
-    at : get_or places k 0 ≡ place l j k
-    at = ap (λ (xs : List ℕ). get_or xs k 0) (are ∙ ap (λ (x : LayoutState). get_or x.places j []) of_layout)
-
-    pub position_known : get_or places k 0 < length now.heads
+  -- the next step stands at position q
+  module _ {k ready : ℕ} {now : Rows} (so_far : IsFilledUpTo shop l s j k ready rows now) (op : IsOperation shop j k)
+      {q : ℕ} (at : q ≡ place l j k) where
+    pub position_known : q < length now.heads
     position_known =
         let within = (place_of shop can.limits l can.laid j k op).within
-        in let b = can.positions in let c = so_far.beside.positions in let d = at in omega arith
+        in let b = can.positions in let c = so_far.beside.positions in omega arith
 
     -- the head of one step is written
-    filled_more : (new : Rows) (v h : ℕ) → new ≡ with_head now (get_or places k 0) v
+    filled_more : (new : Rows) (v h : ℕ) → new ≡ with_head now q v
         → ((p : Placing) → IsPlacement shop p s → (p.steps j ≤ k) × (v ≡ head_of shop p j k + 1)
         × (h ≡ ready_after shop p j (k + 1 - p.steps j)))
         → IsFilledUpTo shop l s j (k + 1) h rows new
     filled_more new v h wrote value =
-        let q = get_or places k 0
-        in let heads : new.heads ≡ set now.heads q v = ap (λ (r : Rows). r.heads) wrote
+        let heads : new.heads ≡ set now.heads q v = ap (λ (r : Rows). r.heads) wrote
         in let mine : get_or new.heads (place l j k) 0 ≡ v =
         ap (λ (xs : List ℕ). get_or xs (place l j k) 0) heads
         ∙ get_or-set_at now.heads q (place l j k) v 0 (sym at) position_known
@@ -104,43 +93,123 @@ module _ {greatest : ℕ} {shop : Shop} {l : LayoutState} {s : PlacementState} {
           ready_is = λ p is. (value p is).2;
         }
 
-    module _ (opened : get_or s.steps j 0 ≤ k) {head : ℕ}
-        (greater : head ≡ max ready (get_or s.free (get_or route k no_op).machine 0)) where
+    module _ {m t : ℕ} (on : m ≡ machine_of shop j k) (for : t ≡ time_of shop j k) (opened : get_or s.steps j 0 ≤ k)
+        {head : ℕ} (greater : head ≡ max ready (get_or s.free m 0)) where
       turn : (p : Placing) → IsPlacement shop p s → (head ≡ head_of shop p j k)
-          × (head + (get_or route k no_op).time ≡ ready_after shop p j (k + 1 - p.steps j))
-      turn p is = open_turn shop can.limits s j job route same_route k ready head so_far.ready_is opened greater p is
+          × (head + t ≡ ready_after shop p j (k + 1 - p.steps j))
+      turn p is = open_turn shop can.limits s j job k ready head on for so_far.ready_is opened greater p is
 
       -- it waits, and its head and its end fit
-      pub open_fits : IsOfWord shop s → (head + 1 ≤ greatest) × (head + (get_or route k no_op).time < greatest)
+      pub open_fits : IsOfWord shop s → (head + 1 ≤ greatest) × (head + t < greatest)
       open_fits of =
           let p = placing shop of.word
           in let is = of.placed
-          in let t = turn p is
+          in let found = turn p is
           in let steps = is.steps j job
           in let f = can.fits of.word of.fits j k op (omega arith)
-          in let time : (get_or route k no_op).time ≡ time_of shop j k =
-          ap (λ (xs : List Op). (get_or xs k no_op).time) same_route
-          in let h = t.0
+          in let h = found.0
           in (omega arith, omega arith)
 
-      pub filled_open : (new : Rows) → new ≡ with_head now (get_or places k 0) (head + 1)
-          → IsFilledUpTo shop l s j (k + 1) (head + (get_or route k no_op).time) rows new
-      filled_open new wrote = filled_more new (head + 1) (head + (get_or route k no_op).time) wrote (λ p is.
-          let t = turn p is
+      pub filled_open : (new : Rows) → new ≡ with_head now q (head + 1)
+          → IsFilledUpTo shop l s j (k + 1) (head + t) rows new
+      filled_open new wrote = filled_more new (head + 1) (head + t) wrote (λ p is.
+          let found = turn p is
           in let steps = is.steps j job
-          in (omega arith, (let a = t.0 in omega arith), t.1))
+          in (omega arith, (let a = found.0 in omega arith), found.1))
 
   -- what is placed stays as it was
   pub filled_begins : {placed ready : ℕ} → placed ≡ get_or s.steps j 0 → ready ≡ get_or s.ready j 0
       → IsFilledUpTo shop l s j placed ready rows rows
   filled_begins {placed} {ready} read is_ready = record {
-    beside = record { times = refl; tails = refl; ends = refl; positions = refl };
+    beside = record { times = refl; tails = refl; positions = refl };
     filled = λ p is t op below. (let steps = is.steps j job
         in record { waiting = λ opened. absurd (omega arith); placed = λ done. refl });
     others = λ q free. refl;
     ready_is = λ p is. (let steps = is.steps j job
         in let none : placed - p.steps j ≡ 0 = omega arith in rw none (is_ready ∙ is.ready j job));
   }
+
+-- so far the route of job j was filled up to a leg
+pub record IsFillingTo (shop : Shop) (l : LayoutState) (s : PlacementState) (j index ready : ℕ) (old now : Rows)
+    : Type 0 where
+  pub step : ℕ
+  pub within : step ≤ length (route_of shop j)
+  pub opened : get_or s.steps j 0 ≤ step
+  pub index_is : index ≡ leg_index l j step
+  pub up_to : IsFilledUpTo shop l s j step ready old now
+
+module _ {greatest : ℕ} {shop : Shop} {l : LayoutState} {rows : Rows} (can : CanFill greatest shop l rows) {j : ℕ}
+    (job : j < length shop.jobs) {s : PlacementState} where
+  pub filling_begins : {index ready : ℕ} {free : List ℕ} → IsAtLeg shop l s j index ready free
+      → IsFillingTo shop l s j index ready rows rows
+  filling_begins at = record {
+    step = get_or s.steps j 0;
+    within = (let of = at.of in let steps = of.placed.steps j job in let most = of.fits j
+        in let count = (after_word shop of.word of.fits).steps j in omega arith);
+    opened = omega arith;
+    index_is = at.index_is;
+    up_to = filled_begins can job refl at.ready_is;
+  }
+
+  module _ {index ready : ℕ} {now : Rows} (so_far : IsFillingTo shop l s j index ready rows now) {read : LayoutState}
+      (same : read ≡ l) where
+    -- the leg is among all
+    pub leg_there : index < length (all_legs read)
+    leg_there = index_there can.limits can.laid j job so_far.step so_far.within same so_far.index_is
+
+    pub leg_few : index + 1 < 2 ^ 32
+    leg_few = let small = leg_small can.limits can.laid j job so_far.step so_far.within
+        in let at = so_far.index_is in omega arith
+
+    module _ {leg : Leg} (is : leg ≡ get_or (all_legs read) index (end_of 0)) {n : ℕ}
+        (count : n ≡ length read.following) where
+      -- at the end of the route
+      pub job_filled : n ≤ leg.position → HasFilledJob shop l s j rows now
+      job_filled above =
+          let past = step_past can.limits can.laid j job so_far.step so_far.within same so_far.index_is is count above
+          in record {
+            beside = so_far.up_to.beside;
+            filled = λ p placed k op. so_far.up_to.filled p placed k op (omega arith);
+            others = so_far.up_to.others;
+          }
+
+      -- at a step of it
+      module _ (below : leg.position < n) where
+        op_there : IsOperation shop j so_far.step
+        op_there = step_there can.limits can.laid j job so_far.step so_far.within same so_far.index_is is count below
+
+        leg_found : IsLegOf shop l j so_far.step leg
+        leg_found = leg_is can.limits can.laid j job so_far.step so_far.within same so_far.index_is is op_there
+
+        pub leg_position_known : leg.position < length now.heads
+        leg_position_known = position_known can job so_far.up_to op_there leg_found.position
+
+        leg_machine_known : leg.machine < shop.machines
+        leg_machine_known = let a = leg_found.machine in let b = can.limits.on_machines j so_far.step in omega arith
+
+        module _ {first from : ℕ} {free : List ℕ} (at : IsAtLeg shop l s j first from free) where
+          pub leg_machine_within : leg.machine < length free
+          leg_machine_within = let a = leg_machine_known in let b = ap length at.free_is
+              in let c = at.of.placed.places.free in omega arith
+
+          module _ {head : ℕ} (greater : head ≡ max ready (get_or free leg.machine 0)) where
+            above : head ≡ max ready (get_or s.free leg.machine 0)
+            above = greater ∙ ap (λ (xs : List ℕ). max ready (get_or xs leg.machine 0)) at.free_is
+
+            pub leg_fits : (head + 1 ≤ greatest) × (head + leg.time < greatest)
+            leg_fits = open_fits can job so_far.up_to op_there leg_found.position leg_found.machine leg_found.time
+                so_far.opened above at.of
+
+            pub filling_on : (new : Rows) → new ≡ with_head now leg.position (head + 1)
+                → IsFillingTo shop l s j (index + 1) (head + leg.time) rows new
+            filling_on new wrote = record {
+              step = so_far.step + 1;
+              within = (let op = op_there in omega arith);
+              opened = (let before = so_far.opened in omega arith);
+              index_is = (let at = so_far.index_is in omega arith);
+              up_to = filled_open can job so_far.up_to op_there leg_found.position leg_found.machine leg_found.time
+                  so_far.opened above new wrote;
+            }
 
 -- the heads of the jobs below n
 pub record AreFilledUpTo (shop : Shop) (l : LayoutState) (s : PlacementState) (n : ℕ) (old now : Rows) : Type 0 where

@@ -1,18 +1,20 @@
 -- A state that was set by a placement.
-use Rattle.std.proofs.Common.{◌≡◌, ℕ, inl, inr, List, length, replicate, get_or, sym, ◌∙◌, ap, subst, arith}
+use Rattle.std.proofs.Common.{◌≡◌, ℕ, ◌<◌, inl, inr, List, length, replicate, get_or, ◌∙◌, ap, arith}
 use Rattle.std.proofs.lemmas.Bool.{cases_lt}
 use Rattle.std.proofs.lemmas.List.{get_or_past, get_or-replicate, length-replicate}
+use Rattle.shop_model.specs.Placements.{IsPlacement}
 use Rattle.shop_model.specs.Shop.{Shop}
-use Rattle.shop_model.specs.Word.{IsWord, placing}
+use Rattle.shop_model.specs.Word.{IsWord, Placing, placing}
+use Rattle.shop_model.proofs.Ends.{IsOperation-job}
 use Rattle.shop_layout.specs.LaidOuts.{IsReady}
 use Rattle.shop_layout.specs.Lanes.{rows_of}
 use Rattle.shop_layout.specs.Positions.{LayoutState}
-use Rattle.shop_states.specs.inner.LaneEnds.{AreEndsOf, CanKeepEnds, HasEnds}
-use Rattle.shop_states.specs.inner.Fills.{CanFill, HasFilled, IsRested}
-use Rattle.shop_states.specs.inner.LaneStates.{AreHeadsInLanes, HasRoom, IsKeptInLanes}
+use Rattle.shop_layout.proofs.LatestEnds.{latest_end_is}
+use Rattle.shop_states.specs.inner.Fills.{AreNextsSet, CanFill, HasFilled, IsRested}
+use Rattle.shop_states.specs.inner.LaneStates.{HasRoom, IsKeptInLanes}
 use Rattle.shop_states.specs.inner.PlacedNexts.{IsPlacedAt, placement_at}
 use Rattle.shop_states.proofs.HeadsFit.{heads_fit}
-use Rattle.shop_states.proofs.LaneEnds.{can_keep, ends_at, with_ends}
+use Rattle.shop_states.proofs.NextOperations.{head_first}
 use Rattle.shop_states.proofs.PlacedNexts.{placement_is}
 use Rattle.shop_states.proofs.SoleCandidates.{sole_keeps_bound}
 
@@ -34,49 +36,45 @@ module _ {greatest : ℕ} {shop : Shop} {l : LayoutState} (is : IsReady greatest
         (omega (arith, length-replicate {A = ℕ} (length hs) 0))
   ]
 
-  module _ {es' : List ℕ} (long : es' ≡ replicate (length es) greatest) {ready free hs'' es'' : List ℕ}
-      (has : HasFilled shop l (placement_at l nexts ready free) (rows_of l hs' es') (rows_of l hs'' es''))
-      (w : List ℕ) (word : IsWord shop w) (at : IsPlacedAt shop (placing shop w) l nexts ready free)
-      {read : LayoutState} (same : read ≡ l) where
-    now : AreHeadsInLanes greatest shop w l (rows_of l hs'' es'')
-    now = record {
-      limits = is.limits;
-      word = word;
-      laid = is.laid;
-      times = has.beside.times;
-      tails = has.beside.tails;
-      fits = heads_fit greatest shop l is.limits is.holds;
-      computable = is.computable;
-      heads = has.filled rested (placing shop w)
-          (placement_is is.limits is.laid w word at);
-    }
+  module _ {es' : List ℕ} (long : es' ≡ replicate (length es) greatest) where
+    pub as_many : length es' ≡ length shop.jobs
+    as_many = ap length long ∙ (length-replicate (length es) greatest ∙ room.jobs_with_ends)
 
-    as_many : length es'' ≡ length shop.jobs
-    as_many = ap length has.beside.ends
-        ∙ (ap length long ∙ (length-replicate (length es) greatest ∙ room.jobs_with_ends))
+    -- no job has an end yet
+    none_set : (j : ℕ) → j < length shop.jobs → get_or es' j 0 ≡ greatest
+    none_set j known = ap (λ (xs : List ℕ). get_or xs j 0) long
+        ∙ get_or-replicate (length es) j greatest 0 (let jobs = room.jobs_with_ends in omega arith)
 
-    pub filled_times : length read.times ≡ length hs''
-    filled_times = ap (λ (x : LayoutState). length x.times) same
-        ∙ (is.laid.positions.times ∙ sym now.heads.positions)
-
-    pub filled_keep : CanKeepEnds greatest read nexts (rows_of read hs'' es'')
-    filled_keep = subst (λ (x : LayoutState). CanKeepEnds greatest x nexts (rows_of x hs'' es'')) (sym same)
-        (can_keep now at.are_next as_many)
-
-    module _ {hs3 es3 : List ℕ} (beside : HasEnds (rows_of read hs'' es'') (rows_of read hs3 es3))
-        (ends : AreEndsOf greatest nexts (rows_of read hs3 es3)) where
-      ended : HasEnds (rows_of l hs'' es'') (rows_of l hs3 es3)
-      ended = subst (λ (x : LayoutState). HasEnds (rows_of x hs'' es'') (rows_of x hs3 es3)) same beside
-
-      kept : AreHeadsInLanes greatest shop w l (rows_of l hs3 es3)
-      kept = with_ends ended now
-
-      pub filled_kept : IsKeptInLanes greatest shop w l (rows_of l hs3 es3) nexts
-      filled_kept = record {
-        kept = kept;
-        are_next = at.are_next;
-        ends = ends_at kept at.are_next (ended.ends ∙ as_many) is.holds (subst (λ (x : LayoutState). AreEndsOf greatest
-            nexts (rows_of x hs3 es3)) same ends);
-        holds = is.holds;
-        sole = sole_keeps_bound shop is.limits is.laid.slots is.laid.are w word;
-      }
+    module _ {ready free hs'' es'' nexts' : List ℕ}
+        (has : HasFilled shop l (placement_at l nexts ready free) (rows_of l hs' es') (rows_of l hs'' es''))
+        (set : (p : Placing) → IsPlacement shop p (placement_at l nexts ready free)
+        → AreNextsSet shop l p (length shop.jobs) nexts nexts' es' es'') where
+      pub filled_kept : (w : List ℕ) → IsWord shop w → IsPlacedAt shop (placing shop w) l nexts ready free
+          → IsKeptInLanes greatest shop w l (rows_of l hs'' es'') nexts'
+      filled_kept w word at =
+          let placed = placement_is w at
+          in let are = set (placing shop w) placed
+          in record {
+            kept = record {
+              limits = is.limits;
+              word = word;
+              laid = is.laid;
+              times = has.beside.times;
+              tails = has.beside.tails;
+              fits = heads_fit greatest shop l is.limits is.holds;
+              computable = is.computable;
+              heads = has.filled rested (placing shop w) placed;
+            };
+            are_next = record { jobs = are.jobs ∙ room.jobs_with_nexts; are = are.are };
+            ends = record {
+              jobs = are.long ∙ as_many;
+              next = λ j op. are.next j (IsOperation-job shop j ((placing shop w).steps j) op) op;
+              none = λ j known past. are.none j (λ below. past) ∙ none_set j known;
+              fits = λ j op. (
+                  let head = head_first shop (placing shop w) j
+                  in let latest = latest_end_is shop w word j ((placing shop w).steps j) op (omega arith)
+                  in let fits = is.holds 0 (let some = is.limits.some_machine in omega arith) in omega arith);
+            };
+            holds = is.holds;
+            sole = sole_keeps_bound shop is.limits is.laid.slots is.laid.are w word;
+          }

@@ -1,5 +1,6 @@
 pub mod FittingSpans
 pub mod Followed
+pub mod JobLegs
 pub mod JobSets
 pub mod LaneBoundTurns
 pub mod MachineSets
@@ -27,6 +28,7 @@ pub mod ChildTurns
 pub mod ChildrenBounds
 pub mod ConflictSets
 pub mod FillTurns
+pub mod FilledJobs
 pub mod FilledStates
 pub mod HeadsFit
 pub mod LaneChoices

@@ -15,14 +15,14 @@ pub gone_on : (shop : Shop) (l : LayoutState) (b : Beginning) → IsBeginningOf 
     → IsBeginningOf shop l (record {
       path = with_items b.path row;
       len = n;
-      next = with_items b.next nexts;
+      next_legs = with_items b.next_legs nexts;
       ready = with_items b.ready ready;
       free = with_items b.free free;
     })
 gone_on shop l b is w row n fits long same nexts ready free at =
     let before = is.placed
     in let path = with_items_is b.path row (long ∙ sym b.path.ok.0)
-    in let next = with_items_is b.next nexts (at.are_next.jobs ∙ (sym before.are_next.jobs ∙ sym b.next.ok.0))
+    in let next = with_items_is b.next_legs nexts (at.next_jobs ∙ (sym before.next_jobs ∙ sym b.next_legs.ok.0))
     in let readies = with_items_is b.ready ready (at.jobs ∙ (sym before.jobs ∙ sym b.ready.ok.0))
     in let frees = with_items_is b.free free (at.machines ∙ (sym before.machines ∙ sym b.free.ok.0))
     in let most : length (with_items b.path row).items ≡ operation_count shop = ap length path ∙ (long ∙ is.room)

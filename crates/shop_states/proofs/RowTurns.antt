@@ -1,8 +1,7 @@
 -- What one step of a walk along a route finds.
-use Rattle.std.proofs.Common.{◌≡◌, ℕ, ◌+◌, ◌-◌, ◌≤◌, ◌<◌, max, List, length, get_or, ◌∙◌, ap, arith}
-use Rattle.shop_model.specs.declared.ops.Op.{Op}
+use Rattle.std.proofs.Common.{◌≡◌, ℕ, ◌+◌, ◌-◌, ◌≤◌, ◌<◌, max, length, get_or, ◌∙◌, ap, arith}
 use Rattle.shop_model.specs.Limits.{IsWithinLimits}
-use Rattle.shop_model.specs.Shop.{Shop, no_op, route_of, machine_of, time_of}
+use Rattle.shop_model.specs.Shop.{Shop, machine_of, time_of}
 use Rattle.shop_model.specs.Word.{Placing}
 use Rattle.shop_bound.specs.Heads.{ready_after, head_of}
 use Rattle.shop_model.specs.Placements.{PlacementState, IsPlacement}
@@ -10,19 +9,16 @@ use Rattle.shop_bound.proofs.HeadTurns.{ready_more}
 
 -- what one step of the walk along what is left of a route finds
 pub open_turn : (shop : Shop) → IsWithinLimits shop → (s : PlacementState) (j : ℕ) → j < length shop.jobs
-    → (route : List Op) → route ≡ route_of shop j → (k ready head : ℕ)
+    → (k ready head : ℕ) {m t : ℕ} → m ≡ machine_of shop j k → t ≡ time_of shop j k
     → ((p : Placing) → IsPlacement shop p s → ready ≡ ready_after shop p j (k - p.steps j))
     → get_or s.steps j 0 ≤ k
-    → head ≡ max ready (get_or s.free (get_or route k no_op).machine 0)
+    → head ≡ max ready (get_or s.free m 0)
     → (p : Placing) → IsPlacement shop p s → (head ≡ head_of shop p j k)
-    × (head + (get_or route k no_op).time ≡ ready_after shop p j (k + 1 - p.steps j))
-open_turn shop limits s j job route e k ready head known opened is_head p is =
+    × (head + t ≡ ready_after shop p j (k + 1 - p.steps j))
+open_turn shop limits s j job k ready head {m} {t} on for known opened is_head p is =
     let a = is.steps j job
-    in let m : (get_or route k no_op).machine ≡ machine_of shop j k =
-    ap (λ (xs : List Op). (get_or xs k no_op).machine) e
-    in let t : (get_or route k no_op).time ≡ time_of shop j k = ap (λ (xs : List Op). (get_or xs k no_op).time) e
-    in let free : get_or s.free (get_or route k no_op).machine 0 ≡ p.free (machine_of shop j k) =
-    ap (λ (i : ℕ). get_or s.free i 0) m ∙ is.free (machine_of shop j k) (limits.on_machines j k)
+    in let free : get_or s.free m 0 ≡ p.free (machine_of shop j k) =
+    ap (λ (i : ℕ). get_or s.free i 0) on ∙ is.free (machine_of shop j k) (limits.on_machines j k)
     in let d = known p is
     in let here : head ≡ head_of shop p j k = omega arith
     in let more = ready_more shop p j k (omega arith)

@@ -13,13 +13,13 @@ use std::alloc::{AllocError as NoMemory, Global};
 /// How many of a word's last jobs a kept beginning leaves out, since the next word often differs in them.
 const LEFT_OUT: usize = 32;
 
-/// The first jobs of a word, with each job's `next` position and `ready` time and each machine's `free` time.
+/// The first jobs of a word, with the index of each job's next leg, its `ready` time and each machine's `free` time.
 #[derive(Drop)]
 pub struct Beginning {
     /// the first `len` entries are the jobs of the beginning
     path: Vec<u16>,
     len: usize,
-    next: Vec<u32>,
+    next_legs: Vec<u32>,
     ready: Vec<u64>,
     free: Vec<u64>,
 }
@@ -45,7 +45,7 @@ impl Beginning {
         let mut beginning = Beginning {
             path: vec![in alloc; 0; instance.operations()]?,
             len: 0,
-            next: vec![in alloc; 0; instance.jobs()]?,
+            next_legs: vec![in alloc; 0; instance.jobs()]?,
             ready: vec![in alloc; 0; instance.jobs()]?,
             free: vec![in alloc; 0; instance.machines()]?,
         };
@@ -61,7 +61,7 @@ impl Beginning {
     {
         place_none(
             laid_out,
-            self.next.as_mut_slice(),
+            self.next_legs.as_mut_slice(),
             self.ready.as_mut_slice(),
             self.free.as_mut_slice(),
         );
@@ -96,7 +96,7 @@ impl Beginning {
         let ahead = &path[..to];
         place_from(
             laid_out,
-            self.next.as_mut_slice(),
+            self.next_legs.as_mut_slice(),
             self.ready.as_mut_slice(),
             self.free.as_mut_slice(),
             ahead,
@@ -106,29 +106,30 @@ impl Beginning {
         self.len = to;
     }
 
-    /// Writes the placement of the word `path` into `next`, `ready` and `free`. Keeps its beginning for the next word.
+    /// Writes the placement of the word `path` into `next_legs`, `ready` and `free`. Keeps its beginning for the next
+    /// word.
     pub(crate) fn place_word<L: StateLanes>(
         &mut self,
         laid_out: &LaidOut<L>,
-        next: &mut [u32],
+        next_legs: &mut [u32],
         ready: &mut [u64],
         free: &mut [u64],
         path: &[u16],
     )
         requires is { IsBeginningOf laid_out.now.shop laid_out.now.layout self.old }
-        requires next { length next.old ≡ length laid_out.now.shop.jobs }
+        requires next { length next_legs.old ≡ length laid_out.now.shop.jobs }
         requires ready { length ready.old ≡ length laid_out.now.shop.jobs }
         requires free { length free.old ≡ laid_out.now.shop.machines }
         requires word { IsWord laid_out.now.shop path.now }
         ensures is { IsBeginningOf laid_out.now.shop laid_out.now.layout self.new }
         ensures placed { IsPlacedAt laid_out.now.shop (placing laid_out.now.shop path.now)
-            laid_out.now.layout next.new ready.new free.new }
+            laid_out.now.layout next_legs.new ready.new free.new }
     {
         self.keep_for(laid_out, path);
         self.go_on(laid_out, path);
-        next.copy_from_slice(self.next.as_slice());
+        next_legs.copy_from_slice(self.next_legs.as_slice());
         ready.copy_from_slice(self.ready.as_slice());
         free.copy_from_slice(self.free.as_slice());
-        place_from(laid_out, next, ready, free, path, self.len);
+        place_from(laid_out, next_legs, ready, free, path, self.len);
     }
 }

@@ -1,101 +1,140 @@
-// Fills a state from the placement of its word.
+// Fills a state from the placement of its word, where each job has the index of its next leg.
 ghost use Rattle.std.specs.Prelude.{◌≡◌, ℕ, ◌<◌, List, length};
-ghost use Rattle.shop_model.specs.Word.{IsWord, placing};
-ghost use Rattle.shop_states.specs.inner.Fills.{CanFill, HasFilled, HasFilledJob};
+ghost use Rattle.shop_model.specs.Placements.{PlacementState, IsPlacement};
+ghost use Rattle.shop_model.specs.Word.{IsWord, Placing, placing};
+ghost use Rattle.shop_states.specs.inner.Fills.{AreNextsSet, CanFill, HasFilled, HasFilledJob};
+ghost use Rattle.shop_states.specs.inner.Fills.{IsAtLeg, IsAtSomeLeg, IsNextSet, IsOnSomeRoute};
 ghost use Rattle.shop_states.specs.inner.LaneStates.{HasRoom, IsKeptInLanes};
-ghost use Rattle.shop_states.specs.inner.PlacedNexts.{IsPlacedAt, IsWordAt, placement_at, step_at};
+ghost use Rattle.shop_states.specs.inner.PlacedNexts.{IsPlacedAt, IsWordAt, placement_at};
 ghost use Rattle.shop_layout.specs.Lanes.{rows_of};
 
-use crate::lane_ends::set_ends;
 use shop_lanes::StateLanes;
-use shop_layout::{Grid, LaidOut};
+use shop_layout::LaidOut;
 
-/// Counts the placed operations of `job`. `next` is the position of its next operation, or the number of positions if
-/// none is left.
+/// Sets the heads of the operations on a route from leg `index` on, which its job is `ready` for. The legs up to the
+/// end of the route lie side by side, and hold all that is read of an operation.
 #[inline(always)]
-fn placed_steps<L: StateLanes>(grid: &Grid<L>, job: usize, next: u32) -> usize
-    requires job { job < length grid.now.places }
-    requires steps { length grid.now.steps ≡ length grid.now.following }
-    ensures { result ≡ step_at grid.now job next }
+fn fill_route<L: StateLanes>(
+    lanes: &mut L,
+    laid_out: &LaidOut<L>,
+    free: &[u64],
+    index: usize,
+    ready: u64,
+)
+    requires fill { CanFill L.GREATEST laid_out.now.shop laid_out.now.layout
+        (rows_of laid_out.now.layout (L.heads lanes.old) (L.ends lanes.old)) }
+    requires of { IsOnSomeRoute laid_out.now.shop laid_out.now.layout index ready free.now }
+    ensures heads { (j : ℕ) → j < length laid_out.now.shop.jobs → (s : PlacementState)
+        → IsAtLeg laid_out.now.shop laid_out.now.layout s j index ready free.now
+        → HasFilledJob laid_out.now.shop laid_out.now.layout s j
+        (rows_of laid_out.now.layout (L.heads lanes.old) (L.ends lanes.old))
+        (rows_of laid_out.now.layout (L.heads lanes.new) (L.ends lanes.new)) }
+    ensures ends { L.ends lanes.new ≡ L.ends lanes.old }
 {
-    let position = next as usize;
-    if position < grid.positions() {
-        return grid.step(position);
+    let grid = laid_out.grid();
+    let routes = grid.routes();
+    let end = grid.positions();
+    let mut at = index;
+    let mut begin = ready;
+    loop {
+        let leg = routes.leg(at);
+        let position = leg.position as usize;
+        if position >= end {
+            return;
+        }
+        let head = begin.max(free[leg.machine as usize]);
+        lanes.set_head(position, head + 1);
+        begin = head + leg.time;
+        at += 1;
     }
-    grid.places(job).len()
 }
 
-/// Sets the heads of the unplaced operations of `job`. Reads the times along the route, where they lie side by side.
+/// Sets the heads of the unplaced operations of `job`, which is `ready` for its next leg, that at `index`, and the end
+/// of the first of them. Answers the position of this one, or the number of positions if the job has none left: then
+/// its end stays as it was.
+#[inline(always)]
 fn fill_job<L: StateLanes>(
     lanes: &mut L,
     laid_out: &LaidOut<L>,
-    next: &[u32],
-    ready: &[u64],
     free: &[u64],
     job: usize,
-)
+    index: usize,
+    ready: u64,
+) -> u32
     requires job { job < length laid_out.now.shop.jobs }
     requires fill { CanFill L.GREATEST laid_out.now.shop laid_out.now.layout
         (rows_of laid_out.now.layout (L.heads lanes.old) (L.ends lanes.old)) }
-    requires of { IsWordAt laid_out.now.shop laid_out.now.layout next.now ready.now free.now }
-    ensures { HasFilledJob laid_out.now.shop laid_out.now.layout
-        (placement_at laid_out.now.layout next.now ready.now free.now) job
+    requires ends { length (L.ends lanes.old) ≡ length laid_out.now.shop.jobs }
+    requires of { IsAtSomeLeg laid_out.now.shop laid_out.now.layout job index ready free.now }
+    ensures heads { (s : PlacementState)
+        → IsAtLeg laid_out.now.shop laid_out.now.layout s job index ready free.now
+        → HasFilledJob laid_out.now.shop laid_out.now.layout s job
         (rows_of laid_out.now.layout (L.heads lanes.old) (L.ends lanes.old))
         (rows_of laid_out.now.layout (L.heads lanes.new) (L.ends lanes.new)) }
+    ensures next { (s : PlacementState)
+        → IsAtLeg laid_out.now.shop laid_out.now.layout s job index ready free.now
+        → (p : Placing) → IsPlacement laid_out.now.shop p s
+        → IsNextSet laid_out.now.shop laid_out.now.layout p job result (L.ends lanes.old)
+        (L.ends lanes.new) }
 {
-    let route = laid_out.instance().route(job);
     let grid = laid_out.grid();
-    let places = grid.places(job);
-    let placed = placed_steps(grid, job, next[job]);
-    let mut begin = ready[job];
-    for step in placed..route.len() {
-        let op = route[step];
-        let head = begin.max(free[op.machine]);
-        lanes.set_head(places[step] as usize, head + 1);
-        begin = head + op.time;
+    let leg = grid.routes().leg(index);
+    if leg.position as usize >= grid.positions() {
+        return leg.position;
     }
+    let head = ready.max(free[leg.machine as usize]);
+    lanes.set_end(job, head + leg.time + 1);
+    fill_route(lanes, laid_out, free, index, ready);
+    leg.position
 }
 
-/// Sets the heads of all unplaced operations.
+/// Sets the heads of all unplaced operations, and the ends of next operations. Turns `next` from the indices of next
+/// legs into the positions of next operations.
 fn fill_jobs<L: StateLanes>(
     lanes: &mut L,
     laid_out: &LaidOut<L>,
-    next: &[u32],
+    next: &mut [u32],
     ready: &[u64],
     free: &[u64],
 )
     requires fill { CanFill L.GREATEST laid_out.now.shop laid_out.now.layout
         (rows_of laid_out.now.layout (L.heads lanes.old) (L.ends lanes.old)) }
-    requires of { IsWordAt laid_out.now.shop laid_out.now.layout next.now ready.now free.now }
-    ensures { HasFilled laid_out.now.shop laid_out.now.layout
-        (placement_at laid_out.now.layout next.now ready.now free.now)
+    requires ends { length (L.ends lanes.old) ≡ length laid_out.now.shop.jobs }
+    requires of { IsWordAt laid_out.now.shop laid_out.now.layout next.old ready.now free.now }
+    ensures heads { HasFilled laid_out.now.shop laid_out.now.layout
+        (placement_at laid_out.now.layout next.old ready.now free.now)
         (rows_of laid_out.now.layout (L.heads lanes.old) (L.ends lanes.old))
         (rows_of laid_out.now.layout (L.heads lanes.new) (L.ends lanes.new)) }
+    ensures nexts { (p : Placing) → IsPlacement laid_out.now.shop p
+        (placement_at laid_out.now.layout next.old ready.now free.now)
+        → AreNextsSet laid_out.now.shop laid_out.now.layout p (length laid_out.now.shop.jobs)
+        next.old next.new (L.ends lanes.old) (L.ends lanes.new) }
 {
     for job in 0..next.len() {
-        fill_job(lanes, laid_out, next, ready, free, job);
+        let index = next[job] as usize;
+        next[job] = fill_job(lanes, laid_out, free, job, index, ready[job]);
     }
 }
 
-/// Sets all heads and ends to those of the placement `next`, `ready` and `free`.
+/// Sets all heads and ends to those of the placement that `next`, `ready` and `free` tell. Turns `next` from the
+/// indices of next legs into the positions of next operations.
 pub(crate) fn fill_state<L: StateLanes>(
     lanes: &mut L,
     laid_out: &LaidOut<L>,
-    next: &[u32],
+    next: &mut [u32],
     ready: &[u64],
     free: &[u64],
 )
     requires room { HasRoom laid_out.now.shop laid_out.now.layout (L.heads lanes.old)
-        (L.ends lanes.old) next.now }
-    requires of { IsWordAt laid_out.now.shop laid_out.now.layout next.now ready.now free.now }
+        (L.ends lanes.old) next.old }
+    requires of { IsWordAt laid_out.now.shop laid_out.now.layout next.old ready.now free.now }
     ensures { (w : List ℕ) → IsWord laid_out.now.shop w
         → IsPlacedAt laid_out.now.shop (placing laid_out.now.shop w) laid_out.now.layout
-        next.now ready.now free.now
+        next.old ready.now free.now
         → IsKeptInLanes L.GREATEST laid_out.now.shop w laid_out.now.layout
-        (rows_of laid_out.now.layout (L.heads lanes.new) (L.ends lanes.new)) next.now }
+        (rows_of laid_out.now.layout (L.heads lanes.new) (L.ends lanes.new)) next.new }
 {
-    let grid = laid_out.grid();
+    let _ = laid_out.grid();
     lanes.clear();
     fill_jobs(lanes, laid_out, next, ready, free);
-    set_ends(lanes, grid, next);
 }

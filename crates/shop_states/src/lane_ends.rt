@@ -1,7 +1,7 @@
-// Sets the ends of next operations in lanes.
+// Sets the end of a next operation in lanes.
 ghost use Rattle.std.specs.Prelude.{◌≡◌, ◌<◌, length};
 ghost use Rattle.shop_lanes.specs.Rows.{with_end};
-ghost use Rattle.shop_states.specs.inner.LaneEnds.{AreEndsOf, CanKeepEnds, HasEnds, end_at};
+ghost use Rattle.shop_states.specs.inner.LaneEnds.{CanKeepEnds, end_at};
 ghost use Rattle.shop_layout.specs.Lanes.{rows_of};
 
 use shop_lanes::StateLanes;
@@ -37,19 +37,4 @@ pub(crate) fn set_end_of<L: StateLanes>(lanes: &mut L, grid: &Grid<L>, next: &[u
 {
     let end = end_of(lanes, grid, next, job);
     lanes.set_end(job, end);
-}
-
-/// Sets the end of each job's next operation.
-pub(crate) fn set_ends<L: StateLanes>(lanes: &mut L, grid: &Grid<L>, next: &[u32])
-    requires keep { CanKeepEnds L.GREATEST grid.now next.now
-        (rows_of grid.now (L.heads lanes.old) (L.ends lanes.old)) }
-    requires times { length grid.now.times ≡ length (L.heads lanes.old) }
-    ensures beside { HasEnds (rows_of grid.now (L.heads lanes.old) (L.ends lanes.old))
-        (rows_of grid.now (L.heads lanes.new) (L.ends lanes.new)) }
-    ensures ends { AreEndsOf L.GREATEST next.now
-        (rows_of grid.now (L.heads lanes.new) (L.ends lanes.new)) }
-{
-    for job in 0..next.len() {
-        set_end_of(lanes, grid, next, job);
-    }
 }

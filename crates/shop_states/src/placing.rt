@@ -1,30 +1,26 @@
-// Places the operations of a word, in the order of its jobs.
+// Places the operations of a word, in the order of its jobs. What is kept of a job is the index of its next leg, since
+// the legs of a route lie side by side in memory: its first unplaced operation, or the end of its route.
 ghost use Rattle.std.specs.Prelude.{◌≡◌, ℕ, ◌<◌, ◌≤◌, length, slice_index, take};
 ghost use Rattle.shop_model.specs.Word.{IsWord, none_placed, placing};
-ghost use Rattle.shop_layout.specs.Positions.{IsLaidOut};
 ghost use Rattle.shop_states.specs.inner.PlacedNexts.{AreBegun, IsPlacedAt};
 
 use shop_lanes::StateLanes;
 use shop_layout::LaidOut;
 
-/// Puts each job at the first step of its route, ready at its release.
-fn begin_jobs<L: StateLanes>(laid_out: &LaidOut<L>, next: &mut [u32], ready: &mut [u64])
-    requires next { length next.old ≡ length laid_out.now.shop.jobs }
+/// Puts each job at the first leg of its route, ready at its release.
+fn begin_jobs<L: StateLanes>(laid_out: &LaidOut<L>, next_legs: &mut [u32], ready: &mut [u64])
+    requires next { length next_legs.old ≡ length laid_out.now.shop.jobs }
     requires ready { length ready.old ≡ length laid_out.now.shop.jobs }
-    ensures laid { IsLaidOut laid_out.now.shop laid_out.now.layout }
-    ensures begun { AreBegun laid_out.now.shop laid_out.now.layout
-        (length laid_out.now.shop.jobs) next.new ready.new }
+    ensures { AreBegun laid_out.now.shop laid_out.now.layout
+        (length laid_out.now.shop.jobs) next_legs.new ready.new }
 {
     let instance = laid_out.instance();
     let grid = laid_out.grid();
-    for job in 0..next.len() {
-        let places = grid.places(job);
-        next[job] = if places.len() > 0 {
-            places[0]
-        } else {
-            grid.end()
-        };
+    let mut first: usize = 0;
+    for job in 0..next_legs.len() {
+        next_legs[job] = first as u32;
         ready[job] = instance.release(job);
+        first += grid.places(job).len() + 1;
     }
 }
 
@@ -38,47 +34,46 @@ fn free_machines(free: &mut [u64])
     }
 }
 
-/// Writes the placement of the empty word into `next`, `ready` and `free`.
+/// Writes the placement of the empty word into `next_legs`, `ready` and `free`.
 pub(crate) fn place_none<L: StateLanes>(
     laid_out: &LaidOut<L>,
-    next: &mut [u32],
+    next_legs: &mut [u32],
     ready: &mut [u64],
     free: &mut [u64],
 )
-    requires next { length next.old ≡ length laid_out.now.shop.jobs }
+    requires next { length next_legs.old ≡ length laid_out.now.shop.jobs }
     requires ready { length ready.old ≡ length laid_out.now.shop.jobs }
     requires free { length free.old ≡ laid_out.now.shop.machines }
     ensures { IsPlacedAt laid_out.now.shop (none_placed laid_out.now.shop) laid_out.now.layout
-        next.new ready.new free.new }
+        next_legs.new ready.new free.new }
 {
-    begin_jobs(laid_out, next, ready);
+    begin_jobs(laid_out, next_legs, ready);
     free_machines(free);
 }
 
 /// Places the operations of the word `path` from entry `from` on. The operations of earlier entries are placed already.
 pub(crate) fn place_from<L: StateLanes>(
     laid_out: &LaidOut<L>,
-    next: &mut [u32],
+    next_legs: &mut [u32],
     ready: &mut [u64],
     free: &mut [u64],
     path: &[u16],
     from: usize,
 )
     requires before { IsPlacedAt laid_out.now.shop (placing laid_out.now.shop (take from path.now))
-        laid_out.now.layout next.old ready.old free.old }
+        laid_out.now.layout next_legs.old ready.old free.old }
     requires within { from ≤ length path.now }
     requires word { IsWord laid_out.now.shop path.now }
     ensures { IsPlacedAt laid_out.now.shop (placing laid_out.now.shop path.now) laid_out.now.layout
-        next.new ready.new free.new }
+        next_legs.new ready.new free.new }
 {
-    let grid = laid_out.grid();
-    let routes = grid.routes();
+    let routes = laid_out.grid().routes();
     for index in from..path.len() {
         let job = path[index] as usize;
-        let position = next[job] as usize;
-        let machine = routes.machine(position) as usize;
-        let end = ready[job].max(free[machine]) + routes.time(position);
-        next[job] = grid.next_behind(position);
+        let leg = routes.leg(next_legs[job] as usize);
+        let machine = leg.machine as usize;
+        let end = ready[job].max(free[machine]) + leg.time;
+        next_legs[job] += 1;
         ready[job] = end;
         free[machine] = end;
     }

@@ -11,15 +11,15 @@ use Rattle.shop_states.specs.inner.PlacedNexts.{IsPlacedAt}
 
 pub record HasRoomOf (shop : Shop) (b : Beginning) : Type 0 where
   pub entries : length b.path.items ≡ operation_count shop
-  pub next_jobs : length b.next.items ≡ length shop.jobs
+  pub next_jobs : length b.next_legs.items ≡ length shop.jobs
   pub jobs_ready : length b.ready.items ≡ length shop.jobs
   pub machines_free : length b.free.items ≡ shop.machines
 
 pub record IsBeginningOf (shop : Shop) (l : LayoutState) (b : Beginning) : Type 0 where
   pub room : length b.path.items ≡ operation_count shop
   pub within : b.len ≤ length b.path.items
-  pub placed : IsPlacedAt shop (placing shop (take b.len b.path.items)) l b.next.items b.ready.items
-      b.free.items
+  pub placed : IsPlacedAt shop (placing shop (take b.len b.path.items)) l b.next_legs.items
+      b.ready.items b.free.items
 
 pub record Begins (w : List ℕ) (b : Beginning) : Type 0 where
   pub within : b.len ≤ length w

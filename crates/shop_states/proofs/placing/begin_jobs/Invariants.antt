@@ -1,5 +1,10 @@
+use Rattle.std.proofs.Common.{◌≡◌}
+use Rattle.shop_layout.specs.Legs.{leg_index}
 use Rattle.shop_states.specs.inner.PlacedNexts.{AreBegun}
 use Rattle.shop_states.proofs.placing.begin_jobs.Given as goal
 
 abbrev pub invariant-loop-job : goal.invariant-loop-job
-invariant-loop-job g l = AreBegun l.laid_out.shop l.laid_out.layout l.job l.next l.ready
+invariant-loop-job g l = record {
+  begun : AreBegun l.laid_out.shop l.laid_out.layout l.job l.next_legs l.ready;
+  first_is : l.first ≡ leg_index l.laid_out.layout l.job 0;
+}

@@ -5,7 +5,8 @@ use Rattle.shop_states.proofs.dispatchers.LaidOutDispatchingState.fill.Goals as 
 
 pub returns-clause-state : goal.returns-clause-state
 returns-clause-state g c =
-    let nexts = written_vec c.args.state.now.next c.as_mut_slice-next.result.now c.place_word.new.next
-    c.as_mut_slice-next.ensures.value (c.place_word.ensures.placed.are_next.jobs
+    let kept = c.fill_state.ensures c.args.path.now c.requires.word c.place_word.ensures.placed
+    in let nexts = written_vec c.args.state.now.next c.as_mut_slice-next.result.now c.fill_state.new.next
+    c.as_mut_slice-next.ensures.value (kept.are_next.jobs
     ∙ (sym c.requires.slot.jobs_with_nexts ∙ sym (ap length c.as_mut_slice-next.ensures.value)))
-    in kept_read refl nexts (c.fill_state.ensures c.args.path.now c.requires.word c.place_word.ensures.placed)
+    in kept_read refl nexts kept

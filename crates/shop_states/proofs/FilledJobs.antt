@@ -1,0 +1,140 @@
+-- The next operations that a fill finds, and their ends.
+use Rattle.std.proofs.Common.{◌≡◌, ℕ, ◌+◌, ◌≤◌, ◌<◌, max, inl, inr, List, length, get_or, set, refl, sym, ◌∙◌, ap}
+use Rattle.std.proofs.Common.{arith, subst}
+use Rattle.std.proofs.lemmas.Bool.{cases_eq}
+use Rattle.std.proofs.lemmas.Grind.{get_or-set_at}
+use Rattle.std.proofs.lemmas.List.{get_or-set_other, length-set}
+use Rattle.shop_lanes.specs.Rows.{Rows}
+use Rattle.shop_model.specs.Placements.{PlacementState, IsPlacement}
+use Rattle.shop_model.specs.Shop.{Shop, IsOperation, machine_of, route_of}
+use Rattle.shop_model.specs.Word.{Placing, placing}
+use Rattle.shop_model.proofs.Unders.{after_word}
+use Rattle.shop_bound.specs.Conflicts.{next_end}
+use Rattle.shop_layout.specs.declared.legs.Leg.{Leg}
+use Rattle.shop_layout.specs.Legs.{all_legs, end_of, leg_index}
+use Rattle.shop_layout.specs.Positions.{LayoutState, first_position, place_or}
+use Rattle.shop_states.specs.inner.Fills.{AreNextsSet, CanFill, IsAtLeg, IsNextSet}
+use Rattle.shop_states.specs.inner.PlacedNexts.{IsWordAt, placement_at}
+use Rattle.shop_states.proofs.JobLegs.{leg_is, position_or, step_past, step_there}
+use Rattle.shop_states.proofs.PlacedNexts.{of_word_at, placement_is, steps_are}
+
+module _ {greatest : ℕ} {shop : Shop} {l : LayoutState} {rows : Rows} (can : CanFill greatest shop l rows) {j : ℕ}
+    (job : j < length shop.jobs) {s : PlacementState} {index ready : ℕ} {free : List ℕ}
+    (at : IsAtLeg shop l s j index ready free) {read : LayoutState} (same : read ≡ l) {leg : Leg}
+    (is : leg ≡ get_or (all_legs read) index (end_of 0)) {n : ℕ} (count : n ≡ length read.following)
+    (p : Placing) (placed : IsPlacement shop p s) where
+  within : p.steps j ≤ length (route_of shop j)
+  within = let of = at.of in let steps = of.placed.steps j job in let here = placed.steps j job in let most = of.fits j
+      in let counted = (after_word shop of.word of.fits).steps j in omega arith
+
+  at_step : index ≡ leg_index l j (p.steps j)
+  at_step = at.index_is ∙ ap (leg_index l j) (placed.steps j job)
+
+  position_is : leg.position ≡ place_or (first_position l shop.machines) l.places j (p.steps j)
+  position_is = position_or can.limits can.laid j job (p.steps j) within same at_step is
+
+  -- a job at the end of its route has none
+  pub none_left : n ≤ leg.position → {ends : List ℕ} → IsNextSet shop l p j leg.position ends ends
+  none_left above = record {
+    is = position_is;
+    long = refl;
+    next = λ op. absurd (
+        let past = step_past can.limits can.laid j job (p.steps j) within same at_step is count above in omega arith);
+    none = λ past. refl;
+    others = λ i ne. refl;
+  }
+
+  pub end_set : leg.position < n → {head : ℕ} → head ≡ max ready (get_or free leg.machine 0) → {old new : List ℕ}
+      → new ≡ set old j (head + leg.time + 1) → j < length old → IsNextSet shop l p j leg.position old new
+  end_set below {head} greater {old} {new} wrote there =
+      let op = step_there can.limits can.laid j job (p.steps j) within same at_step is count below
+      in let found = leg_is can.limits can.laid j job (p.steps j) within same at_step is op
+      in let m = machine_of shop j (p.steps j)
+      in let begins : ready ≡ p.ready j = at.ready_is ∙ placed.ready j job
+      in let frees : get_or free leg.machine 0 ≡ p.free m =
+      ap (λ (xs : List ℕ). get_or xs leg.machine 0) at.free_is
+      ∙ (ap (λ (i : ℕ). get_or s.free i 0) found.machine ∙ placed.free m (can.limits.on_machines j (p.steps j)))
+      in let time = found.time
+      in let v = head + leg.time + 1
+      in record {
+        is = position_is;
+        long = ap length wrote ∙ length-set old j v;
+        next = λ op. ap (λ (xs : List ℕ). get_or xs j 0) wrote
+            ∙ (get_or-set_at old j j v 0 refl there ∙ omega arith);
+        none = λ past. absurd (omega arith);
+        others = λ i ne. ap (λ (xs : List ℕ). get_or xs i 0) wrote ∙ get_or-set_other old j i v 0 ne;
+      }
+
+-- of no job so far
+pub nexts_begin : {shop : Shop} {l : LayoutState} {p : Placing} {nexts ends : List ℕ}
+    → AreNextsSet shop l p 0 nexts nexts ends ends
+nexts_begin = record {
+  jobs = refl;
+  long = refl;
+  are = λ j below. absurd (omega arith);
+  later = λ j above. refl;
+  next = λ j below. absurd (omega arith);
+  none = λ j past. refl;
+}
+
+-- of one more job
+module _ {shop : Shop} {l : LayoutState} {p : Placing} {n : ℕ} {old now before here : List ℕ}
+    (so_far : AreNextsSet shop l p n old now before here) (known : n < length old) where
+  pub nexts_more : {position : ℕ} {after : List ℕ} → IsNextSet shop l p n position here after
+      → AreNextsSet shop l p (n + 1) old (set now n position) before after
+  nexts_more {position} {after} one = record {
+    jobs = length-set now n position ∙ so_far.jobs;
+    long = one.long ∙ so_far.long;
+    are = λ j below. elim (cases_eq j n) [
+      | inl f ↦ get_or-set_at now n j position 0 f (let a = so_far.jobs in omega arith)
+          ∙ (one.is ∙ ap (λ (x : ℕ). place_or (first_position l shop.machines) l.places x (p.steps x)) (sym f))
+      | inr ne ↦ get_or-set_other now n j position 0 ne ∙ so_far.are j (omega arith)
+    ];
+    later = λ j above. get_or-set_other now n j position 0 (λ f. omega arith) ∙ so_far.later j (omega arith);
+    next = λ j below op. elim (cases_eq j n) [
+      | inl f ↦ (let op_n : IsOperation shop n (p.steps n) = subst (λ (x : ℕ). IsOperation shop x (p.steps x)) f op
+          in ap (λ (x : ℕ). get_or after x 0) f
+          ∙ (one.next op_n ∙ ap (λ (x : ℕ). next_end shop p x + 1) (sym f)))
+      | inr ne ↦ one.others j ne ∙ so_far.next j (omega arith) op
+    ];
+    none = λ j past. elim (cases_eq j n) [
+      | inl f ↦ (let past_n : length (route_of shop n) ≤ p.steps n =
+          subst (λ (x : ℕ). length (route_of shop x) ≤ p.steps x) f (past (omega arith))
+          in ap (λ (x : ℕ). get_or after x 0) f
+          ∙ (one.none past_n ∙ (so_far.none n (λ less. absurd (omega arith))
+          ∙ ap (λ (x : ℕ). get_or before x 0) (sym f))))
+      | inr ne ↦ one.others j ne ∙ so_far.none j (λ below. past (omega arith))
+    ];
+  }
+
+-- by what is kept of the jobs of a word
+module _ {shop : Shop} {l : LayoutState} {old ready free : List ℕ} (is : IsWordAt shop l old ready free) where
+  pub of_word : IsPlacement shop (placing shop is.word) (placement_at l old ready free)
+  of_word = placement_is is.word is.placed
+
+  module _ {n : ℕ} {now before here : List ℕ} (so_far : (p : Placing)
+      → IsPlacement shop p (placement_at l old ready free) → AreNextsSet shop l p n old now before here) where
+    abbrev word_so_far : AreNextsSet shop l (placing shop is.word) n old now before here
+    word_so_far = so_far (placing shop is.word) of_word
+
+    pub as_many_ends : length before ≡ length shop.jobs → length here ≡ length shop.jobs
+    as_many_ends many = word_so_far.long ∙ many
+
+    job_within : n < length old → n < length shop.jobs
+    job_within below = let jobs = is.placed.next_jobs in omega arith
+
+    pub at_leg : n < length old
+        → IsAtLeg shop l (placement_at l old ready free) n (get_or now n 0) (get_or ready n 0) free
+    at_leg below = record {
+      of = of_word_at is;
+      index_is = word_so_far.later n (omega arith) ∙ (is.placed.next_at n (job_within below)
+          ∙ ap (leg_index l n) (sym (steps_are is.word is.placed n (job_within below))));
+      ready_is = refl;
+      free_is = refl;
+    }
+
+    -- up to the last one
+    pub nexts_all : n ≡ length old → (p : Placing) → IsPlacement shop p (placement_at l old ready free)
+        → AreNextsSet shop l p (length shop.jobs) old now before here
+    nexts_all all p placed = subst (λ (x : ℕ). AreNextsSet shop l p x old now before here) (all ∙ is.placed.next_jobs)
+        (so_far p placed)

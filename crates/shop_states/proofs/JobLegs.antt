@@ -1,0 +1,121 @@
+-- The legs of a job's route, in the layout of its instance.
+use Rattle.std.proofs.Common.{◌≡◌, ℕ, zero, suc, ◌+◌, ◌*◌, ◌≤◌, ◌<◌, inl, inr, List, [], ◌∷◌, length, get_or, map}
+use Rattle.std.proofs.Common.{take, sym, ◌∙◌, ap, arith}
+use Rattle.std.specs.List.{flat_map}
+use Rattle.std.proofs.lemmas.Bool.{cases_lt}
+use Rattle.std.proofs.lemmas.List.{flat_map_more, length-append, length-map, take_more}
+use Rattle.shop_model.specs.Limits.{IsWithinLimits}
+use Rattle.shop_model.specs.Shop.{Shop, machine_of, route_of, time_of}
+use Rattle.shop_layout.specs.declared.legs.Leg.{Leg}
+use Rattle.shop_layout.specs.Legs.{all_legs, end_of, leg_index, leg_of, route_legs}
+use Rattle.shop_layout.specs.Positions.{IsLaidOut, LayoutState, first_position, place, place_or}
+use Rattle.shop_layout.proofs.LaidPlaces.{place_of}
+use Rattle.shop_layout.proofs.RouteLegs.{index_known, leg_behind, leg_here}
+use Rattle.shop_states.proofs.Followed.{place_past, place_there}
+
+-- leg k of job j is that of its step k
+pub record IsLegOf (shop : Shop) (l : LayoutState) (j k : ℕ) (leg : Leg) : Type 0 where
+  pub position : leg.position ≡ place l j k
+  pub machine : leg.machine ≡ machine_of shop j k
+  pub time : leg.time ≡ time_of shop j k
+
+module _ (l : LayoutState) where
+  abbrev legs_on : List ℕ → List Leg
+  legs_on = route_legs l.machines l.times (length l.following)
+
+  -- the legs of the next job begin behind the end of the route
+  pub next_first : (j : ℕ) → j < length l.places
+      → leg_index l (j + 1) 0 ≡ leg_index l j 0 + (length (get_or l.places j []) + 1)
+  next_first j known =
+      let places = get_or l.places j []
+      in let long : length (legs_on places) ≡ length places + 1 =
+      length-append (map (leg_of l.machines l.times) places) (end_of (length l.following) ∷ [])
+      ∙ ap (λ (n : ℕ). n + 1) (length-map places (leg_of l.machines l.times))
+      in let more : length (flat_map legs_on (take (j + 1) l.places))
+      ≡ length (flat_map legs_on (take j l.places)) + length (legs_on places) =
+      ap (λ (rows : List (List ℕ)). length (flat_map legs_on rows)) (take_more l.places j [] known)
+      ∙ (ap length (sym (flat_map_more legs_on [] (take j l.places) places))
+      ∙ length-append (flat_map legs_on (take j l.places)) (legs_on places))
+      in omega arith
+
+  first_few : ((j : ℕ) → length (get_or l.places j []) ≤ 100) → (j : ℕ) → j ≤ length l.places
+      → leg_index l j 0 ≤ 101 * j
+  first_few few zero known = omega arith
+  first_few few (suc j) known =
+      let before = first_few few j (omega arith)
+      in let more = next_first j (omega arith)
+      in let most = few j
+      in let one_more : suc j ≡ j + 1 = omega arith
+      in let same : leg_index l (suc j) 0 ≡ leg_index l (j + 1) 0 = ap (λ (i : ℕ). leg_index l i 0) one_more
+      in omega arith
+
+module _ {shop : Shop} (limits : IsWithinLimits shop) {l : LayoutState} (laid : IsLaidOut shop l) where
+  pub first_small : (j : ℕ) → j ≤ length shop.jobs → leg_index l j 0 < 200000
+  first_small j known =
+      let jobs = laid.jobs in let few = limits.jobs
+      in let a = first_few l (λ i. let b = laid.routes i in let c = limits.routes i in omega arith) j (omega arith)
+      in omega arith
+
+  module _ (j : ℕ) (known : j < length shop.jobs) (k : ℕ) (within : k ≤ length (route_of shop j)) where
+    pub leg_small : leg_index l j k < 300000
+    leg_small = let a = first_small j (omega arith) in let b = limits.routes j in omega arith
+
+    pub leg_known : leg_index l j k < length (all_legs l)
+    leg_known = let jobs = laid.jobs in let route = laid.routes j in index_known l j (omega arith) k (omega arith)
+
+    -- it is read from rows that are those of the layout
+    module _ {read : LayoutState} (same : read ≡ l) {index : ℕ} (at : index ≡ leg_index l j k) where
+      pub index_there : index < length (all_legs read)
+      index_there = let a = leg_known in let b = ap (λ (x : LayoutState). length (all_legs x)) same in omega arith
+
+      module _ {leg : Leg} (is : leg ≡ get_or (all_legs read) index (end_of 0)) where
+        found : leg ≡ get_or (all_legs l) (leg_index l j k) (end_of 0)
+        found = is ∙ (ap (λ (x : LayoutState). get_or (all_legs x) index (end_of 0)) same
+            ∙ ap (λ (i : ℕ). get_or (all_legs l) i (end_of 0)) at)
+
+        pub leg_is : k < length (route_of shop j) → IsLegOf shop l j k leg
+        leg_is op =
+            let jobs = laid.jobs
+            in let route = laid.routes j
+            in let here : leg ≡ leg_of l.machines l.times (place l j k) =
+            found ∙ leg_here l j (omega arith) k (end_of 0) (omega arith)
+            in let a = place_of shop limits l laid j k op
+            in let from = a.from in let to = a.to
+            in record {
+              position = ap (λ (x : Leg). x.position) here;
+              machine = ap (λ (x : Leg). x.machine) here
+                  ∙ laid.machines_at.at (machine_of shop j k) (place l j k) (limits.on_machines j k) (omega arith)
+                  (omega arith);
+              time = ap (λ (x : Leg). x.time) here ∙ a.time;
+            }
+
+        end_there : length (route_of shop j) ≤ k → leg.position ≡ first_position l shop.machines
+        end_there past =
+            let jobs = laid.jobs
+            in let route = laid.routes j
+            in ap (λ (x : Leg). x.position) (found ∙ leg_behind l j (omega arith) k (end_of 0) (omega arith))
+            ∙ laid.positions.following
+
+        pub position_or : leg.position ≡ place_or (first_position l shop.machines) l.places j k
+        position_or =
+            let route = laid.routes j
+            in elim (cases_lt k (length (route_of shop j))) [
+              | inl op ↦ (leg_is op).position
+                  ∙ sym (place_there l (first_position l shop.machines) j k (omega arith))
+              | inr past ↦ end_there past ∙ sym (place_past l (first_position l shop.machines) j k (omega arith))
+            ]
+
+        pub step_there : {n : ℕ} → n ≡ length read.following → leg.position < n → k < length (route_of shop j)
+        step_there count below = elim (cases_lt k (length (route_of shop j))) [
+          | inl op ↦ op
+          | inr past ↦ absurd (let a = end_there past in let b = laid.positions.following
+              in let c = ap (λ (x : LayoutState). length x.following) same in omega arith)
+        ]
+
+        pub step_past : {n : ℕ} → n ≡ length read.following → n ≤ leg.position → length (route_of shop j) ≤ k
+        step_past count above = elim (cases_lt k (length (route_of shop j))) [
+          | inl op ↦ absurd (let a = (leg_is op).position in let b = (place_of shop limits l laid j k op).within
+              in let c = laid.positions.following
+              in let d = ap (λ (x : LayoutState). length x.following) same in omega arith)
+          | inr past ↦ past
+        ]

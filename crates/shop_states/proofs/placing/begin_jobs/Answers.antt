@@ -1,0 +1,31 @@
+use Rattle.std.proofs.Common.{◌∙◌, ap, arith}
+use Rattle.shop_model.specs.Shop.{Shop, release_of}
+use Rattle.shop_states.proofs.JobLegs.{first_small}
+use Rattle.shop_states.proofs.PlacedNexts.{begins_behind, begun_more}
+use Rattle.shop_states.proofs.placing.begin_jobs.Goals as goal
+
+pub overflow_cast-next_legs : goal.overflow_cast-next_legs
+overflow_cast-next_legs g c =
+    let known = c.loop-job-test.true in let jobs = c.requires.next
+    in let long = c.loop-job.invariant.begun.next_jobs
+    in let small = first_small c.grid-grid.ensures.ready.limits c.grid-grid.ensures.ready.laid c.loop-job.job
+    (omega arith)
+    in let first = c.loop-job.invariant.first_is
+    in omega arith
+
+pub overflow_add-first-in-loop-job : goal.overflow_add-first-in-loop-job
+overflow_add-first-in-loop-job g c =
+    let known = c.loop-job-test.true in let jobs = c.requires.next
+    in let behind = (begins_behind c.grid-grid.ensures.ready.limits c.grid-grid.ensures.ready.laid (omega arith)
+    c.grid-grid.ensures.grid c.places.ensures c.loop-job.invariant.first_is).1
+    in omega arith
+
+pub loop-job-preserved : goal.loop-job-preserved
+loop-job-preserved g c =
+    let known = c.loop-job-test.true in let jobs = c.requires.next
+    in record {
+      begun = begun_more (omega arith) c.loop-job.invariant.begun c.loop-job.invariant.first_is
+          (c.release.ensures ∙ ap (λ (x : Shop). release_of x c.loop-job.job) c.instance-instance.ensures);
+      first_is = (begins_behind c.grid-grid.ensures.ready.limits c.grid-grid.ensures.ready.laid (omega arith)
+          c.grid-grid.ensures.grid c.places.ensures c.loop-job.invariant.first_is).0;
+    }
