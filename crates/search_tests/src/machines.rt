@@ -76,25 +76,19 @@ fn bounds_and_turns_of_schedules(rt: HostRuntime) {
     }
 }
 
-/// Adds the operations of a job on a machine, with their heads and this row of tails.
-fn add_triples(
+/// The operation of a step with its head, and its tail from this row of the job.
+fn triple_of(
     rt: &impl Abort,
     heads: &Heads,
     job: usize,
-    route: &[Op],
+    step: usize,
+    op: &Op,
     row: &[u64],
-    machine: usize,
-    triples: &mut Vec<Triple>,
-) {
-    for (step, op) in route.iter().enumerate() {
-        if op.machine == machine {
-            let head = heads.head(job, step).expect(rt, "a head");
-            let tail = *row.get(step).expect(rt, "a tail");
-            let time = op.time;
-            triples
-                .push(Triple { head, time, tail })
-                .expect(rt, "memory");
-        }
+) -> Triple {
+    Triple {
+        head: heads.head(job, step).expect(rt, "a head"),
+        time: op.time,
+        tail: *row.get(step).expect(rt, "a tail"),
     }
 }
 
@@ -107,8 +101,13 @@ fn on_machine(rt: &impl Abort, alloc: Global, instance: &Instance, machine: usiz
     let mut triples = Vec::new(alloc);
     for (job, row) in rows.iter().enumerate() {
         assert!(rt; job < instance.jobs());
-        let route = instance.route(job);
-        add_triples(rt, &heads, job, route, row, machine, &mut triples);
+        for (step, op) in instance.route(job).iter().enumerate() {
+            if op.machine == machine {
+                triples
+                    .push(triple_of(rt, &heads, job, step, op, row))
+                    .expect(rt, "memory");
+            }
+        }
     }
     triples
 }

@@ -13,7 +13,7 @@ use crate::dispatches::Dispatch;
 use crate::dispatching::{Candidate, Dispatching};
 use crate::fills::fill_state;
 use crate::machine_raises::MachineRaises;
-use crate::siblings::{Branching, bound_children};
+use crate::siblings::{Siblings, bound_children};
 use crate::states::{Scratch, State};
 use shop_lanes::StateLanes;
 use shop_layout::{Grid, LaidOut};
@@ -202,14 +202,14 @@ impl<'a, L: StateLanes> Dispatching<State<L>> for LaidOut<'a, L> {
             return None;
         }
         room.lanes.copy_from(&state.lanes);
-        let branching = Branching { candidates, bound };
+        let siblings = Siblings { candidates, bound };
         Some(bound_children(
             &mut room.lanes,
             &mut scratch.raises,
             scratch.ceilings.as_mut_slice(),
             self.grid(),
             state.next.as_slice(),
-            &branching,
+            &siblings,
         ))
     }
 

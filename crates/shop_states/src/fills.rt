@@ -134,6 +134,7 @@ pub(crate) fn fill_state<L: StateLanes>(
         → IsKeptInLanes L.GREATEST laid_out.now.shop w laid_out.now.layout
         (rows_of laid_out.now.layout (L.heads lanes.new) (L.ends lanes.new)) next.new }
 {
+    // its promise: the lanes hold every head and end
     let _ = laid_out.grid();
     lanes.clear();
     fill_jobs(lanes, laid_out, next, ready, free);

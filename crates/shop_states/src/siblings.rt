@@ -243,9 +243,9 @@ fn positions_of<L: StateLanes>(grid: &Grid<L>, machine: usize) -> (usize, usize)
     (8 * first, 8 * behind)
 }
 
-/// What a word branches into, its candidates, with the bound of the word itself.
+/// The candidates of a word, and the bound of the word itself.
 #[derive(Drop)]
-pub(crate) struct Branching<'c> {
+pub(crate) struct Siblings<'c> {
     pub candidates: &'c [Candidate],
     pub bound: u64,
 }
@@ -268,34 +268,34 @@ pub(crate) fn bound_children<L: StateLanes>(
     ceilings: &mut [u64],
     grid: &Grid<L>,
     next: &[u32],
-    branching: &Branching,
+    siblings: &Siblings,
 ) -> u64
     requires at_rest { AreEmpty raises.old }
     requires room { length ceilings.old ≡ length raises.old }
-    requires some { 0 < length branching.now.candidates.now }
+    requires some { 0 < length siblings.now.candidates.now }
     requires can { CanBoundChildren L.GREATEST grid.now
         (rows_of grid.now (L.heads lanes.old) (L.ends lanes.old)) next.now
-        branching.now.candidates.now branching.now.bound (length raises.old) }
+        siblings.now.candidates.now siblings.now.bound (length raises.old) }
     ensures known { (shop : Shop) (w : List ℕ) → IsKeptInLanes L.GREATEST shop w grid.now
         (rows_of grid.now (L.heads lanes.old) (L.ends lanes.old)) next.now
-        → AreSiblings shop w branching.now.candidates.now → branching.now.bound ≡ lb shop w
-        → (i : ℕ) → i < length branching.now.candidates.now
-        → AreChildCeilings shop w grid.now (job_at branching.now.candidates.now i) ceilings.new }
+        → AreSiblings shop w siblings.now.candidates.now → siblings.now.bound ≡ lb shop w
+        → (i : ℕ) → i < length siblings.now.candidates.now
+        → AreChildCeilings shop w grid.now (job_at siblings.now.candidates.now i) ceilings.new }
     ensures settled { (shop : Shop) (w : List ℕ) → IsKeptInLanes L.GREATEST shop w grid.now
         (rows_of grid.now (L.heads lanes.old) (L.ends lanes.old)) next.now
-        → AreSiblings shop w branching.now.candidates.now → branching.now.bound ≡ lb shop w
-        → (i least : ℕ) → i < length branching.now.candidates.now
+        → AreSiblings shop w siblings.now.candidates.now → siblings.now.bound ≡ lb shop w
+        → (i least : ℕ) → i < length siblings.now.candidates.now
         → IsAdvancing L.GREATEST shop w grid.now
         (rows_of grid.now (L.heads lanes.old) (L.ends lanes.old)) next.now
-        (job_at branching.now.candidates.now i) least
-        → result ≤ least → lb shop (w ++ job_at branching.now.candidates.now i ∷ []) ≡ least }
+        (job_at siblings.now.candidates.now i) least
+        → result ≤ least → lb shop (w ++ job_at siblings.now.candidates.now i ∷ []) ≡ least }
     ensures long { length ceilings.new ≡ length ceilings.old }
     ensures positions { length (L.heads lanes.new) ≡ length (L.heads lanes.old) }
     ensures ends { L.ends lanes.new ≡ L.ends lanes.old }
     ensures machines { length raises.new ≡ length raises.old }
     ensures rest { AreEmpty raises.new }
 {
-    let (candidates, bound) = (branching.candidates, branching.bound);
+    let (candidates, bound) = (siblings.candidates, siblings.bound);
     let routes = grid.routes();
     let latest = latest_of(candidates, lanes, &routes, next);
     let last = next[latest.job] as usize;
