@@ -1,4 +1,5 @@
-// Tests of bounds, of desks, of dispatches in copies, of branching, of the search of one piece and of verdicts.
+// Tests of bounds, of desks, of filled states, of dispatches in copies, of branching, of the search of one piece and of
+// verdicts.
 #![tactic(auto)]
 
 #[cfg(test)]
@@ -9,6 +10,8 @@ mod branches;
 mod copies;
 #[cfg(test)]
 mod desks;
+#[cfg(test)]
+mod fills;
 #[cfg(test)]
 mod instances;
 #[cfg(test)]
