@@ -13,7 +13,7 @@ use std::process::Abort;
 
 /// Makes the word of the jobs of `path`.
 fn word_along(rt: &impl Abort, alloc: Global, path: &[u16]) -> Word
-    ensures { result.now ≡ path.now }
+    ensures { result ≡ path.now }
 {
     let mut jobs = Vec::new(alloc);
     for &job in path {
@@ -70,6 +70,7 @@ fn assert_fills<D: Dispatching<S>, S: Drop>(
     let mut scratch = dispatcher.scratch(alloc).expect(rt, "memory");
     let mut state = dispatcher.slot(alloc).expect(rt, "memory");
     let mut path = Vec::new(alloc);
+    instance.keeps_limits();
     let last = instance.jobs().saturating_sub(1) as u32;
     for _ in 0..instance.operations() {
         let job = numbers.up_to(last) as u16;
