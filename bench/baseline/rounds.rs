@@ -7,11 +7,15 @@ use crate::layout::{Layout, blocks_needed};
 use crate::open::{NO_JOB, Node, Open, Paths};
 use crate::sheets::Sheet;
 use crate::walking::Walker;
+use std::cmp::Reverse;
 use std::collections::BTreeMap;
-use std::thread;
+use std::{mem, thread};
 
 /// A round has at most this many pieces.
 const PIECES: usize = 256;
+/// Up to how many operations an instance has its machines ordered, and by the bounds of how many words.
+const MOST_ORDERED: usize = 400;
+const WORDS: usize = 4;
 
 #[derive(Clone, Copy, PartialEq, Eq)]
 pub enum Order {
@@ -67,6 +71,20 @@ impl<T: Lane> Run<T> {
         }
     }
 
+    /// Some words of the next round, taken evenly.
+    fn some_words(&mut self, plan: &Plan, paths: &Paths) -> Vec<Vec<u16>> {
+        let front = self.open.take(PIECES * plan.piece);
+        let words = front.iter().step_by(front.len() / WORDS + 1).map(|node| {
+            let (beginning, last) = node.parts(paths);
+            [beginning, last.as_slice()].concat()
+        });
+        let words = words.collect();
+        for node in front.into_iter().rev() {
+            self.open.push(node);
+        }
+        words
+    }
+
     /// One round.
     fn round<const BLOCKS: usize>(&mut self, plan: &Plan, bound: T, walker: &mut Walker<T, BLOCKS>, crew: &Crew<T>) {
         let nodes = self.open.take(PIECES * plan.piece);
@@ -112,28 +130,73 @@ impl<T: Lane> Run<T> {
     }
 }
 
-/// The answer of a plan on an instance, with lanes that are wide enough for it, and so many blocks of them a machine.
-fn answer_in<T: Lane, const BLOCKS: usize>(instance: &Instance, plan: &Plan) -> Answer {
-    let layout = Layout::<T, BLOCKS>::new(instance);
+/// A layout in which machines with the greatest bounds after these words come first, since they close most children. Of
+/// large instances they stand as they are.
+fn layout_for<T: Lane, const BLOCKS: usize>(instance: &Instance, words: &[Vec<u16>]) -> Layout<T, BLOCKS> {
+    let as_they_are: Vec<usize> = (0..instance.machines).collect();
+    let layout = Layout::new(instance, &as_they_are);
+    if instance.size() > MOST_ORDERED {
+        return layout;
+    }
+    let mut walker = Walker::new(layout);
+    let mut keys = vec![0; instance.machines];
+    for word in words {
+        for (key, bound) in keys.iter_mut().zip(walker.machine_bounds(word)) {
+            *key += bound.number();
+        }
+    }
+    let mut order = as_they_are;
+    order.sort_by_key(|machine| Reverse(keys[*machine]));
+    let mut ranks = vec![0; instance.machines];
+    for (rank, machine) in order.into_iter().enumerate() {
+        ranks[machine] = rank;
+    }
+    Layout::new(instance, &ranks)
+}
+
+/// Searches rounds until no node is open or so many are done, with so many threads beside this one. Tells how many were.
+fn search<T: Lane, const BLOCKS: usize>(
+    run: &mut Run<T>,
+    plan: &Plan,
+    rounds: u64,
+    others: usize,
+    layout: &Layout<T, BLOCKS>,
+    paths: &mut Paths,
+) -> u64 {
     let mut walker = Walker::new(layout.clone());
-    let mut run = Run::new(instance, plan.order);
-    let mut paths = Paths::default();
-    run.begin(walker.opening_bound(), &mut paths);
     let round = Round { nodes: Vec::new(), budget: 0, piece: 1, best: run.best, bound: run.best };
-    let crew = Crew::new(plan.workers - 1, Task { round, paths });
-    let mut rounds = 0;
+    let crew = Crew::new(others, Task { round, paths: mem::take(paths) });
+    let mut done = 0;
     thread::scope(|scope| {
-        for _ in 1..plan.workers {
+        for _ in 0..others {
             scope.spawn(|| crew.serve(Walker::new(layout.clone())));
         }
-        while rounds < plan.rounds
+        while done < rounds
             && let Some(bound) = run.open.least_bound()
         {
             run.round(plan, bound, &mut walker, &crew);
-            rounds += 1;
+            done += 1;
         }
         crew.end();
     });
+    *paths = crew.task.into_inner().expect("no worker panics").paths;
+    done
+}
+
+/// The answer of a plan on an instance, with lanes that are wide enough for it, and so many blocks of them a machine. The
+/// first round has the empty word alone: where machines are ordered, those behind it have a layout for the words of the
+/// second.
+fn answer_in<T: Lane, const BLOCKS: usize>(instance: &Instance, plan: &Plan) -> Answer {
+    let mut run = Run::new(instance, plan.order);
+    let mut paths = Paths::default();
+    let mut layout = layout_for::<T, BLOCKS>(instance, &[Vec::new()]);
+    run.begin(Walker::new(layout.clone()).opening_bound(), &mut paths);
+    let mut rounds = 0;
+    if instance.size() <= MOST_ORDERED {
+        rounds = search(&mut run, plan, plan.rounds.min(1), 0, &layout, &mut paths);
+        layout = layout_for(instance, &run.some_words(plan, &paths));
+    }
+    rounds += search(&mut run, plan, plan.rounds - rounds, plan.workers - 1, &layout, &mut paths);
     let bound = run.open.least_bound().unwrap_or(run.best);
     Answer {
         word: run.word,

@@ -9,8 +9,9 @@ ghost use Rattle.shop_states.specs.States.{TellsBoundBelow};
 
 use crate::long_machines::{LATEST, SHAPES, made};
 use crate::numbers::Numbers;
+use crate::shuffled_layouts::shuffled;
 use shop_bound::lower_bound;
-use shop_layout::{LaneLayout, Layout};
+use shop_layout::LaneLayout;
 use shop_model::{Instance, Job, Op, Word};
 use shop_states::{Candidate, Dispatching};
 use std::alloc::Global;
@@ -233,7 +234,7 @@ fn assert_walk<D: Dispatching<S>, S: Drop>(
     }
 }
 
-/// Walks a random word in the lanes of the instance's layout.
+/// Walks a random word in the lanes of the instance's layout, where its machines stand in a random order.
 fn assert_walk_in_lanes(
     rt: &impl Abort,
     alloc: Global,
@@ -241,7 +242,7 @@ fn assert_walk_in_lanes(
     instance: &Instance,
     manner: Manner,
 ) {
-    let layout = Layout::of(alloc, instance).expect(rt, "memory");
+    let layout = shuffled(rt, alloc, numbers, instance);
     match layout.lanes() {
         LaneLayout::In16By2(laid_out) => {
             assert_walk(rt, alloc, numbers, laid_out, instance, manner)

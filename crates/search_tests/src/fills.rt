@@ -4,11 +4,12 @@ ghost use Rattle.std.specs.Prelude.{◌≡◌};
 
 use crate::long_machines::{LATEST, SHAPES, made};
 use crate::numbers::Numbers;
-use shop_layout::{LaneLayout, Layout};
+use crate::shuffled_layouts::shuffled;
+use shop_layout::LaneLayout;
 use shop_model::{Instance, Word, fits, is_full};
 use shop_nodes::conflict;
 use shop_states::Dispatching;
-use std::alloc::Global;
+use std::alloc::{AllocGlobal, Global};
 use std::process::Abort;
 
 /// Makes the word of the jobs of `path`.
@@ -24,8 +25,7 @@ fn word_along(rt: &impl Abort, alloc: Global, path: &[u16]) -> Word
 
 /// Tells whether `path` is a word. Fills `state` from it then, and asserts that the state lists its conflict set.
 fn assert_fill<D: Dispatching<S>, S: Drop>(
-    rt: &impl Abort,
-    alloc: Global,
+    rt: &(impl Abort + AllocGlobal),
     dispatcher: &D,
     instance: &Instance,
     scratch: &mut D::Scratch,
@@ -38,6 +38,7 @@ fn assert_fill<D: Dispatching<S>, S: Drop>(
     ensures scratch { D.IsScratch dispatcher.now scratch.new }
     ensures state { D.IsSlot dispatcher.now state.new }
 {
+    let alloc = rt.alloc();
     let word = word_along(rt, alloc, path);
     if !fits(instance, &word) {
         return false;
@@ -59,14 +60,14 @@ fn assert_fill<D: Dispatching<S>, S: Drop>(
 
 /// Fills a state from each beginning of a random word.
 fn assert_fills<D: Dispatching<S>, S: Drop>(
-    rt: &impl Abort,
-    alloc: Global,
+    rt: &(impl Abort + AllocGlobal),
     numbers: &mut Numbers,
     dispatcher: &D,
     instance: &Instance,
 )
     requires { D.shop dispatcher.now ≡ instance.now }
 {
+    let alloc = rt.alloc();
     let mut scratch = dispatcher.scratch(alloc).expect(rt, "memory");
     let mut state = dispatcher.slot(alloc).expect(rt, "memory");
     let mut path = Vec::new(alloc);
@@ -76,35 +77,26 @@ fn assert_fills<D: Dispatching<S>, S: Drop>(
         let job = numbers.up_to(last) as u16;
         path.push(job).expect(rt, "memory");
         let along = path.as_slice();
-        let is_word = assert_fill(
-            rt,
-            alloc,
-            dispatcher,
-            instance,
-            &mut scratch,
-            &mut state,
-            along,
-        );
+        let is_word = assert_fill(rt, dispatcher, instance, &mut scratch, &mut state, along);
         if !is_word {
             path.pop();
         }
     }
 }
 
-/// Fills states in the lanes of the instance's layout.
+/// Fills states in the lanes of the instance's layout, where its machines stand in a random order.
 fn assert_fills_in_lanes(
-    rt: &impl Abort,
-    alloc: Global,
+    rt: &(impl Abort + AllocGlobal),
     numbers: &mut Numbers,
     instance: &Instance,
 ) {
-    let layout = Layout::of(alloc, instance).expect(rt, "memory");
+    let layout = shuffled(rt, rt.alloc(), numbers, instance);
     match layout.lanes() {
-        LaneLayout::In16By2(laid_out) => assert_fills(rt, alloc, numbers, laid_out, instance),
-        LaneLayout::In16By3(laid_out) => assert_fills(rt, alloc, numbers, laid_out, instance),
-        LaneLayout::In16(laid_out) => assert_fills(rt, alloc, numbers, laid_out, instance),
-        LaneLayout::In32(laid_out) => assert_fills(rt, alloc, numbers, laid_out, instance),
-        LaneLayout::In64(laid_out) => assert_fills(rt, alloc, numbers, laid_out, instance),
+        LaneLayout::In16By2(laid_out) => assert_fills(rt, numbers, laid_out, instance),
+        LaneLayout::In16By3(laid_out) => assert_fills(rt, numbers, laid_out, instance),
+        LaneLayout::In16(laid_out) => assert_fills(rt, numbers, laid_out, instance),
+        LaneLayout::In32(laid_out) => assert_fills(rt, numbers, laid_out, instance),
+        LaneLayout::In64(laid_out) => assert_fills(rt, numbers, laid_out, instance),
     }
 }
 
@@ -114,7 +106,7 @@ fn candidates_of_filled_states(rt: HostRuntime) {
     for shape in &SHAPES {
         for latest in &LATEST {
             let instance = made(&rt, rt.alloc(), &mut numbers, shape, *latest);
-            assert_fills_in_lanes(&rt, rt.alloc(), &mut numbers, &instance);
+            assert_fills_in_lanes(&rt, &mut numbers, &instance);
         }
     }
 }

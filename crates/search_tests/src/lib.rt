@@ -23,6 +23,8 @@ mod numbers;
 #[cfg(test)]
 mod searches;
 #[cfg(test)]
+mod shuffled_layouts;
+#[cfg(test)]
 mod verdicts;
 #[cfg(test)]
 mod words;

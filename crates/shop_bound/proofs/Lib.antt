@@ -23,6 +23,7 @@ pub mod HeadsStay
 pub mod LowerBounds
 pub mod PlacedEnds
 pub mod Raised
+pub mod Renumbered
 pub mod Routes
 pub mod Rows
 pub mod SmallJobs

@@ -1,22 +1,24 @@
 -- The lower bound of a word, machine by machine.
-use Rattle.std.proofs.Common.{◌≡◌, ◌≤◌, ◌<◌, ◌+◌, ℕ, max, List, [], length, get_or, set, subst, sym, ◌∙◌, add-one, ap, arith, refl}
+use Rattle.std.proofs.Common.{◌≡◌, ◌≤◌, ◌<◌, ◌+◌, ℕ, zero, suc, max, List, [], ◌∷◌, length, map, get_or, set, All}
+use Rattle.std.proofs.Common.{subst, sym, ◌∙◌, add-one, ap, arith, refl}
 use Rattle.std.specs.Prelude.{Vec, vec_capacity}
 use Rattle.std.specs.declared.alloc.Global.{Global}
-use Rattle.std.proofs.lemmas.List.{length-set}
+use Rattle.std.proofs.lemmas.List.{length-set, get_or-map}
 use Rattle.shop_bound.specs.declared.triples.Triple.{Triple}
 use Rattle.shop_model.specs.Limits.{IsWithinLimits}
 use Rattle.shop_model.specs.Shop.{Shop, greatest_below}
 use Rattle.shop_model.specs.Placements.{PlacementState, IsPlacement}
 use Rattle.shop_model.specs.Word.{IsWord, Placing, placing}
 use Rattle.shop_bound.specs.Bound.{waiting, triples_on, lb}
-use Rattle.shop_bound.specs.OneMachine.{one}
+use Rattle.shop_bound.specs.OneMachine.{one, IsSmall}
 use Rattle.shop_bound.specs.declared.lower.BoundRoom.{BoundRoom}
 use Rattle.shop_bound.specs.inner.BoundRooms.{IsRoomFor}
-use Rattle.shop_bound.specs.inner.MachineLists.{rows_in, visits_in, KeepRoom}
-use Rattle.shop_bound.specs.inner.Unplaced.{bound_on}
+use Rattle.shop_bound.specs.inner.MachineLists.{rows_in, visits_in, HaveRoom, KeepRoom}
+use Rattle.shop_bound.specs.inner.Unplaced.{bound_on, AreUnplaced}
 pub use Rattle.shop_model.proofs.Greatest.{greatest_below-both, greatest_below-equal}
 use Rattle.shop_bound.proofs.MachineListTurns.{row_read, row_other, keeps_room, keep_have_room}
 use Rattle.shop_bound.proofs.PlacedEnds.{placed_end-free}
+use Rattle.shop_bound.proofs.SmallSums.{triples_small}
 
 -- the greatest of what machines and what waits for them say is the bound of the word
 pub lower_bound_is : (shop : Shop) (w : List ℕ) → IsWithinLimits shop → IsWord shop w
@@ -70,3 +72,45 @@ module _ (shop : Shop) (s : PlacementState) (n b : ℕ) (r : BoundRoom) (before 
       row_same : (m : ℕ) → n < m → get_or (rows_in new.lists.items) m [] ≡ get_or (rows_in r.lists.items) m []
       row_same m above = ap (λ (ls : List (Vec Triple Global)). get_or (rows_in ls) m []) lists
           ∙ row_other r.lists.items n now after here read m (λ e. absurd (omega arith))
+
+-- a value of a list, where the function has it at the element
+mapped_at : {A : Type 0} (f : A → ℕ) (xs : List A) (i v : ℕ) → i < length xs → ((d : A) → f (get_or xs i d) ≡ v)
+    → get_or (map f xs) i 0 ≡ v
+mapped_at f [] i v here h = absurd (omega arith)
+mapped_at f (x ∷ xs) zero v here h = h x
+mapped_at f (x ∷ xs) (suc i) v here h = mapped_at f xs i v (omega arith) h
+
+-- the lists of what waits for each machine can be bounded, and their bounds are those of the machines
+module _ (shop : Shop) (limits : IsWithinLimits shop) (w : List ℕ) (word : IsWord shop w) (s : PlacementState)
+    (is : IsPlacement shop (placing shop w) s) (lists : List (Vec Triple Global)) (room : HaveRoom shop lists)
+    (unplaced : AreUnplaced shop s (rows_in lists)) where
+  row_of : (m : ℕ) (d : Vec Triple Global) → m < shop.machines → (get_or lists m d).items ≡ get_or (rows_in lists) m []
+  row_of m d known =
+      sym (get_or-map (λ v. v.items) lists m d [] (let machines = room.machines in omega arith))
+
+  left_on : (m : ℕ) (d : Vec Triple Global) → m < shop.machines
+      → (get_or lists m d).items ≡ triples_on m (waiting shop (placing shop w))
+  left_on m d known = row_of m d known ∙ unplaced (placing shop w) is m known
+
+  pub lists_few : (r : ℕ) → ((m : ℕ) → m < shop.machines → visits_in shop m ≤ r)
+      → ((m : ℕ) → m < shop.machines → length (get_or (rows_in lists) m []) ≤ visits_in shop m)
+      → All (λ list. length list.items ≤ r) lists
+  lists_few r schedule few m d here =
+      let known : m < shop.machines = (let machines = room.machines in omega arith)
+      in let a = schedule m known
+      in let b = few m known
+      in let c = ap (λ (ts : List Triple). length ts) (row_of m d known) in omega arith
+
+  pub lists_small : All (λ list. IsSmall list.items) lists
+  lists_small m d here =
+      let known : m < shop.machines = (let machines = room.machines in omega arith)
+      in subst (λ (ts : List Triple). IsSmall ts) (sym (left_on m d known))
+      (let a = triples_small shop limits w word m in omega arith)
+
+  pub lists_bounds : (bounds : List ℕ) → bounds ≡ map (λ list. one list.items) lists → (m : ℕ) → m < shop.machines
+      → get_or bounds m 0 ≡ one (triples_on m (waiting shop (placing shop w)))
+  lists_bounds bounds e m known =
+      ap (λ (ns : List ℕ). get_or ns m 0) e
+      ∙ mapped_at (λ (list : Vec Triple Global). one list.items) lists m
+      (one (triples_on m (waiting shop (placing shop w)))) (let machines = room.machines in omega arith)
+      (λ d. ap (λ (ts : List Triple). one ts) (left_on m d known))

@@ -5,4 +5,5 @@ pub mod Conflicts
 pub mod Desks
 pub mod Heads
 pub mod Laws
+pub mod Renumbered
 pub mod inner

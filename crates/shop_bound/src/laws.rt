@@ -2,6 +2,7 @@
 ghost use Rattle.shop_bound.specs.Heads.{WaitingIsWhatIsLeft};
 ghost use Rattle.shop_bound.specs.Laws.{BoundsAreLower, BoundsNeverFall, FullWordsEndAtTheirBound};
 ghost use Rattle.shop_bound.specs.Laws.{SumsStaySmall};
+ghost use Rattle.shop_bound.specs.Renumbered.{NumbersDontMatter};
 
 /// A feasible schedule that begins each machine with a word's operations, in order, ends at the word's bound or later.
 pub fn bounds_are_lower()
@@ -28,4 +29,10 @@ pub fn what_waits_is_left()
 /// greatest head + sum of times + greatest tail of each machine's waiting operations.
 pub fn sums_stay_small()
     ensures { SumsStaySmall }
+{}
+
+/// Instances that differ in the numbers of their machines alone have the same words, with the same bounds and conflict
+/// sets.
+pub fn numbers_dont_matter()
+    ensures { NumbersDontMatter }
 {}

@@ -19,10 +19,10 @@ mod works;
 pub use desks::Desk;
 pub use head_rows::Heads;
 pub use laws::{
-    bounds_are_lower, bounds_never_fall, full_words_end_at_their_bound, sums_stay_small,
-    what_waits_is_left,
+    bounds_are_lower, bounds_never_fall, full_words_end_at_their_bound, numbers_dont_matter,
+    sums_stay_small, what_waits_is_left,
 };
-pub use lower::lower_bound;
+pub use lower::{lower_bound, machine_bounds};
 pub use schedules::Jackson;
 pub use std::alloc::AllocError as NoMemory;
 pub use tail_rows::{tails, total_time};

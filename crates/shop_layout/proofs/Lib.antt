@@ -1,6 +1,7 @@
 pub mod ApartSlots
 pub mod CellLemmas
 pub mod ColumnSums
+pub mod CountedRanks
 pub mod FlatLists
 pub mod LaidLists
 pub mod LaidPlaces
@@ -8,6 +9,8 @@ pub mod LaneLimits
 pub mod LatestEnds
 pub mod MachineLoads
 pub mod NotedPlaces
+pub mod RankedShops
+pub mod RankedSlots
 pub mod Ranks
 pub mod RouteLegs
 pub mod SlotFacts

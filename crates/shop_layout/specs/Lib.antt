@@ -1,5 +1,6 @@
 pub mod Slots
 pub mod Positions
+pub mod Ranks
 pub mod Lanes
 pub mod HeadLimits
 pub mod Legs

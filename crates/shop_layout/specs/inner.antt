@@ -1,4 +1,5 @@
 pub mod Layings
 pub mod MachineLists
+pub mod RankCounts
 pub mod RouteRows
 pub mod Vectors

@@ -125,15 +125,6 @@ impl<L: StateLanes> Grid<L> {
         self.positions.jobs[position] as usize
     }
 
-    /// The step of the operation at `position`, counted from 0 on its job's route.
-    #[inline(always)]
-    pub fn step(&self, position: usize) -> usize
-        requires { position < length self.now.steps }
-        ensures { result ≡ slice_index self.now.steps position }
-    {
-        self.positions.steps[position] as usize
-    }
-
     /// The time of the operation at `position`.
     #[inline(always)]
     pub fn time(&self, position: usize) -> u64

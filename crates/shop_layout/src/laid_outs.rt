@@ -1,18 +1,26 @@
 // `LaidOut`: an instance with its layout in lanes of one width.
 ghost use Rattle.std.specs.Prelude.{◌≡◌, ◌≤◌, ◌<◌, IfOk};
+ghost use Rattle.shop_model.specs.Limits.{IsWithinLimits};
+ghost use Rattle.shop_model.specs.Shop.{operation_count};
+ghost use Rattle.shop_bound.specs.Renumbered.{IsRenumbered};
 ghost use Rattle.shop_layout.specs.LaidOuts.{IsReady};
 ghost use Rattle.shop_layout.specs.Positions.{AreEven};
+ghost use Rattle.shop_layout.specs.Ranks.{AreRanks, ranked};
 
 use crate::grid::Grid;
+use crate::machine_ranks::Ranks;
 use crate::positions::Positions;
 use shop_lanes::StateLanes;
 use shop_model::Instance;
 use std::alloc::{AllocError as NoMemory, Global};
 use std::marker::Model;
 
-/// An instance with its layout in lanes of one width.
+/// An instance with its layout in lanes of one width. The layout calls each machine by its rank. Contracts see the
+/// instance both as it was given and with its machines called so.
 pub struct LaidOut<'a, L: StateLanes> {
     instance: &'a Instance,
+    /// the number of each machine in the layout
+    ranks: Ranks,
     grid: Grid<L>,
 }
 
@@ -21,6 +29,7 @@ impl<L: StateLanes> Drop for LaidOut<'_, L> {
     fn drop(self) {
         let LaidOut {
             instance: _,
+            ranks: _,
             grid: _,
         } = self;
     }
@@ -28,35 +37,56 @@ impl<L: StateLanes> Drop for LaidOut<'_, L> {
 
 impl<'a, L: StateLanes> Model for LaidOut<'a, L> {
     ghost use Rattle.std.specs.Prelude.{◌≤◌, ◌<◌};
+    ghost use Rattle.shop_model.specs.Limits.{IsWithinLimits};
     ghost use Rattle.shop_layout.specs.LaidOuts.{IsReady, LaidOutState};
+    ghost use Rattle.shop_layout.specs.Ranks.{AreRanks, ranked};
 
     ghost Value = { LaidOutState };
 
-    ghost view = { λ l. record { shop = l.instance.now; layout = l.grid } };
+    ghost view = { λ l. record {
+      shop = ranked l.ranks l.instance.now;
+      asked = l.instance.now;
+      layout = l.grid;
+    } };
 
-    ghost invariant = { λ l. IsReady L.GREATEST l.instance.now l.grid
-        × (0 < L.EACH → l.instance.now.machines ≤ 64) };
+    ghost invariant = { λ l. IsReady L.GREATEST (ranked l.ranks l.instance.now) l.grid
+        × (0 < L.EACH → l.instance.now.machines ≤ 64)
+        × IsWithinLimits l.instance.now
+        × AreRanks l.instance.now.machines l.ranks };
 }
 
 impl<'a, L: StateLanes> LaidOut<'a, L> {
-    /// Puts `positions`, the layout of `instance`, into lanes. Fails with `NoMemory` if memory runs out.
+    /// Puts `positions`, the layout of `instance` with its machines called by `ranks`, into lanes. Fails with
+    /// `NoMemory` if memory runs out.
     pub(crate) fn of(
         alloc: Global,
         instance: &'a Instance,
+        ranks: Ranks,
         positions: Positions,
     ) -> Result<LaidOut<'a, L>, NoMemory>
-        requires ready { IsReady L.GREATEST instance.now positions }
+        requires ranks { AreRanks instance.now.machines ranks }
+        requires ready { IsReady L.GREATEST (ranked ranks instance.now) positions }
         requires even { AreEven positions.blocks L.EACH }
         requires few { 0 < L.EACH → instance.now.machines ≤ 64 }
-        ensures { IfOk result (λ l. l.shop ≡ instance.now) }
+        ensures { IfOk result (λ l. l.asked ≡ instance.now) }
     {
+        instance.keeps_limits();
         let grid = Grid::of(alloc, positions)?;
-        Ok(LaidOut { instance, grid })
+        Ok(LaidOut {
+            instance,
+            ranks,
+            grid,
+        })
     }
 
+    /// The instance as it was given: its machines may have other numbers in the layout.
     #[inline(always)]
     pub fn instance(&self) -> &Instance
-        ensures { result.now ≡ self.now.shop }
+        ensures instance { result.now ≡ self.now.asked }
+        ensures renumbered { IsRenumbered self.now.asked self.now.shop }
+        ensures limits { IsWithinLimits self.now.asked }
+        ensures machines { self.now.shop.machines ≡ self.now.asked.machines }
+        ensures operations { operation_count self.now.shop ≡ operation_count self.now.asked }
     {
         self.instance
     }
@@ -68,6 +98,8 @@ impl<'a, L: StateLanes> LaidOut<'a, L> {
         ensures grid { result.now ≡ self.now.layout }
         ensures ready { IsReady L.GREATEST self.now.shop self.now.layout }
         ensures few { 0 < L.EACH → self.now.shop.machines ≤ 64 }
+        ensures renumbered { IsRenumbered self.now.asked self.now.shop }
+        ensures limits { IsWithinLimits self.now.asked }
     {
         &self.grid
     }

@@ -1,8 +1,9 @@
 // How late an operation can end, and the greatest load of a machine: they decide the width of lanes.
-ghost use Rattle.std.specs.Prelude.{◌≡◌, ℕ, ◌+◌, ◌*◌, ◌≤◌, ◌<◌, ◌^◌, length};
+ghost use Rattle.std.specs.Prelude.{◌≡◌, ℕ, ◌+◌, ◌*◌, ◌≤◌, ◌<◌, ◌^◌, List, length};
 ghost use Rattle.shop_lanes.specs.Rows.{blocks};
 ghost use Rattle.shop_layout.specs.HeadLimits.{latest_end, load_of, load_on};
 ghost use Rattle.shop_layout.specs.Positions.{IsLaidOut};
+ghost use Rattle.shop_layout.specs.Ranks.{AreRanks, ranked};
 
 use crate::positions::Positions;
 use shop_bound::total_time;
@@ -50,9 +51,11 @@ fn load_of_blocks(times: &[u64], tails: &[u64], from: usize, to: usize) -> u64
     load_of(&times[8 * from..8 * to], &tails[8 * from..8 * to])
 }
 
-/// Answers the greatest, over machines, of total time plus greatest tail.
+/// Answers the greatest, over machines, of total time plus greatest tail. `layout` is that of `instance`, with its
+/// machines called by some ranks.
 pub(crate) fn greatest_load(layout: &Positions, instance: &Instance) -> u64
-    requires { IsLaidOut instance.now layout.now }
+    requires { (ranks : List ℕ) × AreRanks instance.now.machines ranks
+        × IsLaidOut (ranked ranks instance.now) layout.now }
     ensures each { (m : ℕ) → m < instance.now.machines → load_on layout.now m ≤ result }
     ensures small { result < 2 ^ 48 }
 {

@@ -1,8 +1,9 @@
 // Puts the operations of an instance at their positions.
 ghost use Rattle.std.specs.Prelude.{◌≡◌, ℕ, ◌+◌, ◌-◌, ◌*◌, ◌/◌, ◌%◌, ◌<◌, ◌≤◌, ◌^◌, All, IfOk, OnOk};
-ghost use Rattle.std.specs.Prelude.{length, map, slice_index};
+ghost use Rattle.std.specs.Prelude.{List, length, map, slice_index};
 ghost use Rattle.shop_lanes.specs.Rows.{place_at_rank};
 ghost use Rattle.shop_model.specs.declared.limits.TheConstants.{MAX_JOBS, MAX_MACHINES, MAX_STEPS};
+ghost use Rattle.shop_layout.specs.Ranks.{ranked};
 ghost use Rattle.shop_layout.specs.Slots.{AreMachineSlots};
 ghost use Rattle.shop_layout.specs.inner.Vectors.{items_in};
 ghost use Rattle.shop_layout.specs.inner.Layings.{AreAdded, AreApart, AreCells, AreNoted};
@@ -151,15 +152,17 @@ fn note_places(places: &mut [Vec<u32>], slots: &[Slot], first: usize, count: usi
     }
 }
 
-/// Answers the position of each step of each job. The operations of `lists[m]` are in the blocks of machine m. Fails
-/// with `NoMemory` if memory runs out.
+/// Answers the position of each step of each job. `lists` has the operations of each machine, by any ranks, and
+/// those of `lists[m]` are in blocks `blocks[m]` up to `blocks[m + 1]` (excluded). Fails with `NoMemory` if memory
+/// runs out.
 pub(crate) fn places_of(
     alloc: Global,
     instance: &Instance,
     lists: &[Vec<Slot>],
     blocks: &[u32],
 ) -> Result<Vec<Vec<u32>>, NoMemory>
-    requires slots { AreMachineSlots instance.now (items_in lists.now) }
+    requires slots { (ranks : List ℕ)
+        × AreMachineSlots (ranked ranks instance.now) (items_in lists.now) }
     requires blocks { length blocks.now ≡ instance.now.machines + 1 }
     requires room { HaveRoom (items_in lists.now) instance.now.machines blocks.now }
     requires few { All (λ b. b ≤ MAX_MACHINES * (MAX_JOBS * MAX_STEPS + 8)) blocks.now }

@@ -7,6 +7,7 @@ mod latest_ends;
 mod layings;
 mod layouts;
 mod legs;
+mod machine_ranks;
 mod positions;
 mod routes;
 mod slots;

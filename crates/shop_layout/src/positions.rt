@@ -2,12 +2,14 @@
 ghost use Rattle.std.specs.Prelude.{◌≡◌, ◌<◌, All, IfOk, length, slice_index};
 ghost use Rattle.shop_layout.specs.Positions.{IsLaidOut};
 ghost use Rattle.shop_layout.specs.Legs.{all_legs, route_legs};
+ghost use Rattle.shop_layout.specs.Ranks.{AreRanks, ranked};
 ghost use Rattle.shop_layout.specs.inner.RouteRows.{AreBelow, AreFirsts, IsBehind};
 
 use crate::layings::{
     Cells, cells_of, following_of, jobs_of, machines_of, places_of, steps_of, tails_of, times_of,
 };
 use crate::legs::{Legs, behind_of, legs_of};
+use crate::machine_ranks::Ranks;
 use crate::slots::machine_slots;
 use shop_model::Instance;
 use std::alloc::{AllocError as NoMemory, Global};
@@ -59,12 +61,18 @@ impl Model for Positions {
 }
 
 impl Positions {
-    /// Lays out the operations of `instance` by position. Fails with `NoMemory` if memory runs out.
-    pub(crate) fn of(alloc: Global, instance: &Instance) -> Result<Positions, NoMemory>
-        ensures { IfOk result (λ l. IsLaidOut instance.now l) }
+    /// Lays out the operations of `instance` by position, machine after machine by rank. Fails with `NoMemory` if
+    /// memory runs out.
+    pub(crate) fn of(
+        alloc: Global,
+        instance: &Instance,
+        ranks: &Ranks,
+    ) -> Result<Positions, NoMemory>
+        requires { AreRanks instance.now.machines ranks.now }
+        ensures { IfOk result (λ l. IsLaidOut (ranked ranks.now instance.now) l) }
     {
         instance.keeps_limits();
-        let lists = machine_slots(alloc, instance)?;
+        let lists = machine_slots(alloc, instance, ranks)?;
         let Cells { slots, blocks } = cells_of(alloc, lists.as_slice())?;
         let places = places_of(alloc, instance, lists.as_slice(), blocks.as_slice())?;
         Ok(Positions {

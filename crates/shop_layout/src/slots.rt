@@ -1,12 +1,14 @@
-// Lists the operations of each machine by nonincreasing tail.
+// Lists the operations of each machine by nonincreasing tail, and the machines by rank.
 ghost use Rattle.std.specs.Prelude.{◌≡◌, ℕ, ◌<◌, [], slice_index_or, IfOk, OnOk, length, map};
 ghost use Rattle.std.specs.Prelude.{replicate};
 ghost use Rattle.shop_model.specs.Shop.{no_op};
 ghost use Rattle.shop_bound.specs.Heads.{AreTimesSmall};
+ghost use Rattle.shop_layout.specs.Ranks.{AreRanks, ranked, ranked_op};
 ghost use Rattle.shop_layout.specs.Slots.{AreMachineSlots};
 ghost use Rattle.shop_layout.specs.inner.MachineLists.{AddsOperations, AreOperations};
 ghost use Rattle.shop_layout.specs.inner.Vectors.{items_in};
 
+use crate::machine_ranks::Ranks;
 use shop_bound::total_time;
 use shop_model::{Instance, Op};
 use std::alloc::{AllocError as NoMemory, Global};
@@ -21,19 +23,25 @@ pub struct Slot {
     pub tail: u64,
 }
 
-/// Adds the operations of `route`, the route of `job`, to the lists of their machines. Fails with `NoMemory` if memory
-/// runs out.
-fn add_operations(lists: &mut [Vec<Slot>], route: &[Op], job: usize) -> Result<(), NoMemory>
+/// Adds the operations of `route`, the route of `job`, to the lists of their machines' ranks. Fails with `NoMemory` if
+/// memory runs out.
+fn add_operations(
+    lists: &mut [Vec<Slot>],
+    route: &[Op],
+    job: usize,
+    ranks: &Ranks,
+) -> Result<(), NoMemory>
     requires times { AreTimesSmall route.now }
     requires machines { (k : ℕ) → (slice_index_or route.now k no_op).machine < length lists.old }
-    ensures { OnOk result
-        (AddsOperations (items_in lists.old) (items_in lists.new) route.now job) }
+    requires ranks { AreRanks (length lists.old) ranks.now }
+    ensures { OnOk result (AddsOperations (items_in lists.old) (items_in lists.new)
+        (map (ranked_op ranks.now) route.now) job) }
 {
     let mut tail = total_time(route);
     for k in 0..route.len() {
         let op = route[k];
         tail -= op.time;
-        let slots = &mut lists[op.machine];
+        let slots = &mut lists[ranks.rank(op.machine)];
         slots.push(Slot {
             job,
             step: k,
@@ -59,21 +67,34 @@ fn empty_lists(alloc: Global, instance: &Instance) -> Result<Vec<Vec<Slot>>, NoM
 }
 
 /// Lists the operations of each machine, job by job. Fails with `NoMemory` if memory runs out.
-fn operations_by_machine(alloc: Global, instance: &Instance) -> Result<Vec<Vec<Slot>>, NoMemory>
-    ensures { IfOk result (λ v. AreOperations instance.now (map (λ slots. slots.items) v.items)) }
+fn operations_by_machine(
+    alloc: Global,
+    instance: &Instance,
+    ranks: &Ranks,
+) -> Result<Vec<Vec<Slot>>, NoMemory>
+    requires { AreRanks instance.now.machines ranks.now }
+    ensures { IfOk result (λ v. AreOperations (ranked ranks.now instance.now)
+        (map (λ slots. slots.items) v.items)) }
 {
     let mut lists = empty_lists(alloc, instance)?;
     for j in 0..instance.jobs() {
-        add_operations(lists.as_mut_slice(), instance.route(j), j)?;
+        add_operations(lists.as_mut_slice(), instance.route(j), j, ranks)?;
     }
     Ok(lists)
 }
 
-/// Lists the operations of each machine by nonincreasing tail. Fails with `NoMemory` if memory runs out.
-pub(crate) fn machine_slots(alloc: Global, instance: &Instance) -> Result<Vec<Vec<Slot>>, NoMemory>
-    ensures { IfOk result (λ v. AreMachineSlots instance.now (map (λ slots. slots.items) v.items)) }
+/// Lists the operations of each machine by nonincreasing tail, the machines by rank. Fails with `NoMemory` if memory
+/// runs out.
+pub(crate) fn machine_slots(
+    alloc: Global,
+    instance: &Instance,
+    ranks: &Ranks,
+) -> Result<Vec<Vec<Slot>>, NoMemory>
+    requires { AreRanks instance.now.machines ranks.now }
+    ensures { IfOk result (λ v. AreMachineSlots (ranked ranks.now instance.now)
+        (map (λ slots. slots.items) v.items)) }
 {
-    let mut lists = operations_by_machine(alloc, instance)?;
+    let mut lists = operations_by_machine(alloc, instance, ranks)?;
     for m in 0..lists.len() {
         lists[m].sort_by_key(|slot| Reverse(slot.tail))?;
     }

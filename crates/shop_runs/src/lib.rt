@@ -5,6 +5,7 @@ mod bound_rows;
 mod crews;
 mod entries;
 mod kept_stacks;
+mod machine_orders;
 mod open_nodes;
 mod orders;
 mod outcomes;

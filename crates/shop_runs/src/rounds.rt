@@ -64,9 +64,8 @@ impl<'r> Round<'r> {
         ensures cut { IfOk result (λ r. IsCutOf instance.now plan.now standing r) }
         ensures covers { IfOk result (λ r. CutCovers instance.now standing r) }
     {
-        let layout = Layout::of(alloc, instance)?;
         let search = OpenRun::of(alloc, instance, plan.order, standing)?;
-        let (mut round, mut others) = search.cut(alloc, instance, layout, plan)?;
+        let (mut round, mut others) = search.cut(alloc, instance, None, plan)?;
         let count = others.count()?;
         let rest = others.take(alloc, count, count)?;
         round.rest = rest;

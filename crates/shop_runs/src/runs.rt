@@ -4,6 +4,7 @@ ghost use Rattle.shop_runs.specs.Limits.{IsCountWithin};
 ghost use Rattle.shop_runs.specs.Runs.{SaysAnswer, IsTrusted};
 
 use crate::crews::Crew;
+use crate::machine_orders::layout_for;
 use crate::open_nodes::OpenNodes;
 use crate::outcomes::{RoundResult, outcome_of};
 use crate::plans::{MAX_PIECES, Order, Plan};
@@ -59,15 +60,16 @@ impl OpenRun {
     }
 
     /// Cuts the first open nodes into at most 256 pieces. Answers the round of these pieces, without a rest, and the
-    /// store of the other open nodes. Fails with `NoMemory` if memory runs out.
+    /// store of the other open nodes. `layout_for` chooses the round's layout; `kept` is the last round's, if there was
+    /// one. Fails with `NoMemory` if memory runs out.
     pub(crate) fn cut<'r>(
         self,
         alloc: Global,
         instance: &'r Instance,
-        layout: Layout<'r>,
+        kept: Option<Layout<'r>>,
         plan: &Plan,
     ) -> Result<(Round<'r>, OpenNodes), NoMemory>
-        requires layout { layout ≡ instance.now }
+        requires layout { IfSome kept (λ l. l ≡ instance.now) }
         requires rounds { self.rounds < plan.now.rounds }
         requires search { IsSearchOf instance.now plan.now.order self }
         ensures { IfOk result (λ p. IsFront instance.now plan.now self p.0 p.1) }
@@ -75,6 +77,7 @@ impl OpenRun {
         let mut others = self.open;
         let bound = others.least_bound(self.makespan);
         let front = others.take(alloc, MAX_PIECES * plan.piece, self.spare.len())?;
+        let layout = layout_for(alloc, instance, kept, self.rounds, front.as_slice())?;
         let standing = Standing {
             word: self.word,
             makespan: self.makespan,
@@ -86,8 +89,8 @@ impl OpenRun {
         Ok((round, others))
     }
 
-    /// Searches one more round. Answers the run after the round, and the layout: the one in `kept`, or a new one if
-    /// `kept` is `None`. Fails with `NoMemory` if memory runs out.
+    /// Searches one more round. Answers the run after the round, and the round's layout, which `layout_for` chose;
+    /// `kept` is the last round's layout, if there was one. Fails with `NoMemory` if memory runs out.
     fn next<'r, R, C: Crew<R>>(
         self,
         rt: &R,
@@ -105,8 +108,7 @@ impl OpenRun {
         ensures layout { IfOk result (λ p. p.1 ≡ instance.now) }
     {
         let opening = self.makespan;
-        let layout = kept_or_new(alloc, instance, kept)?;
-        let (round, mut open) = self.cut(alloc, instance, layout, plan)?;
+        let (round, mut open) = self.cut(alloc, instance, kept, plan)?;
         let entries = crew.search(rt, alloc, &round)?;
         let RoundResult {
             found,
@@ -134,8 +136,8 @@ impl OpenRun {
         Ok((next, layout))
     }
 
-    /// Starts a run, and searches rounds until no node is open or the plan's rounds are done. The first round makes the
-    /// layout, and later rounds use it again. Fails with `NoMemory` if memory runs out.
+    /// Starts a run, and searches rounds until no node is open or the plan's rounds are done. Each round hands its layout
+    /// to the next. Fails with `NoMemory` if memory runs out.
     fn at_end<R, C: Crew<R>>(
         rt: &R,
         alloc: Global,
@@ -158,21 +160,6 @@ impl OpenRun {
             layout = Some(kept);
         }
         Ok(search)
-    }
-}
-
-/// Answers the layout in `kept`, or makes one if `kept` is `None`. Fails with `NoMemory` if memory runs out.
-fn kept_or_new<'r>(
-    alloc: Global,
-    instance: &'r Instance,
-    kept: Option<Layout<'r>>,
-) -> Result<Layout<'r>, NoMemory>
-    requires { IfSome kept (λ l. l ≡ instance.now) }
-    ensures { IfOk result (λ l. l ≡ instance.now) }
-{
-    match kept {
-        Some(layout) => Ok(layout),
-        None => Layout::of(alloc, instance),
     }
 }
 

@@ -58,3 +58,4 @@ pub mod SoleCandidates
 pub mod StateSteps
 pub mod Strikes
 pub mod Trials
+pub mod AskedStates

@@ -23,3 +23,4 @@ pub mod PlacedNexts
 pub mod Siblings
 pub mod Scratches
 pub mod StateCopies
+pub mod AskedStates

@@ -73,17 +73,18 @@ impl<'a, L: StateLanes> Dispatching<State<L>> for LaidOut<'a, L> {
     ghost use Rattle.shop_states.specs.inner.Candidates.{IsCandidateOf};
     ghost use Rattle.shop_states.specs.inner.Ceilings.{AreChildCeilings};
     ghost use Rattle.shop_states.specs.inner.Scratches.{IsScratchOf};
-    ghost use Rattle.shop_states.specs.inner.LaneStates.{HasRoom, IsKeptInLanes};
+    ghost use Rattle.shop_states.specs.inner.AskedStates.{IsKeptFor};
+    ghost use Rattle.shop_states.specs.inner.LaneStates.{HasRoom};
     ghost use Rattle.shop_layout.specs.Lanes.{rows_of};
 
     type Scratch = Scratch<L>;
 
-    ghost shop = { λ d. d.shop };
+    ghost shop = { λ d. d.asked };
 
     ghost IsSlot = { λ d s. HasRoom d.shop d.layout (L.heads s.lanes) (L.ends s.lanes)
         s.next.items };
 
-    ghost IsStateOf = { λ d w s. IsKeptInLanes L.GREATEST d.shop w d.layout
+    ghost IsStateOf = { λ d w s. IsKeptFor L.GREATEST d w
         (rows_of d.layout (L.heads s.lanes) (L.ends s.lanes)) s.next.items };
 
     ghost IsScratch = { λ d s. IsScratchOf d.shop d.layout (length s.ready.items)
@@ -122,6 +123,8 @@ impl<'a, L: StateLanes> Dispatching<State<L>> for LaidOut<'a, L> {
     }
 
     fn fill(&self, scratch: &mut Scratch<L>, path: &[u16], state: &mut State<L>) {
+        // its promise: the layout differs from the instance in the numbers of machines alone
+        let _ = self.grid();
         let next = state.next.as_mut_slice();
         let ready = scratch.ready.as_mut_slice();
         let free = scratch.free.as_mut_slice();
@@ -247,14 +250,14 @@ impl<'a, L: StateLanes> Dispatching<State<L>> for LaidOut<'a, L> {
     }
 
     ghost state_is_slot = { λ d w s is. record {
-      positions = is.kept.heads.positions;
-      jobs_with_ends = is.ends.jobs;
-      jobs_with_nexts = is.are_next.jobs;
+      positions = is.kept.kept.heads.positions;
+      jobs_with_ends = is.kept.ends.jobs;
+      jobs_with_nexts = is.kept.are_next.jobs;
     } };
 
-    ghost state_is_of_word = { λ d w s is. is.kept.word };
+    ghost state_is_of_word = { λ d w s is. is.word };
 
-    ghost state_is_within_limits = { λ d w s is. is.kept.limits };
+    ghost state_is_within_limits = { λ d w s is. is.limits };
 
     ghost sole_keeps_bound = { λ d w s is. is.sole };
 }

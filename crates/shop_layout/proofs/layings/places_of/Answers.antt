@@ -1,15 +1,18 @@
 use Rattle.std.proofs.Common.{◌≡◌, ◌∙◌, ℕ, ◌+◌, ◌-◌, ◌*◌, ◌<◌, List, [], get_or, length, map, sym}
 use Rattle.std.proofs.Common.{subst, arith}
+use Rattle.std.specs.List.{All}
 use Rattle.std.specs.Prelude.{Vec}
 use Rattle.std.specs.declared.alloc.Global.{Global}
 use Rattle.std.proofs.lemmas.List.{length-map}
 use Rattle.shop_model.specs.Shop.{Shop}
 use Rattle.shop_layout.specs.declared.slots.Slot.{Slot}
+use Rattle.shop_layout.specs.Ranks.{ranked}
 use Rattle.shop_layout.specs.Slots.{AreMachineSlots, AreSlotsOf}
-use Rattle.shop_layout.specs.inner.Layings.{AreNoted, ArePlaces}
+use Rattle.shop_layout.specs.inner.Layings.{AreNoted, ArePlaces, IsInRows}
 use Rattle.shop_layout.proofs.ApartSlots.{slots_apart}
 use Rattle.shop_layout.proofs.Written.{written_vec}
-use Rattle.shop_layout.proofs.LaidLists.{rows_in, places_turn}
+use Rattle.shop_layout.proofs.LaidLists.{places_turn}
+use Rattle.shop_layout.proofs.RankedSlots.{places_asked, places_ranked, rows_by_rank}
 use Rattle.shop_layout.proofs.SlotLists.{items_read}
 use Rattle.shop_layout.proofs.layings.places_of.Goals as goal
 
@@ -29,24 +32,38 @@ of_machine shop lists are m here slots e =
     subst (AreSlotsOf shop m) (sym e) (are.slots m (known shop lists are m here))
 
 pub note_places-requires-clause-rows : goal.note_places-requires-clause-rows
-note_places-requires-clause-rows c = grind (arith, at_hand, rows_in, of_machine)
+note_places-requires-clause-rows c =
+    let shop = ranked c.requires.slots.0 c.args.instance.now in let m = c.loop-m.m
+    in let slots = c.as_slice.result.now
+    in let is = at_hand c.args.lists.now m c.index-lists-m.result slots c.loop-m-test.true c.index-lists-m.is
+    c.as_slice.ensures.value
+    in subst (λ (vs : List (Vec ℕ Global)). All (IsInRows (map (λ v. v.items) vs)) slots)
+    (sym c.as_mut_slice.ensures.value)
+    (rows_by_rank c.requires.slots.0 c.args.instance.now (map (λ v. v.items) c.loop-m.places.items)
+    c.loop-m.invariant.shape m slots
+    (of_machine shop c.args.lists.now c.requires.slots.1 m c.loop-m-test.true slots is))
 
 pub note_places-requires-clause-apart : goal.note_places-requires-clause-apart
-note_places-requires-clause-apart c = grind (arith, at_hand, slots_apart, of_machine)
+note_places-requires-clause-apart c =
+    let shop = ranked c.requires.slots.0 c.args.instance.now in let m = c.loop-m.m
+    in let slots = c.as_slice.result.now
+    in let is = at_hand c.args.lists.now m c.index-lists-m.result slots c.loop-m-test.true c.index-lists-m.is
+    c.as_slice.ensures.value
+    in slots_apart shop m slots (of_machine shop c.args.lists.now c.requires.slots.1 m c.loop-m-test.true slots is)
 
 pub note_places-requires-clause-small : goal.note_places-requires-clause-small
 note_places-requires-clause-small c =
-    let shop = c.args.instance.now in let m = c.loop-m.m
+    let ranks = c.requires.slots.0 in let shop = ranked ranks c.args.instance.now in let m = c.loop-m.m
     in let is = at_hand c.args.lists.now m c.index-lists-m.result c.as_slice.result.now c.loop-m-test.true
     c.index-lists-m.is c.as_slice.ensures.value
-    in let here = known shop c.args.lists.now c.requires.slots m c.loop-m-test.true
+    in let here = known shop c.args.lists.now c.requires.slots.1 m c.loop-m-test.true
     in let room = c.requires.room m here
     in let long = c.requires.blocks
     in let block = c.requires.few (m + 1) 0 (omega arith) in omega (arith, room, block)
 
 pub loop-m-preserved : goal.loop-m-preserved
 loop-m-preserved c =
-    let shop = c.args.instance.now in let m = c.loop-m.m
+    let ranks = c.requires.slots.0 in let shop = ranked ranks c.args.instance.now in let m = c.loop-m.m
     in let is = at_hand c.args.lists.now m c.index-lists-m.result c.as_slice.result.now c.loop-m-test.true
     c.index-lists-m.is c.as_slice.ensures.value
     in let whole = written_vec c.loop-m.places c.as_mut_slice.result.now c.note_places.new.places
@@ -56,9 +73,12 @@ loop-m-preserved c =
     c.as_slice.result.now
     (map (λ v. v.items) vs) (map (λ v. v.items) c.note_places.new.places)) c.as_mut_slice.ensures.value
     c.note_places.ensures.noted
-    in subst (λ (vs : List (Vec ℕ Global)). ArePlaces shop (map (λ v. v.items) c.args.lists.now) c.args.blocks.now
-    (c.loop-m.m + 1) (map (λ v. v.items) vs)) (sym whole)
+    in subst (λ (vs : List (Vec ℕ Global)). ArePlaces c.args.instance.now (map (λ v. v.items) c.args.lists.now)
+    c.args.blocks.now (c.loop-m.m + 1) (map (λ v. v.items) vs)) (sym whole)
+    (places_asked ranks c.args.instance.now (map (λ v. v.items) c.args.lists.now) c.args.blocks.now (m + 1)
+    (map (λ v. v.items) c.note_places.new.places)
     (places_turn shop (map (λ v. v.items) c.args.lists.now) c.args.blocks.now m
-    (map (λ v. v.items) c.loop-m.places.items) (map (λ v. v.items) c.note_places.new.places) c.requires.slots
-    (known shop c.args.lists.now c.requires.slots m c.loop-m-test.true) c.loop-m.invariant c.as_slice.result.now is
-    noted)
+    (map (λ v. v.items) c.loop-m.places.items) (map (λ v. v.items) c.note_places.new.places) c.requires.slots.1
+    (known shop c.args.lists.now c.requires.slots.1 m c.loop-m-test.true)
+    (places_ranked ranks c.args.instance.now (map (λ v. v.items) c.args.lists.now) c.args.blocks.now m
+    (map (λ v. v.items) c.loop-m.places.items) c.loop-m.invariant) c.as_slice.result.now is noted))

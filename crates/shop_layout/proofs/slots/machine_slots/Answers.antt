@@ -3,13 +3,14 @@ use Rattle.std.specs.Prelude.{IsPermutation}
 use Rattle.std.proofs.lemmas.Fn.{always_returns_same}
 use Rattle.std.proofs.lemmas.List.{length-map}
 use Rattle.shop_layout.specs.declared.slots.Slot.{Slot}
+use Rattle.shop_layout.specs.Ranks.{ranked}
 use Rattle.shop_bound.proofs.SortedTails.{falls_from_sort}
 use Rattle.shop_layout.proofs.SlotLists.{IsSortedUpTo, sorted_more, items_written, items_read}
 use Rattle.shop_layout.proofs.slots.machine_slots.Goals as goal
 
 pub loop-m-preserved : goal.loop-m-preserved
 loop-m-preserved c =
-    let shop = c.args.instance.now
+    let shop = ranked c.args.ranks.now c.args.instance.now
     in let lists = c.loop-m.lists.items
     in let m = c.loop-m.m
     in let row = c.sort_by_key.new.self.items

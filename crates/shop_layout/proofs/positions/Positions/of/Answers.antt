@@ -7,18 +7,29 @@ use Rattle.std.proofs.lemmas.List.{length-map}
 use Rattle.shop_model.specs.Limits.{IsWithinLimits}
 use Rattle.shop_model.specs.Shop.{Shop}
 use Rattle.shop_layout.specs.declared.slots.Slot.{Slot}
+use Rattle.shop_layout.specs.Ranks.{AreRanks, ranked}
 use Rattle.shop_layout.specs.Slots.{AreMachineSlots}
-use Rattle.shop_layout.specs.inner.Layings.{AreCells, ArePlaces, place_after}
+use Rattle.shop_layout.specs.inner.Layings.{AreCells, ArePlaces, AreShorter, place_after}
 use Rattle.shop_layout.specs.Positions.{AreMachinesOf}
 use Rattle.shop_layout.proofs.LaidLists.{blocks_few, blocks_rise, cells_known, laid_out}
 use Rattle.shop_layout.proofs.LaidLists.{machine_few}
+use Rattle.shop_layout.proofs.RankedShops.{jobs_ranked, limits_ranked}
+use Rattle.shop_layout.proofs.RankedSlots.{places_ranked}
 use Rattle.shop_layout.proofs.positions.Positions.of.Goals as goal
 
 -- the slots of the machines, as they were lent, and the cells that they make
-module _ {shop : Shop} (limits : IsWithinLimits shop) {lists now : List (Vec Slot Global)} (lent : now ≡ lists)
-    (made : AreMachineSlots shop (map (λ v. v.items) lists)) where
-  are : AreMachineSlots shop (map (λ v. v.items) now)
-  are = subst (λ (vs : List (Vec Slot Global)). AreMachineSlots shop (map (λ v. v.items) vs)) (sym lent) made
+module _ {shop : Shop} (limits : IsWithinLimits shop) {ranks : List ℕ} (by : AreRanks shop.machines ranks)
+    {lists now : List (Vec Slot Global)} (lent : now ≡ lists)
+    (made : AreMachineSlots (ranked ranks shop) (map (λ v. v.items) lists)) where
+  within : IsWithinLimits (ranked ranks shop)
+  within = limits_ranked ranks shop limits by
+
+  are : AreMachineSlots (ranked ranks shop) (map (λ v. v.items) now)
+  are = subst (λ (vs : List (Vec Slot Global)). AreMachineSlots (ranked ranks shop) (map (λ v. v.items) vs))
+      (sym lent) made
+
+  short : AreShorter 100000 (map (λ v. v.items) now)
+  short = machine_few (ranked ranks shop) within (map (λ v. v.items) now) are
 
   module _ {cells : List Slot} {blocks : List ℕ}
       (given : AreCells (map (λ v. v.items) now) (length now) cells blocks) where
@@ -28,15 +39,16 @@ module _ {shop : Shop} (limits : IsWithinLimits shop) {lists now : List (Vec Slo
         (sym (length-map now (λ v. v.items)) ∙ are.machines) given
 
     few : All (λ b. b ≤ 10000800) blocks
-    few = blocks_few shop limits (map (λ v. v.items) now) are cells blocks laid
+    few = blocks_few (ranked ranks shop) within (map (λ v. v.items) now) are cells blocks laid
 
     rise : (m : ℕ) → m < shop.machines → get_or blocks m 0 ≤ get_or blocks (m + 1) 0
-    rise m known = blocks_rise shop limits (map (λ v. v.items) now) are cells blocks laid m known
+    rise m known = blocks_rise (ranked ranks shop) within (map (λ v. v.items) now) are cells blocks laid m known
 
     known : {read : List Slot} → read ≡ cells → All (λ s. (s.job < length shop.jobs) × (s.step < 100)) read
     known e =
         subst (All (λ s. (s.job < length shop.jobs) × (s.step < 100))) (sym e)
-        (cells_known shop limits (map (λ v. v.items) now) are cells blocks laid)
+        (subst (λ (n : ℕ). All (λ s. (s.job < n) × (s.step < 100)) cells) (jobs_ranked ranks shop)
+        (cells_known (ranked ranks shop) within (map (λ v. v.items) now) are cells blocks laid))
 
     job_small : {read : List Slot} → read ≡ cells → All (λ s. s.job < 4294967296) read
     job_small e = λ k d here. let b = known e k d here in let j = limits.jobs in omega arith
@@ -48,48 +60,56 @@ module _ {shop : Shop} (limits : IsWithinLimits shop) {lists now : List (Vec Slo
     job_known e rows many = λ k d here. let b = known e k d here in omega arith
 
 pub cells_of-requires-clause-short : goal.cells_of-requires-clause-short
-cells_of-requires-clause-short c = machine_few c.args.instance.now c.keeps_limits.ensures (map (λ v. v.items) c.as_slice.result.now)
-    (are c.keeps_limits.ensures c.as_slice.ensures.value c.in_ok-lists.ensures)
+cells_of-requires-clause-short c =
+    short c.keeps_limits.ensures c.requires c.as_slice.ensures.value c.in_ok-lists.ensures
+
+pub places_of-requires-clause-slots : goal.places_of-requires-clause-slots
+places_of-requires-clause-slots c =
+    (c.args.ranks.now, are c.keeps_limits.ensures c.requires c.as_slice-2.ensures.value c.in_ok-lists.ensures)
 
 pub places_of-requires-clause-few : goal.places_of-requires-clause-few
 places_of-requires-clause-few c =
-    rw c.as_slice-3.ensures.value (few c.keeps_limits.ensures c.as_slice.ensures.value c.in_ok-lists.ensures c.in_ok-slots.ensures)
+    rw c.as_slice-3.ensures.value (few c.keeps_limits.ensures c.requires c.as_slice.ensures.value
+    c.in_ok-lists.ensures c.in_ok-slots.ensures)
 
 pub jobs_of-requires : goal.jobs_of-requires
 jobs_of-requires c =
-    job_small c.keeps_limits.ensures c.as_slice.ensures.value c.in_ok-lists.ensures c.in_ok-slots.ensures
+    job_small c.keeps_limits.ensures c.requires c.as_slice.ensures.value c.in_ok-lists.ensures c.in_ok-slots.ensures
     c.as_slice-4.ensures.value
 
 pub steps_of-requires : goal.steps_of-requires
 steps_of-requires c =
-    step_small c.keeps_limits.ensures c.as_slice.ensures.value c.in_ok-lists.ensures c.in_ok-slots.ensures
+    step_small c.keeps_limits.ensures c.requires c.as_slice.ensures.value c.in_ok-lists.ensures c.in_ok-slots.ensures
     c.as_slice-5.ensures.value
 
 pub machines_of-requires : goal.machines_of-requires
 machines_of-requires c =
-    let cells = laid c.keeps_limits.ensures c.as_slice.ensures.value c.in_ok-lists.ensures c.in_ok-slots.ensures
+    let cells = laid c.keeps_limits.ensures c.requires c.as_slice.ensures.value c.in_ok-lists.ensures
+    c.in_ok-slots.ensures
     in let long = cells.machines
     in let many = c.keeps_limits.ensures.machines
     in rw c.as_slice-8.ensures.value (record {
       from_0 = cells.from_0;
       some = omega arith;
-      ordered = λ m known. rise c.keeps_limits.ensures c.as_slice.ensures.value c.in_ok-lists.ensures c.in_ok-slots.ensures m
-          (omega arith);
-      few = few c.keeps_limits.ensures c.as_slice.ensures.value c.in_ok-lists.ensures c.in_ok-slots.ensures;
+      ordered = λ m known. rise c.keeps_limits.ensures c.requires c.as_slice.ensures.value c.in_ok-lists.ensures
+          c.in_ok-slots.ensures m (omega arith);
+      few = few c.keeps_limits.ensures c.requires c.as_slice.ensures.value c.in_ok-lists.ensures
+          c.in_ok-slots.ensures;
       small = omega arith;
     })
 
 pub following_of-requires : goal.following_of-requires
 following_of-requires c =
-    let cells = laid c.keeps_limits.ensures c.as_slice.ensures.value c.in_ok-lists.ensures c.in_ok-slots.ensures
+    let cells = laid c.keeps_limits.ensures c.requires c.as_slice.ensures.value c.in_ok-lists.ensures
+    c.in_ok-slots.ensures
     in let rows = c.in_ok-places.ensures.shape.jobs
     in record {
-      jobs = job_known c.keeps_limits.ensures c.as_slice.ensures.value c.in_ok-lists.ensures c.in_ok-slots.ensures
-          c.as_slice-9.ensures.value (length c.as_slice-10.result.now)
+      jobs = job_known c.keeps_limits.ensures c.requires c.as_slice.ensures.value c.in_ok-lists.ensures
+          c.in_ok-slots.ensures c.as_slice-9.ensures.value (length c.as_slice-10.result.now)
           (ap length c.as_slice-10.ensures.value
           ∙ (sym (length-map c.in_ok-places.places.items (λ v. v.items)) ∙ rows));
-      steps = step_small c.keeps_limits.ensures c.as_slice.ensures.value c.in_ok-lists.ensures c.in_ok-slots.ensures
-          c.as_slice-9.ensures.value;
+      steps = step_small c.keeps_limits.ensures c.requires c.as_slice.ensures.value c.in_ok-lists.ensures
+          c.in_ok-slots.ensures c.as_slice-9.ensures.value;
       few = (let a = ap length c.as_slice-9.ensures.value in let b = cells.few
           in let d = c.keeps_limits.ensures.machines in omega arith);
     }
@@ -110,18 +130,22 @@ following_is lent slots e rows places f following is =
 
 pub returns : goal.returns
 returns c =
-    let shop = c.args.instance.now
+    let shop = ranked c.args.ranks.now c.args.instance.now
     in let slots = c.in_ok-slots.field-0.slots.items
     in let blocks = c.in_ok-slots.field-0.blocks.items
     in let places = map (λ v. v.items) c.in_ok-places.places.items
-    in let cells = laid c.keeps_limits.ensures c.as_slice.ensures.value c.in_ok-lists.ensures c.in_ok-slots.ensures
-    in laid_out shop c.keeps_limits.ensures (map (λ v. v.items) c.as_slice.result.now)
-    (are c.keeps_limits.ensures c.as_slice.ensures.value c.in_ok-lists.ensures) slots blocks cells places
+    in let cells = laid c.keeps_limits.ensures c.requires c.as_slice.ensures.value c.in_ok-lists.ensures
+    c.in_ok-slots.ensures
+    in laid_out shop (within c.keeps_limits.ensures c.requires c.as_slice.ensures.value c.in_ok-lists.ensures)
+    (map (λ v. v.items) c.as_slice.result.now)
+    (are c.keeps_limits.ensures c.requires c.as_slice.ensures.value c.in_ok-lists.ensures) slots blocks cells places
     (subst (λ (bs : List ℕ). ArePlaces shop (map (λ v. v.items) c.as_slice.result.now) bs shop.machines places)
     c.as_slice-3.ensures.value
     (subst (λ (vs : List (Vec Slot Global)). ArePlaces shop (map (λ v. v.items) vs) c.as_slice-3.result.now
     shop.machines places)
-    (c.as_slice-2.ensures.value ∙ sym c.as_slice.ensures.value) c.in_ok-places.ensures))
+    (c.as_slice-2.ensures.value ∙ sym c.as_slice.ensures.value)
+    (places_ranked c.args.ranks.now c.args.instance.now (map (λ v. v.items) c.as_slice-2.result.now)
+    c.as_slice-3.result.now shop.machines places c.in_ok-places.ensures)))
     (record {
       jobs = c.in_ok-jobs_of.field-0.items;
       steps = c.in_ok-steps_of.field-0.items;

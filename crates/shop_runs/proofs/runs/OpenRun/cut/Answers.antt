@@ -8,6 +8,13 @@ use Rattle.shop_runs.proofs.FrontCuts.{is_front_cut, front_told, front_round, fr
 use Rattle.shop_runs.proofs.KeptBelow.{all_below}
 use Rattle.shop_runs.proofs.runs.OpenRun.cut.Goals as goal
 
+pub layout_for-requires-clause-front : goal.layout_for-requires-clause-front
+layout_for-requires-clause-front c = subst (AreNodes c.args.instance.now) (sym c.as_slice.ensures.value)
+    (front_nodes c.args.instance.now (planned c.args.plan.now) c.args.self c.least_bound-bound.result
+    c.in_ok-front.front.items [] refl c.requires.search
+    (is_front_cut c.args.plan.now c.args.self c.least_bound-bound.result c.in_ok-front.front.items
+    c.least_bound-bound.ensures c.in_ok-front.ensures.1))
+
 pub of_front-requires-clause-standing : goal.of_front-requires-clause-standing
 of_front-requires-clause-standing c = record {
   stands_at = refl;

@@ -1,4 +1,4 @@
-use Rattle.std.proofs.Common.{◌≡◌, ℕ, ◌++◌, ◌∷◌, [], List, ap, get_or, length, max, refl, sym, subst, arith}
+use Rattle.std.proofs.Common.{◌≡◌, ◌∙◌, ℕ, ◌++◌, ◌∷◌, [], List, ap, get_or, length, max, refl, sym, subst, arith}
 use Rattle.std.proofs.lemmas.List.{get_or_default}
 use Rattle.shop_bound.specs.Bound.{lb}
 use Rattle.shop_layout.specs.Lanes.{rows_of}
@@ -7,6 +7,7 @@ use Rattle.shop_layout.proofs.Written.{written_vec}
 use Rattle.shop_states.specs.declared.dispatching.Candidate.{Candidate}
 use Rattle.shop_states.specs.inner.Advances.{IsAdvancing}
 use Rattle.shop_states.specs.inner.Ceilings.{AreChildCeilings}
+use Rattle.shop_states.proofs.AskedStates.{bound_behind, bound_there, listed_here}
 use Rattle.shop_states.proofs.ListedCandidates.{are_siblings, listed_at}
 use Rattle.shop_states.proofs.OwnSpans.{candidate_advancing}
 use Rattle.shop_states.proofs.ReadStates.{candidate_read, kept_copied}
@@ -17,42 +18,46 @@ bound_children-requires-clause-can g c = record {
   shop = c.args.self.now.shop;
   word = c.requires.can.word;
   kept = kept_copied c.grid.ensures.grid c.copy_from.ensures.heads c.copy_from.ensures.ends c.as_slice.ensures.value
-      c.requires.can.is_word;
-  siblings = are_siblings c.requires.can.is_word.kept.word c.requires.can.listed;
-  bound_is = c.requires.can.bound_is;
+      c.requires.can.is_word.kept;
+  siblings = are_siblings c.requires.can.is_word.kept.kept.word
+      (listed_here c.requires.can.is_word c.requires.can.listed);
+  bound_is = bound_there c.requires.can.is_word c.requires.can.bound_is;
   machines_are = c.requires.scratch.machines;
 }
 
 pub returns-clause-settled : goal.returns-clause-settled
-returns-clause-settled g c = λ w limit others kept bound_is lists k d here enough.
+returns-clause-settled g c = λ w limit others of bound_is lists k d here enough.
     let shop = c.args.self.now.shop
     in let cs = c.args.candidates.now
     in let none : Candidate = record { job = 0; own = 0 }
     in let own = get_or cs k d
     in let same : (get_or cs k none).job ≡ own.job = ap (λ (x : Candidate). x.job) (get_or_default cs k none d here)
     in let copied = kept_copied c.grid.ensures.grid c.copy_from.ensures.heads c.copy_from.ensures.ends
-    c.as_slice.ensures.value kept
+    c.as_slice.ensures.value of.kept
     in let candidate = (listed_at lists k d here).1
     in let advancing = candidate_advancing copied own.job candidate.fits own.own
-    (candidate_read c.grid.ensures.grid candidate) c.as_slice.result.now refl c.args.bound bound_is
+    (candidate_read c.grid.ensures.grid candidate) c.as_slice.result.now refl c.args.bound
+    (bound_there of bound_is)
     (max c.args.bound own.own) refl
     in let its = subst (λ (j : ℕ). IsAdvancing g.L.StateLanes.GREATEST shop w c.grid.result.now
     (rows_of c.grid.result.now (g.L.StateLanes.heads c.copy_from.new.self) (g.L.StateLanes.ends c.copy_from.new.self))
     c.as_slice.result.now j (max c.args.bound own.own)) (sym same) advancing
-    in subst (λ (j : ℕ). lb shop (w ++ j ∷ []) ≡ max c.args.bound own.own) same
-    (c.bound_children.ensures.settled shop w copied (are_siblings kept.kept.word lists) bound_is k
-    (max c.args.bound own.own) here its enough)
+    in sym (bound_behind of own.job candidate.fits)
+    ∙ subst (λ (j : ℕ). lb shop (w ++ j ∷ []) ≡ max c.args.bound own.own) same
+    (c.bound_children.ensures.settled shop w copied (are_siblings of.kept.kept.word (listed_here of lists))
+    (bound_there of bound_is) k (max c.args.bound own.own) here its enough)
 
 pub returns-clause-known : goal.returns-clause-known
-returns-clause-known g c = λ w limit others kept bound_is lists k d here.
+returns-clause-known g c = λ w limit others of bound_is lists k d here.
     let shop = c.args.self.now.shop
     in let cs = c.args.candidates.now
     in let none : Candidate = record { job = 0; own = 0 }
     in let same : (get_or cs k none).job ≡ (get_or cs k d).job =
     ap (λ (x : Candidate). x.job) (get_or_default cs k none d here)
     in let copied = kept_copied c.grid.ensures.grid c.copy_from.ensures.heads c.copy_from.ensures.ends
-    c.as_slice.ensures.value kept
-    in let known = c.bound_children.ensures.known shop w copied (are_siblings kept.kept.word lists) bound_is k here
+    c.as_slice.ensures.value of.kept
+    in let known = c.bound_children.ensures.known shop w copied
+    (are_siblings of.kept.kept.word (listed_here of lists)) (bound_there of bound_is) k here
     in let whole = written_vec c.args.scratch.now.ceilings c.as_mut_slice.result.now c.bound_children.new.ceilings
     c.as_mut_slice.ensures.value c.bound_children.ensures.long
     in subst (λ (xs : List ℕ). AreChildCeilings shop w c.args.self.now.layout (get_or cs k d).job xs) (sym whole)
@@ -64,7 +69,7 @@ pub returns-clause-room : goal.returns-clause-room
 returns-clause-room g c =
     let heads = ap length c.copy_from.ensures.heads in let ends = ap length c.copy_from.ensures.ends
     in let positions = c.bound_children.ensures.positions in let after = ap length c.bound_children.ensures.ends
-    in let kept = c.requires.can.is_word.kept.heads.positions in let jobs = c.requires.can.is_word.ends.jobs
+    in let kept = c.requires.can.is_word.kept.kept.heads.positions in let jobs = c.requires.can.is_word.kept.ends.jobs
     in record {
       positions = omega arith;
       jobs_with_ends = omega arith;

@@ -1,5 +1,6 @@
 use Rattle.std.proofs.Common.{◌∙◌, arith, refl, sym}
 use Rattle.shop_states.proofs.CandidateDispatches.{candidate_can, candidate_kept, candidate_told}
+use Rattle.shop_states.proofs.AskedStates.{bound_there, kept_on_some, told_behind, word_there}
 use Rattle.shop_states.proofs.ReadStates.{kept_copied, kept_read}
 use Rattle.shop_states.proofs.dispatchers.LaidOutDispatchingState.dispatch_below_in_copy.Goals as goal
 
@@ -7,13 +8,13 @@ pub dispatch_in_copy-dispatch-requires-clause-can : goal.dispatch_in_copy-dispat
 dispatch_in_copy-dispatch-requires-clause-can g c = record {
   shop = c.args.self.now.shop;
   word = c.requires.can.word;
-  kept = kept_read c.grid-grid.ensures.grid refl c.requires.can.is.0;
+  kept = kept_read c.grid-grid.ensures.grid refl c.requires.can.is.0.kept;
   fits = c.requires.can.is.1.fits;
 }
 
 pub dispatch_in_copy-dispatch-requires-clause-long : goal.dispatch_in_copy-dispatch-requires-clause-long
 dispatch_in_copy-dispatch-requires-clause-long g c =
-    let from = c.requires.can.is.0 in let to = c.requires.to
+    let from = c.requires.can.is.0.kept in let to = c.requires.to
     in record {
       positions = to.positions ∙ sym from.kept.heads.positions;
       jobs = to.jobs_with_ends ∙ sym from.ends.jobs;
@@ -24,21 +25,23 @@ pub advance_below-requires-clause-can : goal.advance_below-requires-clause-can
 advance_below-requires-clause-can g c =
     let copied = c.dispatch_in_copy-dispatch.ensures.copied
     in candidate_can c.grid-grid.ensures.grid c.dispatch_in_copy-dispatch.ensures.job
-    (kept_copied refl copied.heads_are copied.ends_are copied.nexts_are c.requires.can.is.0) c.requires.can.is.1
-    c.requires.can.bound_is c.range_of-range.ensures.least c.requires.scratch.machines
+    (kept_copied refl copied.heads_are copied.ends_are copied.nexts_are c.requires.can.is.0.kept) c.requires.can.is.1
+    (bound_there c.requires.can.is.0 c.requires.can.bound_is) c.range_of-range.ensures.least c.requires.scratch.machines
     (λ rows heads times tails m here known later above. absurd (omega arith))
 
 pub returns-clause-told : goal.returns-clause-told
-returns-clause-told g c = λ w kept candidate bound_is.
+returns-clause-told g c = λ w of candidate bound_is.
     let copied = c.dispatch_in_copy-dispatch.ensures.copied
-    in candidate_told c.grid-grid.ensures.grid c.dispatch_in_copy-dispatch.ensures.job
-    (kept_copied refl copied.heads_are copied.ends_are copied.nexts_are kept) candidate bound_is
+    in told_behind of c.args.candidate.job c.args.limit c.advance_below.result candidate.fits
+    (candidate_told c.grid-grid.ensures.grid c.dispatch_in_copy-dispatch.ensures.job
+    (kept_copied refl copied.heads_are copied.ends_are copied.nexts_are of.kept) candidate (bound_there of bound_is)
     c.range_of-range.ensures.least c.grid-grid.ensures.ready.limits c.args.limit
-    c.range_of-range.ensures.limit c.advance_below.result c.advance_below.ensures.told
+    c.range_of-range.ensures.limit c.advance_below.result c.advance_below.ensures.told)
 
 pub returns-clause-state : goal.returns-clause-state
-returns-clause-state g c = λ w kept candidate.
+returns-clause-state g c = λ w of candidate.
     let copied = c.dispatch_in_copy-dispatch.ensures.copied
-    in candidate_kept c.grid-grid.ensures.grid c.dispatch_in_copy-dispatch.ensures.job
-    (kept_copied refl copied.heads_are copied.ends_are copied.nexts_are kept) candidate.fits
-    c.advance_below.result _ _ _ c.advance_below.ensures.state
+    in kept_on_some of _ _ _ c.advance_below.result (candidate_kept c.grid-grid.ensures.grid
+    c.dispatch_in_copy-dispatch.ensures.job
+    (kept_copied refl copied.heads_are copied.ends_are copied.nexts_are of.kept) candidate.fits
+    c.advance_below.result _ _ _ c.advance_below.ensures.state)

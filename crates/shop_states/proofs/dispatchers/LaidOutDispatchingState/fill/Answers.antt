@@ -1,12 +1,23 @@
 use Rattle.std.proofs.Common.{◌∙◌, ap, length, refl, sym}
 use Rattle.shop_layout.proofs.Written.{written_vec}
+use Rattle.shop_bound.proofs.Renumbered.{numbers_alike}
+use Rattle.shop_states.proofs.AskedStates.{kept_for}
 use Rattle.shop_states.proofs.ReadStates.{kept_read}
 use Rattle.shop_states.proofs.dispatchers.LaidOutDispatchingState.fill.Goals as goal
 
+pub place_word-requires-clause-word : goal.place_word-requires-clause-word
+place_word-requires-clause-word g c =
+    let alike = numbers_alike c.args.self.now.asked c.args.self.now.shop c.grid.ensures.limits
+    c.grid.ensures.ready.limits c.grid.ensures.renumbered
+    in (alike.words c.args.path.now).0 c.requires.word
+
 pub returns-clause-state : goal.returns-clause-state
 returns-clause-state g c =
-    let kept = c.fill_state.ensures c.args.path.now c.requires.word c.place_word.ensures.placed
+    let alike = numbers_alike c.args.self.now.asked c.args.self.now.shop c.grid.ensures.limits
+    c.grid.ensures.ready.limits c.grid.ensures.renumbered
+    in let kept = c.fill_state.ensures c.args.path.now ((alike.words c.args.path.now).0 c.requires.word)
+    c.place_word.ensures.placed
     in let nexts = written_vec c.args.state.now.next c.as_mut_slice-next.result.now c.fill_state.new.next
     c.as_mut_slice-next.ensures.value (kept.are_next.jobs
     ∙ (sym c.requires.slot.jobs_with_nexts ∙ sym (ap length c.as_mut_slice-next.ensures.value)))
-    in kept_read refl nexts kept
+    in kept_for alike (kept_read refl nexts kept) c.grid.ensures.limits

@@ -5,6 +5,7 @@ use Rattle.shop_layout.specs.Positions.{LayoutState}
 use Rattle.shop_states.specs.declared.dispatching.Candidate.{Candidate}
 use Rattle.shop_states.specs.inner.Candidates.{AreCandidatesOf}
 use Rattle.shop_states.specs.inner.LaneStates.{IsKeptInLanes}
+use Rattle.shop_states.proofs.AskedStates.{listed_there}
 use Rattle.shop_states.proofs.ReadStates.{kept_read}
 use Rattle.shop_states.proofs.dispatchers.LaidOutDispatchingState.list_candidates.Goals as goal
 
@@ -18,8 +19,15 @@ gathered greatest shop l read is heads ends nexts limit cs others are w kept =
     subst (λ (x : LayoutState). AreCandidatesOf shop w x limit cs others) is
     (are shop w (kept_read is refl kept))
 
+pub list_candidates-requires-clause-can : goal.list_candidates-requires-clause-can
+list_candidates-requires-clause-can g c = record {
+  shop = c.args.self.now.shop;
+  word = c.requires.state.word;
+  kept = kept_read c.grid.ensures.grid refl c.requires.state.is.kept;
+}
+
 pub returns-clause-listed : goal.returns-clause-listed
-returns-clause-listed g c = λ w kept. gathered g.L.StateLanes.GREATEST c.args.self.now.shop c.args.self.now.layout
+returns-clause-listed g c = λ w of. listed_there of (gathered g.L.StateLanes.GREATEST c.args.self.now.shop c.args.self.now.layout
     c.grid.result.now c.grid.ensures.grid (g.L.StateLanes.heads c.args.state.now.lanes)
     (g.L.StateLanes.ends c.args.state.now.lanes) c.args.state.now.next.items c.args.limit
-    c.list_candidates.new.candidates.items c.list_candidates.result c.list_candidates.ensures.are w kept
+    c.list_candidates.new.candidates.items c.list_candidates.result c.list_candidates.ensures.are w of.kept)

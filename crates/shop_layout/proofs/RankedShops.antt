@@ -1,0 +1,136 @@
+-- An instance whose machines are called by their ranks differs from it in their numbers alone.
+use Rattle.std.proofs.Common.{◌≡◌, ℕ, zero, suc, ◌+◌, ◌≤◌, ◌<◌, inl, inr, List, [], ◌∷◌, length, map}
+use Rattle.std.proofs.Common.{drop, get_or, refl, sym, ◌∙◌, ap, arith}
+use Rattle.std.specs.List.{sum_by}
+use Rattle.std.proofs.lemmas.Bool.{cases_lt}
+use Rattle.std.proofs.lemmas.List.{drop-map, get_or-map, get_or_past, length-map}
+use Rattle.std.proofs.lemmas.List.Sums.{sum_by-cons}
+use Rattle.shop_model.specs.declared.ops.Op.{Op}
+use Rattle.shop_model.specs.Limits.{IsWithinLimits}
+use Rattle.shop_model.specs.Shop.{Shop, ShopJob, IsOperation, greatest_below, machine_of, no_job, no_op}
+use Rattle.shop_model.specs.Shop.{operation_count, release_of, route_of, time_of}
+use Rattle.shop_bound.specs.Heads.{tail_in}
+use Rattle.shop_bound.specs.Renumbered.{IsRenumbered}
+use Rattle.shop_layout.specs.HeadLimits.{latest_end, total_before}
+use Rattle.shop_layout.specs.Ranks.{AreRanks, ranked, ranked_job, ranked_op}
+
+get_or_mapped : {A B : Type 0} (f : A → B) (xs : List A) (i : ℕ) (d : A)
+    → get_or (map f xs) i (f d) ≡ f (get_or xs i d)
+get_or_mapped f [] i d = refl
+get_or_mapped f (x ∷ xs) zero d = refl
+get_or_mapped f (x ∷ xs) (suc i) d = get_or_mapped f xs i d
+
+sum_mapped : {A B : Type 0} (f : A → B) (g : B → ℕ) (h : A → ℕ) → ((x : A) → g (f x) ≡ h x) → (xs : List A)
+    → sum_by g (map f xs) ≡ sum_by h xs
+sum_mapped f g h e [] = refl
+sum_mapped f g h e (x ∷ xs) =
+    let a = sum_by-cons g (f x) (map f xs) in let b = sum_by-cons h x xs in let c = e x
+    in let d = sum_mapped f g h e xs in omega arith
+
+module _ (ranks : List ℕ) where
+  pub times_ranked : (route : List Op)
+      → sum_by (λ (o : Op). o.time) (map (ranked_op ranks) route) ≡ sum_by (λ (o : Op). o.time) route
+  times_ranked route = sum_mapped (ranked_op ranks) (λ (o : Op). o.time) (λ (o : Op). o.time) (λ o. refl) route
+
+  pub tail_ranked : (route : List Op) (k : ℕ) → tail_in (map (ranked_op ranks) route) k ≡ tail_in route k
+  tail_ranked route k = ap (λ (os : List Op). sum_by (λ (o : Op). o.time) os) (drop-map (ranked_op ranks) (k + 1) route)
+      ∙ times_ranked (drop (k + 1) route)
+
+  pub op_ranked : (route : List Op) (k : ℕ) → k < length route
+      → get_or (map (ranked_op ranks) route) k no_op ≡ ranked_op ranks (get_or route k no_op)
+  op_ranked route k here = get_or-map (ranked_op ranks) route k no_op no_op here
+
+module _ (ranks : List ℕ) (shop : Shop) where
+  job_ranked : (j : ℕ)
+      → get_or (map (ranked_job ranks) shop.jobs) j no_job ≡ ranked_job ranks (get_or shop.jobs j no_job)
+  job_ranked j = get_or_mapped (ranked_job ranks) shop.jobs j no_job
+
+  pub route_ranked : (j : ℕ) → route_of (ranked ranks shop) j ≡ map (ranked_op ranks) (route_of shop j)
+  route_ranked j = ap (λ (job : ShopJob). job.route) (job_ranked j)
+
+  pub release_ranked : (j : ℕ) → release_of (ranked ranks shop) j ≡ release_of shop j
+  release_ranked j = ap (λ (job : ShopJob). job.release) (job_ranked j)
+
+  pub jobs_ranked : length (ranked ranks shop).jobs ≡ length shop.jobs
+  jobs_ranked = length-map shop.jobs (ranked_job ranks)
+
+  pub steps_ranked : (j : ℕ) → length (route_of (ranked ranks shop) j) ≡ length (route_of shop j)
+  steps_ranked j = ap length (route_ranked j) ∙ length-map (route_of shop j) (ranked_op ranks)
+
+  step_ranked : (j k : ℕ) → IsOperation shop j k
+      → get_or (route_of (ranked ranks shop) j) k no_op ≡ ranked_op ranks (get_or (route_of shop j) k no_op)
+  step_ranked j k op =
+      ap (λ (os : List Op). get_or os k no_op) (route_ranked j) ∙ op_ranked ranks (route_of shop j) k op
+
+  step_past : (j k : ℕ) → length (route_of shop j) ≤ k → get_or (route_of (ranked ranks shop) j) k no_op ≡ no_op
+  step_past j k past =
+      let e = steps_ranked j in get_or_past (route_of (ranked ranks shop) j) k no_op (omega arith)
+
+  pub machine_ranked : (j k : ℕ) → IsOperation shop j k
+      → machine_of (ranked ranks shop) j k ≡ get_or ranks (machine_of shop j k) 0
+  machine_ranked j k op = ap (λ (o : Op). o.machine) (step_ranked j k op)
+
+  pub time_ranked : (j k : ℕ) → time_of (ranked ranks shop) j k ≡ time_of shop j k
+  time_ranked j k = elim (cases_lt k (length (route_of shop j))) [
+    | inl op ↦ ap (λ (o : Op). o.time) (step_ranked j k op)
+    | inr past ↦ ap (λ (o : Op). o.time) (step_past j k past)
+        ∙ ap (λ (o : Op). o.time) (sym (get_or_past (route_of shop j) k no_op past))
+  ]
+
+  -- as many operations, and the same latest end
+  pub operations_ranked : operation_count (ranked ranks shop) ≡ operation_count shop
+  operations_ranked = sum_mapped (ranked_job ranks) (λ (job : ShopJob). length job.route)
+      (λ (job : ShopJob). length job.route) (λ job. length-map job.route (ranked_op ranks)) shop.jobs
+
+  total_ranked : (n : ℕ) → total_before (ranked ranks shop) n ≡ total_before shop n
+  total_ranked zero = refl
+  total_ranked (suc n) =
+      let a = total_ranked n
+      in let b = ap (λ (os : List Op). sum_by (λ (o : Op). o.time) os) (route_ranked n)
+      ∙ times_ranked ranks (route_of shop n) in omega arith
+
+  greatest_ranked : (n : ℕ) → greatest_below n (release_of (ranked ranks shop)) ≡ greatest_below n (release_of shop)
+  greatest_ranked zero = refl
+  greatest_ranked (suc n) = let a = greatest_ranked n in let b = release_ranked n in omega arith
+
+  pub latest_end_ranked : latest_end (ranked ranks shop) ≡ latest_end shop
+  latest_end_ranked =
+      let a = ap (λ (n : ℕ). greatest_below n (release_of (ranked ranks shop))) jobs_ranked
+      ∙ greatest_ranked (length shop.jobs)
+      in let b = ap (total_before (ranked ranks shop)) jobs_ranked ∙ total_ranked (length shop.jobs) in omega arith
+
+  module _ (limits : IsWithinLimits shop) (are : AreRanks shop.machines ranks) where
+    machine_within : (j k : ℕ) → machine_of (ranked ranks shop) j k < shop.machines
+    machine_within j k = elim (cases_lt k (length (route_of shop j))) [
+      | inl op ↦ (let a = machine_ranked j k op
+          in let b = are.known (machine_of shop j k) (limits.on_machines j k) in omega arith)
+      | inr past ↦ (let a = ap (λ (o : Op). o.machine) (step_past j k past)
+          in let b = limits.some_machine in omega arith)
+    ]
+
+    pub limits_ranked : IsWithinLimits (ranked ranks shop)
+    limits_ranked = record {
+      some_machine = limits.some_machine;
+      machines = limits.machines;
+      some_job = (let a = jobs_ranked in let b = limits.some_job in omega arith);
+      jobs = (let a = jobs_ranked in let b = limits.jobs in omega arith);
+      releases = λ j. (let a = release_ranked j in let b = limits.releases j in omega arith);
+      routes = λ j. (let a = steps_ranked j in let b = limits.routes j in omega arith);
+      on_machines = machine_within;
+      times = λ j k. (let a = time_ranked j k in let b = limits.times j k in omega arith);
+    }
+
+    pub is_renumbered : IsRenumbered shop (ranked ranks shop)
+    is_renumbered = record {
+      jobs = jobs_ranked;
+      releases = release_ranked;
+      steps = steps_ranked;
+      times = time_ranked;
+      together = λ j k i l op other.
+          (let a = machine_ranked j k op in let b = machine_ranked i l other
+          in (
+            (λ same. are.apart (machine_of shop j k) (machine_of shop i l) (limits.on_machines j k)
+                (limits.on_machines i l) (sym a ∙ same ∙ b)),
+            (λ same. a ∙ ap (λ (m : ℕ). get_or ranks m 0) same ∙ sym b),
+          ));
+    }

@@ -1,0 +1,83 @@
+// Chooses the order in which a round's searches bound machines.
+ghost use Rattle.std.specs.Prelude.{◌≡◌, ◌<◌, IfOk, IfSome, length, vec_len};
+ghost use Rattle.shop_model.specs.Word.{IsWord};
+ghost use Rattle.shop_nodes.specs.Nodes.{AreNodes};
+
+use shop_bound::machine_bounds;
+use shop_layout::Layout;
+use shop_model::{Instance, Word};
+use shop_nodes::Node;
+use std::alloc::{AllocError as NoMemory, Global};
+
+/// Instances of more operations keep the order of their machines. On longer machines most children are settled without a
+/// trial, so the order matters less, and bounding words takes longer.
+const MOST_OPERATIONS: usize = 400;
+
+/// From the bounds of how many words the order is made, at most. More tell little more.
+const WORDS: usize = 4;
+
+/// How many rounds are done before the one whose layout is made anew: its words tell more than the empty word, the only
+/// one of the first round.
+const ROUND_TO_REORDER: u64 = 1;
+
+/// Adds the one-machine bound of each machine after `word` to the machine's number in `keys`. Fails with `NoMemory` if
+/// memory runs out.
+fn add_bounds(
+    alloc: Global,
+    instance: &Instance,
+    word: &Word,
+    keys: &mut [u64],
+) -> Result<(), NoMemory>
+    requires word { IsWord instance.now word.now }
+    requires machines { length keys.old ≡ instance.now.machines }
+    ensures { length keys.new ≡ length keys.old }
+{
+    let bounds = machine_bounds(alloc, instance, word)?;
+    for machine in 0..keys.len() {
+        keys[machine] = keys[machine].saturating_add(bounds[machine]);
+    }
+    Ok(())
+}
+
+/// Answers for each machine the sum of its one-machine bounds after some words of `front`, taken evenly. Fails with
+/// `NoMemory` if memory runs out.
+fn machine_keys(alloc: Global, instance: &Instance, front: &[Node]) -> Result<Vec<u64>, NoMemory>
+    requires { AreNodes instance.now front.now }
+    ensures { IfOk result (λ v. vec_len v ≡ instance.now.machines) }
+{
+    let mut keys = vec![in alloc; 0; instance.machines()]?;
+    let apart = front.len() / WORDS + 1;
+    for index in 0..front.len() {
+        if index % apart == 0 {
+            add_bounds(alloc, instance, &front[index].word, keys.as_mut_slice())?;
+        }
+    }
+    Ok(keys)
+}
+
+/// Answers the layout of a round with the open nodes `front`, before which `rounds` rounds were done: the one in
+/// `kept`, or a new one if there is none. A child is closed as soon as one machine's bound is too high, so the
+/// machines with the greatest bounds after words of `front` come first. The empty word, the only one of a run's first
+/// round, tells this less well than the words of the second, for which the layout is made anew. Fails with `NoMemory`
+/// if memory runs out.
+pub(crate) fn layout_for<'r>(
+    alloc: Global,
+    instance: &'r Instance,
+    kept: Option<Layout<'r>>,
+    rounds: u64,
+    front: &[Node],
+) -> Result<Layout<'r>, NoMemory>
+    requires kept { IfSome kept (λ l. l ≡ instance.now) }
+    requires front { AreNodes instance.now front.now }
+    ensures { IfOk result (λ l. l ≡ instance.now) }
+{
+    let is_ordered = instance.operations() <= MOST_OPERATIONS;
+    match kept {
+        Some(layout) if !is_ordered || rounds != ROUND_TO_REORDER => Ok(layout),
+        _ if is_ordered => {
+            let keys = machine_keys(alloc, instance, front)?;
+            Layout::ordered(alloc, instance, keys.as_slice())
+        }
+        _ => Layout::of(alloc, instance),
+    }
+}
