@@ -1,6 +1,7 @@
 -- Instances that differ in the numbers of their machines alone.
---     IsRenumbered shop other        the same releases, routes and times, and two operations share a
---                                    machine in one of them if they do in the other
+--     IsRenumbered shop other        as many jobs, of the same releases, steps and times, and two
+--                                    operations share a machine in one of them just if they do in the
+--                                    other
 --     AreAlike shop other            the same words, with the same bounds and conflict sets
 --     NumbersDontMatter              such instances are alike
 use Rattle.std.specs.Prelude.{◌≡◌, ◌↔◌, ℕ, List, length}

@@ -23,7 +23,7 @@ use std::alloc::{AllocError as NoMemory, Global};
 const BOUNDS: u64 = 1 << 50;
 
 /// The least number of candidates whose children are bounded together. With fewer, to try each child takes less time.
-const MANY: usize = 4;
+const MANY: usize = 3;
 
 /// Makes `to` a copy of `from`.
 #[inline(always)]

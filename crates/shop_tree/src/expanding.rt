@@ -17,8 +17,8 @@ use shop_model::{SharedWord, Word};
 use shop_states::Dispatching;
 use std::alloc::{AllocError as NoMemory, Global};
 
-/// The most states that are taken back for the children of a word. Up to three candidates are tried, and each child has
-/// a state; of more candidates most are settled, and only the child on top has one.
+/// The most states that are taken back from other words for the children of a word. Where more children are tried and
+/// no state is left, those that are walked later have none.
 const MOST_WANTED: usize = 3;
 
 impl<'l, 'a, D: Dispatching<S>, S: Drop> Walker<'l, 'a, D, S> {
@@ -203,6 +203,7 @@ impl<'l, 'a, D: Dispatching<S>, S: Drop> Walker<'l, 'a, D, S> {
             limit: self.progress.best,
             candidates: self.candidates.as_slice(),
             closed,
+            leaves_many: self.progress.leaves_many(depth),
         };
         let all = self
             .states

@@ -1,14 +1,21 @@
 // The progress of a walk: the word found last, the best makespan, and the budget.
-ghost use Rattle.std.specs.Prelude.{◌≡◌, None};
+ghost use Rattle.std.specs.Prelude.{◌≡◌, ◌≤◌, None};
 ghost use Rattle.shop_model.specs.Shop.{operation_count};
 
 use shop_model::{Instance, Word};
 
-/// The progress of a walk: the word found last, the best makespan, and how many more nodes it may take (`budget`).
+/// How many operations for each machine are many, on average. With fewer left to place, a walk is near full words, where
+/// to bound the children of a word together costs more than it brings: fewer are settled, and more of those are walked,
+/// each in a state that is filled from its word.
+const MANY_LEFT: usize = 10;
+
+/// The progress of a walk: the word found last, the best makespan, and how many more nodes it may take (`budget`). So
+/// many operations left to place are many: `MANY_LEFT` for each machine (`many`).
 #[derive(Drop)]
 pub(crate) struct Progress<'a> {
     pub(crate) instance: &'a Instance,
     pub(crate) operations: usize,
+    many: usize,
     pub(crate) found: Option<Word>,
     pub(crate) best: u64,
     pub(crate) budget: u64,
@@ -22,9 +29,11 @@ impl<'a> Progress<'a> {
     pub(crate) fn new(instance: &'a Instance) -> Progress<'a>
         ensures { result.instance.now ≡ instance.now }
     {
+        instance.keeps_limits();
         Progress {
             instance,
             operations: instance.operations(),
+            many: MANY_LEFT * instance.machines(),
             found: None,
             best: 0,
             budget: 0,
@@ -39,6 +48,14 @@ impl<'a> Progress<'a> {
         self.found = None;
         self.best = best;
         self.budget = budget;
+    }
+
+    /// Tells whether a word of `depth` jobs leaves many operations for each machine.
+    #[inline(always)]
+    pub(crate) fn leaves_many(&self, depth: usize) -> bool
+        requires { depth ≤ self.now.operations }
+    {
+        self.operations - depth >= self.many
     }
 
     /// Takes out the word found last.

@@ -93,6 +93,7 @@ impl<'l, D: Dispatching<S>, S: Drop> WalkStates<'l, D, S> {
             limit,
             candidates,
             closed,
+            ..
         } = *branching;
         let (from, depth) = (stack.len(), word.len() as u32);
         let mut others = closed;

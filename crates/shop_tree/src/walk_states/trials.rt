@@ -59,36 +59,40 @@ impl<'l, D: Dispatching<S>, S: Drop> WalkStates<'l, D, S> {
         )
     }
 
-    /// Bounds the children of the current word by `candidates`, as `Dispatching::bound_children` does. Uses up the
-    /// trial's state. `bound` is the bound of the current word.
+    /// Bounds the children of the current word, that of `branching`, together, as `Dispatching::bound_children` does, if
+    /// the word leaves many operations. Uses up the trial's state.
     #[inline(always)]
-    fn bound_children(&mut self, candidates: &[Candidate], bound: u64) -> Option<u64>
+    fn bound_children(&mut self, branching: &Branching<'_>) -> Option<u64>
         requires sound { HoldSlots D.IsSlot D.IsScratch self.old }
         requires can { HasListed (D.shop self.old.dispatcher.now)
             (λ w. D.IsStateOf self.old.dispatcher.now w self.old.current.value)
-            (D.IsCandidate self.old.dispatcher.now) candidates.now bound }
+            (D.IsCandidate self.old.dispatcher.now) branching.now.candidates.now branching.now.bound }
         ensures sound { HoldSlots D.IsSlot D.IsScratch self.new }
         ensures settled { IfSome result (λ top. (w : List ℕ) (limit others : ℕ)
             → D.IsStateOf self.old.dispatcher.now w self.old.current.value
-            → bound ≡ lb (D.shop self.old.dispatcher.now) w
+            → branching.now.bound ≡ lb (D.shop self.old.dispatcher.now) w
             → ListsBelow (D.shop self.old.dispatcher.now) w limit (D.IsCandidate self.old.dispatcher.now w)
-            (conflict (D.shop self.old.dispatcher.now) w) candidates.now others
-            → Settles (D.shop self.old.dispatcher.now) w bound top candidates.now) }
+            (conflict (D.shop self.old.dispatcher.now) w) branching.now.candidates.now others
+            → Settles (D.shop self.old.dispatcher.now) w branching.now.bound top branching.now.candidates.now) }
         ensures known { IfSome result (λ top. (w : List ℕ) (limit others : ℕ)
             → D.IsStateOf self.old.dispatcher.now w self.old.current.value
-            → bound ≡ lb (D.shop self.old.dispatcher.now) w
+            → branching.now.bound ≡ lb (D.shop self.old.dispatcher.now) w
             → ListsBelow (D.shop self.old.dispatcher.now) w limit (D.IsCandidate self.old.dispatcher.now w)
-            (conflict (D.shop self.old.dispatcher.now) w) candidates.now others
-            → All (λ c. D.KnowsChild self.old.dispatcher.now self.new.scratch w c.job) candidates.now) }
+            (conflict (D.shop self.old.dispatcher.now) w) branching.now.candidates.now others
+            → All (λ c. D.KnowsChild self.old.dispatcher.now self.new.scratch w c.job)
+            branching.now.candidates.now) }
         ensures current { self.new.current.value ≡ self.old.current.value }
         ensures dispatcher { self.new.dispatcher.now ≡ self.old.dispatcher.now }
     {
+        if !branching.leaves_many {
+            return None;
+        }
         self.dispatcher.bound_children(
             &mut self.scratch,
             &self.current,
             &mut self.trial,
-            candidates,
-            bound,
+            branching.candidates,
+            branching.bound,
         )
     }
 
@@ -213,8 +217,8 @@ impl<'l, D: Dispatching<S>, S: Drop> WalkStates<'l, D, S> {
 
     /// Tries each candidate of `branching`, and puts the children of its word with bounds below its limit on the stack:
     /// by bound, then by job, the first on top, each with its state while there is room. Answers how many children are
-    /// closed: those tried in vain, and the others without a listed candidate. Where the dispatcher bounds all children
-    /// at once, `settle_candidates` goes on in place of the trials. Fails with `NoMemory` if memory runs out.
+    /// closed: those tried in vain, and the others without a listed candidate. Where all children are bounded together,
+    /// `settle_candidates` goes on in place of the trials. Fails with `NoMemory` if memory runs out.
     #[inline(always)]
     pub(crate) fn try_candidates(
         &mut self,
@@ -244,8 +248,9 @@ impl<'l, D: Dispatching<S>, S: Drop> WalkStates<'l, D, S> {
             limit,
             candidates,
             closed,
+            ..
         } = *branching;
-        if let Some(top) = self.bound_children(candidates, bound) {
+        if let Some(top) = self.bound_children(branching) {
             // A record of its own: the caller's is then never written to memory.
             let branching = *branching;
             return self.settle_candidates(alloc, stack, &branching, top);
