@@ -19,7 +19,7 @@ use std::marker::Model;
 /// instance both as it was given and with its machines called so.
 pub struct LaidOut<'a, L: StateLanes> {
     instance: &'a Instance,
-    /// the number of each machine in the layout
+    /// the number of each machine in the layout, which only contracts read
     ranks: Ranks,
     grid: Grid<L>,
 }

@@ -1,4 +1,4 @@
-// Lists the operations of each machine by nonincreasing tail, and the machines by rank.
+// Lists the operations of each machine by nonincreasing tail. The list at index r is that of the machine of rank r.
 ghost use Rattle.std.specs.Prelude.{◌≡◌, ℕ, ◌<◌, [], slice_index_or, IfOk, OnOk, length, map};
 ghost use Rattle.std.specs.Prelude.{replicate};
 ghost use Rattle.shop_model.specs.Shop.{no_op};
@@ -23,8 +23,8 @@ pub struct Slot {
     pub tail: u64,
 }
 
-/// Adds the operations of `route`, the route of `job`, to the lists of their machines' ranks. Fails with `NoMemory` if
-/// memory runs out.
+/// Adds the operations of `route`, the route of `job`, to the lists of their machines, each at its machine's rank. Fails
+/// with `NoMemory` if memory runs out.
 fn add_operations(
     lists: &mut [Vec<Slot>],
     route: &[Op],
@@ -66,7 +66,7 @@ fn empty_lists(alloc: Global, instance: &Instance) -> Result<Vec<Vec<Slot>>, NoM
     Ok(lists)
 }
 
-/// Lists the operations of each machine, job by job. Fails with `NoMemory` if memory runs out.
+/// Lists the operations of each machine, job by job, the machines by rank. Fails with `NoMemory` if memory runs out.
 fn operations_by_machine(
     alloc: Global,
     instance: &Instance,

@@ -20,8 +20,8 @@ const WORDS: usize = 4;
 /// one of the first round.
 const ROUND_TO_REORDER: u64 = 1;
 
-/// Adds the one-machine bound of each machine after `word` to the machine's number in `keys`. Fails with `NoMemory` if
-/// memory runs out.
+/// Adds the one-machine bound of each machine after `word` to the machine's number in `keys`. No sum gets near 2^64, and
+/// none has to be right. Fails with `NoMemory` if memory runs out.
 fn add_bounds(
     alloc: Global,
     instance: &Instance,
