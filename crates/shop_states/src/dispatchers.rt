@@ -22,8 +22,8 @@ use std::alloc::{AllocError as NoMemory, Global};
 /// A number that is above the bound of every word of an instance within the limits.
 const BOUNDS: u64 = 1 << 50;
 
-/// The least number of candidates whose children are bounded together. With fewer, to try each child takes less time.
-const MANY: usize = 3;
+/// The least number of candidates whose children are bounded together. A sole child is only tried.
+const MANY: usize = 2;
 
 /// Makes `to` a copy of `from`.
 #[inline(always)]

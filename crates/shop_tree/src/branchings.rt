@@ -13,6 +13,6 @@ pub(crate) struct Branching<'w> {
     pub(crate) candidates: &'w [Candidate],
     /// how many other children there are, all closed
     pub(crate) closed: usize,
-    /// whether the word leaves many operations for each machine, so that its children are best bounded together
-    pub(crate) leaves_many: bool,
+    /// whether the children are best bounded together, before any of them is tried
+    pub(crate) is_together: bool,
 }

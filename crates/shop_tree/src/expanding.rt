@@ -203,7 +203,7 @@ impl<'l, 'a, D: Dispatching<S>, S: Drop> Walker<'l, 'a, D, S> {
             limit: self.progress.best,
             candidates: self.candidates.as_slice(),
             closed,
-            leaves_many: self.progress.leaves_many(depth),
+            is_together: self.progress.is_together(depth, self.candidates.len()),
         };
         let all = self
             .states

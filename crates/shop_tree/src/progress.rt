@@ -4,18 +4,19 @@ ghost use Rattle.shop_model.specs.Shop.{operation_count};
 
 use shop_model::{Instance, Word};
 
-/// How many operations for each machine are many, on average. With fewer left to place, a walk is near full words, where
-/// to bound the children of a word together costs more than it brings: fewer are settled, and more of those are walked,
-/// each in a state that is filled from its word.
-const MANY_LEFT: usize = 10;
+/// From which product on the children of a word are bounded together: of its candidates and of the operations that it
+/// leaves for each machine, on average. To bound them together takes about as long as a trial. The more candidates there
+/// are, the more trials it spares; and near full words fewer children are settled, and more of those are walked, each in
+/// a state that is filled from its word. Measured from 10 x 10 to 200 x 15.
+const TOGETHER: usize = 36;
 
-/// The progress of a walk: the word found last, the best makespan, and how many more nodes it may take (`budget`). So
-/// many operations left to place are many: `MANY_LEFT` for each machine (`many`).
+/// The progress of a walk: the word found last, the best makespan, and how many more nodes it may take (`budget`).
 #[derive(Drop)]
 pub(crate) struct Progress<'a> {
     pub(crate) instance: &'a Instance,
     pub(crate) operations: usize,
-    many: usize,
+    /// `TOGETHER` for all machines
+    together: usize,
     pub(crate) found: Option<Word>,
     pub(crate) best: u64,
     pub(crate) budget: u64,
@@ -33,7 +34,7 @@ impl<'a> Progress<'a> {
         Progress {
             instance,
             operations: instance.operations(),
-            many: MANY_LEFT * instance.machines(),
+            together: TOGETHER * instance.machines(),
             found: None,
             best: 0,
             budget: 0,
@@ -50,12 +51,12 @@ impl<'a> Progress<'a> {
         self.budget = budget;
     }
 
-    /// Tells whether a word of `depth` jobs leaves many operations for each machine.
+    /// Tells whether the children of a word of `depth` jobs with so many candidates are best bounded together.
     #[inline(always)]
-    pub(crate) fn leaves_many(&self, depth: usize) -> bool
+    pub(crate) fn is_together(&self, depth: usize, candidates: usize) -> bool
         requires { depth ≤ self.now.operations }
     {
-        self.operations - depth >= self.many
+        candidates.saturating_mul(self.operations - depth) >= self.together
     }
 
     /// Takes out the word found last.

@@ -59,8 +59,8 @@ impl<'l, D: Dispatching<S>, S: Drop> WalkStates<'l, D, S> {
         )
     }
 
-    /// Bounds the children of the current word, that of `branching`, together, as `Dispatching::bound_children` does, if
-    /// the word leaves many operations. Uses up the trial's state.
+    /// Bounds the children of the current word, that of `branching`, as `Dispatching::bound_children` does, if they are
+    /// best bounded together. Uses up the trial's state.
     #[inline(always)]
     fn bound_children(&mut self, branching: &Branching<'_>) -> Option<u64>
         requires sound { HoldSlots D.IsSlot D.IsScratch self.old }
@@ -84,7 +84,7 @@ impl<'l, D: Dispatching<S>, S: Drop> WalkStates<'l, D, S> {
         ensures current { self.new.current.value ≡ self.old.current.value }
         ensures dispatcher { self.new.dispatcher.now ≡ self.old.dispatcher.now }
     {
-        if !branching.leaves_many {
+        if !branching.is_together {
             return None;
         }
         self.dispatcher.bound_children(
