@@ -6,6 +6,7 @@
 --     place_or n rows j k            the position in the row of job j, or n if it has no step k
 --     AreMachinesOf blocks n ms      the machine of each position, of the first n machines
 --     AreEven blocks each            each machine has `each` blocks, unless `each` is 0
+--     HoldsMachines l n              no machine has more than n positions
 --     position_at_rank blocks m i    where rank i of machine m stands
 --     IsAt l q s                     operation s stands at position q
 --     IsFree shop l q                no operation of the instance stands there
@@ -58,6 +59,11 @@ AreEven blocks each = 0 < each → AreMultiples blocks each
 -- the first position of machine m, and how many positions there are
 abbrev pub first_position : LayoutState → ℕ → ℕ
 first_position l m = 8 * slice_index l.blocks m
+
+-- a row of n numbers has room for the positions of any one machine
+abbrev pub HoldsMachines : LayoutState → ℕ → Type 0
+HoldsMachines l n = (m : ℕ) → m + 1 < length l.blocks
+    → first_position l (m + 1) ≤ first_position l m + n
 
 -- ranks run down the first lane of all blocks of the machine, then down the second one, and so on
 abbrev pub position_at_rank : List ℕ → ℕ → ℕ → ℕ

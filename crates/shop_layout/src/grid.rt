@@ -4,7 +4,7 @@ ghost use Rattle.std.specs.Prelude.{◌≤◌, ◌+◌, ◌-◌, ◌*◌, ◌^�
 ghost use Rattle.shop_lanes.specs.Rows.{AreBlocks, lanes_between};
 ghost use Rattle.shop_lanes.specs.Spans.{AreOwnSpans, FitOwnSpans};
 ghost use Rattle.shop_layout.specs.Lanes.{rows_of};
-ghost use Rattle.shop_layout.specs.Positions.{AreEven};
+ghost use Rattle.shop_layout.specs.Positions.{AreEven, HoldsMachines};
 ghost use Rattle.shop_layout.specs.inner.RouteRows.{AreBelow};
 
 use crate::legs::{Leg, Legs};
@@ -211,6 +211,19 @@ impl<L: StateLanes> Grid<L> {
         ensures { result ≡ length self.now.following }
     {
         self.positions.following.len()
+    }
+
+    /// The number of positions of the machine that has the most of them.
+    pub fn most_positions(&self) -> usize
+        ensures { HoldsMachines self.now result }
+    {
+        let blocks = self.positions.blocks();
+        let mut most = 0;
+        for behind in 1..blocks.len() {
+            // first blocks rise from machine to machine: nothing saturates
+            most = blocks[behind].saturating_sub(blocks[behind - 1]).max(most);
+        }
+        8 * most as usize
     }
 
     /// The head, the time and the tail of the operation at each position, in lanes.

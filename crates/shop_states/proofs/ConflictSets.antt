@@ -50,13 +50,14 @@ module _ {greatest : ℕ} {shop : Shop} {w : List ℕ} {l : LayoutState} {heads 
         (set_is (first.chosen ∷ []) (subst (λ (x : ℕ). AreGathered from x (first.chosen ∷ [])) whole is)) limit
         first.chosen refl cs are
 
-    pub tells : CanTell greatest (rows_of l heads ends) nexts first.chosen from behind
+    pub tells : CanTell greatest (rows_of l heads ends) from behind
     tells = can_tell kept refl first.chosen chosen.has chosen.machine_is from_is behind_is
 
     -- it can be listed
     pub can_list : {to : ℕ} → from ≤ to → to ≤ behind → {below : List ℕ}
-        → below ≡ positions_below (rows_of l heads ends) from to first.end → {count : ℕ} → count ≡ length heads
-        → count < 2 ^ 64 → CanList greatest l (rows_of l heads ends) nexts (record {
+        → below ≡ positions_below (rows_of l heads ends) from to first.end → {count : ℕ}
+        → 8 * behind ≤ 8 * from + count → length heads < 2 ^ 64
+        → CanList greatest l (rows_of l heads ends) nexts (record {
           chosen = first.chosen;
           end = first.end;
           from = from;
@@ -64,9 +65,8 @@ module _ {greatest : ℕ} {shop : Shop} {w : List ℕ} {l : LayoutState} {heads 
           behind = behind;
           below = below;
         }) count
-    can_list {to} ordered last {below} marks {count} many small =
-        let low = tells.low
-        in let within = tells.blocks.within
+    can_list {to} ordered last {below} marks {count} room small =
+        let within = tells.blocks.within
         in record {
           blocks_are = record {
             ordered = ordered;
@@ -80,7 +80,7 @@ module _ {greatest : ℕ} {shop : Shop} {w : List ℕ} {l : LayoutState} {heads 
           few = (let few = kept.kept.limits.jobs in let jobs = kept.are_next.jobs in omega arith);
           known = chosen.known;
           told = λ js is. told_all kept (set_is js is) first.chosen chosen.has chosen.machine_is from_is behind_is count
-              many;
+              room;
         }
 
     pub all_told : (owns : List ℕ) → AreOwnSpans heads l.times l.tails from behind owns

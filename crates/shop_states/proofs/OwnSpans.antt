@@ -32,7 +32,7 @@ use Rattle.shop_states.proofs.ChildReads.{head_here, is_operation, machine_here}
 use Rattle.shop_layout.proofs.LaidPlaces.{each_position, place_of}
 use Rattle.shop_states.proofs.LaneConflicts.{in_filter}
 use Rattle.shop_states.proofs.LaneFits.{spans_fit}
-use Rattle.shop_states.proofs.StateSteps.{next_at, next_known, within}
+use Rattle.shop_states.proofs.StateSteps.{next_at, next_known}
 
 -- heads of one placing are one list
 module _ {shop : Shop} (limits : IsWithinLimits shop) {l : LayoutState} (laid : IsLaidOut shop l) (p : Placing)
@@ -87,12 +87,10 @@ heads_in hs ts qs top from to a b within small =
     (All-take (λ (x : Lane). x.head ≤ top) (8 * to - 8 * from) (drop (8 * from) (lanes hs ts qs))
     (All-drop (λ (x : Lane). x.head ≤ top) (8 * from) (lanes hs ts qs) (head_in hs ts qs top small)))
 
--- the own spans of what waits where the next operation of a job does can be told
-pub record CanTell (greatest : ℕ) (rows : Rows) (nexts : List ℕ) (job from to : ℕ) : Type 0 where
+-- the own spans of what waits in these blocks can be told
+pub record CanTell (greatest : ℕ) (rows : Rows) (from to : ℕ) : Type 0 where
   pub blocks : AreBlocks rows from to
-  pub room : 8 * to - 8 * from ≤ length rows.heads
   pub fits : FitOwnSpans greatest (lanes_between rows from to)
-  pub low : 8 * from ≤ get_or nexts job 0
 
 module _ {greatest : ℕ} {shop : Shop} {w : List ℕ} {l : LayoutState} {heads ends nexts : List ℕ}
     (kept : IsKeptInLanes greatest shop w l (rows_of l heads ends) nexts) where
@@ -179,11 +177,12 @@ module _ {greatest : ℕ} {shop : Shop} {w : List ℕ} {l : LayoutState} {heads 
           in let e : first_position l (machine_of shop j ((placing shop w).steps j) + 1) ≡ first_position l (m + 1) =
           ap (λ (n : ℕ). first_position l (n + 1)) (sym its_machine ∙ m_is) in omega arith
 
-      pub is_told : (count : ℕ) → count ≡ length heads → IsTold nexts (8 * get_or l.blocks m 0) count j
-      is_told count many = record {
+      pub is_told : (count : ℕ) → 8 * get_or l.blocks (m + 1) 0 ≤ 8 * get_or l.blocks m 0 + count
+          → IsTold nexts (8 * get_or l.blocks m 0) count j
+      is_told count room = record {
         job = next_known j kept fits;
         from = its_from;
-        to = (let a = within j kept fits refl in omega arith);
+        to = (let a = its_to in omega arith);
       }
 
       told_is : (owns : List ℕ)
@@ -263,22 +262,18 @@ module _ {greatest : ℕ} {shop : Shop} {w : List ℕ} {l : LayoutState} {heads 
       blocks_are : AreBlocks (rows_of l heads ends) from to
       blocks_are = rw (from_is, to_is) (its_blocks m m_known)
 
-      pub can_tell : CanTell greatest (rows_of l heads ends) nexts first from to
-      can_tell =
-          let b = blocks_are in let b1 = b.ordered in let b2 = b.within
-          in let c = its_from first first_fits (sym m_is)
-          in record {
-            blocks = b;
-            room = omega arith;
-            fits = rw (from_is, to_is) (owns_fit m m_known);
-            low = omega arith;
-          }
+      pub can_tell : CanTell greatest (rows_of l heads ends) from to
+      can_tell = record {
+        blocks = blocks_are;
+        fits = rw (from_is, to_is) (owns_fit m m_known);
+      }
 
-      pub told_all : (count : ℕ) → count ≡ length heads → (j : ℕ) → IsIn jobs j → IsTold nexts (8 * from) count j
-      told_all count many j h =
+      pub told_all : (count : ℕ) → 8 * to ≤ 8 * from + count → (j : ℕ) → IsIn jobs j
+          → IsTold nexts (8 * from) count j
+      told_all count room j h =
           let g = subst (λ (js : List ℕ). IsIn js j) set_is h
           in subst (λ (n : ℕ). IsTold nexts (8 * n) count j) (sym from_is)
-          (is_told j (set_fits j g) (on_its_machine j g) count many)
+          (is_told j (set_fits j g) (on_its_machine j g) count (rw (from_is, to_is) at room))
 
       pub told : (owns : List ℕ) → AreOwnSpans heads l.times l.tails from to owns
           → (limit : ℕ) (cs : List Candidate) (others : ℕ)

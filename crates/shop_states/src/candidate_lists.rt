@@ -1,5 +1,5 @@
 // Lists a word's candidates: the jobs of its conflict set, each with a lower bound of the word extended by that job.
-ghost use Rattle.std.specs.Prelude.{◌≡◌, ℕ, ◌+◌, ◌*◌, ◌≤◌, ◌<◌, List, [], ◌∷◌, ◌++◌, length, map};
+ghost use Rattle.std.specs.Prelude.{◌≡◌, ℕ, ◌+◌, ◌*◌, ◌^◌, ◌≤◌, ◌<◌, List, [], ◌∷◌, ◌++◌, length, map};
 ghost use Rattle.std.specs.Prelude.{slice_index, vec_capacity};
 ghost use Rattle.shop_model.specs.Shop.{Shop};
 ghost use Rattle.shop_states.specs.inner.Candidates.{AreCandidatesOf, CanGather, CanList};
@@ -11,6 +11,7 @@ ghost use Rattle.shop_states.specs.inner.LaneStates.{IsKeptInLanes};
 ghost use Rattle.shop_states.specs.inner.Raises.{IsInBlocks};
 ghost use Rattle.shop_states.specs.inner.RisingLists.{IsGatheredWith, IsIn};
 ghost use Rattle.shop_layout.specs.Lanes.{rows_of};
+ghost use Rattle.shop_layout.specs.Positions.{HoldsMachines};
 
 use crate::dispatching::Candidate;
 use crate::job_sets::BITS;
@@ -189,8 +190,9 @@ fn list_on_machine<L: StateLanes>(
         (rows_of grid.now (L.heads state.now.lanes) (L.ends state.now.lanes)) state.now.next.items
         → IsChosenBy L.GREATEST shop w grid.now (L.heads state.now.lanes)
         state.now.next.items first }
+    requires small { length (L.heads state.now.lanes) < 2 ^ 64 }
     requires none { candidates.old.items ≡ [] }
-    requires owns { length owns.old ≡ length (L.heads state.now.lanes) }
+    requires owns { HoldsMachines grid.now (length owns.old) }
     requires room { length state.now.next.items ≤ vec_capacity candidates.old }
     ensures are { (shop : Shop) (w : List ℕ) → IsKeptInLanes L.GREATEST shop w grid.now
         (rows_of grid.now (L.heads state.now.lanes) (L.ends state.now.lanes)) state.now.next.items
@@ -236,7 +238,7 @@ pub(crate) fn list_candidates<L: StateLanes>(
 ) -> usize
     requires can { CanGather L.GREATEST grid.now
         (rows_of grid.now (L.heads state.now.lanes) (L.ends state.now.lanes)) state.now.next.items }
-    requires owns { length owns.old ≡ length (L.heads state.now.lanes) }
+    requires owns { HoldsMachines grid.now (length owns.old) }
     requires room { length state.now.next.items ≤ vec_capacity candidates.old }
     ensures are { (shop : Shop) (w : List ℕ) → IsKeptInLanes L.GREATEST shop w grid.now
         (rows_of grid.now (L.heads state.now.lanes) (L.ends state.now.lanes)) state.now.next.items

@@ -103,7 +103,7 @@ impl<'a, L: StateLanes> Dispatching<State<L>> for LaidOut<'a, L> {
         let beginning = Beginning::new(alloc, self)?;
         let grid = self.grid();
         let raises = MachineRaises::new(alloc, instance.machines())?;
-        let owns = vec![in alloc; L::narrowed(0); grid.positions()]?;
+        let owns = vec![in alloc; L::narrowed(0); grid.most_positions()]?;
         let ceilings = vec![in alloc; 0; instance.machines()]?;
         Ok(Scratch {
             ready,

@@ -22,7 +22,8 @@ pub struct Scratch<L: StateLanes> {
     pub(crate) beginning: Beginning,
     /// how far heads rose on each machine in a dispatch; empty between dispatches
     pub(crate) raises: MachineRaises<L>,
-    /// owns[i]: how late a machine's operations end, tails included, if the one at its place `i` goes first
+    /// owns[i]: how late a machine's operations end, tails included, if the one at its place `i` goes first; there is
+    /// room for the machine with the most operations
     pub(crate) owns: Vec<L::Number>,
     /// ceilings[machine]: one more than a bound on that machine that no child exceeds, for the word bounded last
     pub(crate) ceilings: Vec<u64>,

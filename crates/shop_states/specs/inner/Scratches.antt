@@ -1,10 +1,10 @@
 -- What a dispatch needs beside a state.
 --     IsScratchOf shop l ready ..    room for the times of jobs and machines, a beginning of a word,
---                                    raises at rest, an own span for each position, a ceiling for
---                                    each machine
+--                                    raises at rest, an own span for each position of any one
+--                                    machine, a ceiling for each machine
 use Rattle.std.specs.Prelude.{◌≡◌, ℕ, List, length}
 use Rattle.shop_model.specs.Shop.{Shop}
-use Rattle.shop_layout.specs.Positions.{LayoutState}
+use Rattle.shop_layout.specs.Positions.{HoldsMachines, LayoutState}
 use Rattle.shop_states.specs.inner.MachineRaises.{AreEmpty}
 use Rattle.shop_states.specs.inner.HeadRaises.{Raise}
 use Rattle.shop_states.specs.declared.beginnings.Beginning.{Beginning}
@@ -17,5 +17,5 @@ pub record IsScratchOf (shop : Shop) (l : LayoutState) (ready free : ℕ) (begin
   pub begun : IsBeginningOf shop l beginning
   pub machines : length raises ≡ shop.machines
   pub at_rest : AreEmpty raises
-  pub positions : owns ≡ length l.following
+  pub holds : HoldsMachines l owns
   pub ceilings : numbers ≡ shop.machines

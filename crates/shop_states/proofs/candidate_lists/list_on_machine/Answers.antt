@@ -1,4 +1,4 @@
-use Rattle.std.proofs.Common.{◌≡◌, List, [], ◌∷◌, ◌∙◌, ℕ, ap, get_or, length, map, refl, subst, arith}
+use Rattle.std.proofs.Common.{◌≡◌, List, [], ◌∷◌, ℕ, ap, get_or, length, map, refl, subst, arith}
 use Rattle.std.specs.List.{All}
 use Rattle.shop_states.proofs.ConflictSets.{all_told, can_list, sole, tells}
 use Rattle.shop_states.proofs.candidate_lists.list_on_machine.Goals as goal
@@ -49,7 +49,9 @@ own_spans-requires g c =
     let kept = c.requires.can.kept
     in let can = tells kept (c.requires.chosen c.requires.can.shop c.requires.can.word kept)
     c.blocks_of-from.ensures.first c.blocks_of-from.ensures.behind
-    in let room = can.room in let owns = c.requires.owns
+    in let chosen = c.requires.chosen c.requires.can.shop c.requires.can.word kept
+    in let holds = c.requires.owns c.args.first.machine chosen.blocks.known
+    in let from = c.blocks_of-from.ensures.first in let behind = c.blocks_of-from.ensures.behind
     in let times = kept.kept.laid.positions.times in let tails = kept.kept.laid.positions.tails
     in let heads = kept.kept.heads.positions
     in record {
@@ -66,7 +68,8 @@ list_conflict_set-requires-clause-can g c =
     in let a = c.blocks_of-from.ensures.first in let b = c.blocks_of-from.ensures.behind
     in let d = chosen.blocks.ordered in let f = c.min.ensures
     in can_list c.requires.can.kept chosen a b (omega arith) (omega arith) c.below-below.ensures
-    (c.own_spans.ensures.long ∙ c.requires.owns) (let few = c.own_spans.auto.owns in omega arith)
+    (let holds = c.requires.owns c.args.first.machine chosen.blocks.known in let long = c.own_spans.ensures.long
+    in omega arith) c.requires.small
 
 pub returns-then-has_no_other-clause-are : goal.returns-then-has_no_other-clause-are
 returns-then-has_no_other-clause-are g c = λ shop w kept.
