@@ -6,13 +6,15 @@ ghost use Rattle.shop_model.specs.Word.{IsWord};
 ghost use Rattle.shop_bound.specs.Bound.{lb};
 ghost use Rattle.shop_bound.specs.Conflicts.{conflict};
 ghost use Rattle.shop_states.specs.States.{TellsBoundBelow};
-ghost use Rattle.shop_states.specs.inner.Advances.{CanAdvance, CanStrike, HasSameRoom, IsAdvancing};
+ghost use Rattle.shop_states.specs.inner.Advances.{CanAdvance, CanGoOn, CanStrike, HasSameRoom};
+ghost use Rattle.shop_states.specs.inner.Advances.{IsAdvancing};
 ghost use Rattle.shop_states.specs.inner.Dispatches.{IsDispatchOf};
 ghost use Rattle.shop_states.specs.inner.LaneEnds.{CanKeepEnds};
 ghost use Rattle.shop_states.specs.inner.LaneStates.{GoesOn, IsKeptInLanes};
 ghost use Rattle.shop_layout.specs.Lanes.{rows_of};
 ghost use Rattle.shop_states.specs.inner.MachineRaises.{AreEmpty};
 
+use crate::delays::delay;
 use crate::dispatches::Dispatch;
 use crate::lane_bounds::LaidLanes;
 use crate::lane_ends::set_end_of;
@@ -102,6 +104,32 @@ pub(crate) fn advance_below<L: StateLanes>(
     }
     go_on(lanes, next, grid, job, position);
     Some(bound)
+}
+
+/// Dispatches the operation of `dispatch`, which was looked up in this state. Does what `advance_below` does, but
+/// bounds nothing, so that heads rise without notes.
+#[inline(always)]
+pub(crate) fn advance<L: StateLanes>(state: &mut State<L>, grid: &Grid<L>, dispatch: Dispatch)
+    requires is { IsDispatchOf grid.now (L.heads state.old.lanes) state.old.next.items dispatch }
+    requires can { CanGoOn L.GREATEST grid.now
+        (rows_of grid.now (L.heads state.old.lanes) (L.ends state.old.lanes)) state.old.next.items
+        dispatch.job }
+    ensures state { (shop : Shop) (w : List ℕ) → IsKeptInLanes L.GREATEST shop w grid.now
+        (rows_of grid.now (L.heads state.old.lanes) (L.ends state.old.lanes)) state.old.next.items
+        → IsWord shop (w ++ dispatch.job ∷ [])
+        → IsKeptInLanes L.GREATEST shop (w ++ dispatch.job ∷ []) grid.now
+        (rows_of grid.now (L.heads state.new.lanes) (L.ends state.new.lanes))
+        state.new.next.items }
+    ensures room { HasSameRoom (rows_of grid.now (L.heads state.old.lanes) (L.ends state.old.lanes))
+        (rows_of grid.now (L.heads state.new.lanes) (L.ends state.new.lanes))
+        state.old.next.items state.new.next.items }
+{
+    let (job, position) = (dispatch.job, dispatch.position);
+    let lanes = &mut state.lanes;
+    let next = state.next.as_mut_slice();
+    lanes.set_head(position, 0);
+    delay(lanes, grid, next, dispatch);
+    go_on(lanes, next, grid, job, position);
 }
 
 /// Dispatches the next operation of `job`, the only job in the conflict set. No head rises.

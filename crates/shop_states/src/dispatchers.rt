@@ -6,7 +6,7 @@ ghost use Rattle.shop_states.specs.inner.Advances.{CanGoOn};
 ghost use Rattle.shop_states.specs.inner.Dispatches.{IsDispatchOf};
 ghost use Rattle.shop_states.specs.inner.StateCopies.{IsAsLong, IsCopied};
 
-use crate::advances::{BoundRange, advance_below, strike};
+use crate::advances::{BoundRange, advance, advance_below, strike};
 use crate::beginnings::Beginning;
 use crate::candidate_lists::list_candidates;
 use crate::dispatches::Dispatch;
@@ -247,6 +247,21 @@ impl<'a, L: StateLanes> Dispatching<State<L>> for LaidOut<'a, L> {
         let dispatch = dispatch_in_copy(grid, from, to, candidate.job);
         let ceilings = scratch.ceilings.as_slice();
         advance_below(to, &mut scratch.raises, ceilings, grid, dispatch, range)
+    }
+
+    #[inline(never)]
+    fn dispatch_settled(
+        &self,
+        _scratch: &mut Scratch<L>,
+        state: &mut State<L>,
+        candidate: Candidate,
+        _bound: u64,
+        _limit: u64,
+    ) -> bool {
+        let grid = self.grid();
+        let dispatch = Dispatch::of(state, grid, candidate.job as usize);
+        advance(state, grid, dispatch);
+        true
     }
 
     ghost state_is_slot = { λ d w s is. record {

@@ -1,6 +1,6 @@
 // The trait `Dispatching`: how a walk fills, copies and extends the states of words.
-ghost use Rattle.std.specs.Prelude.{◌≡◌, ℕ, ◌≤◌, List, [], ◌∷◌, ◌++◌, All, IfOk, IfSome, OnSome};
-ghost use Rattle.std.specs.Prelude.{length};
+ghost use Rattle.std.specs.Prelude.{◌≡◌, ℕ, ◌≤◌, List, [], ◌∷◌, ◌++◌, All, IfOk, IfSome, IsTrue};
+ghost use Rattle.std.specs.Prelude.{OnSome, length};
 ghost use Rattle.std.specs.Prelude.{vec_capacity};
 ghost use Rattle.shop_model.specs.Limits.{IsWithinLimits};
 ghost use Rattle.shop_model.specs.Shop.{Shop};
@@ -238,6 +238,34 @@ pub trait Dispatching<S: Drop> {
     {
         self.copy(from, to);
         self.dispatch_child_below(scratch, to, candidate, bound, limit)
+    }
+
+    /// Dispatches the next operation of `candidate.job` where `bound_children` settled the bound of the extended word,
+    /// so that nothing need be bounded. `bound` and `limit` are as in `dispatch_child_below`. Answers whether `state`
+    /// is that of the extended word now; else it is no word's state any more.
+    fn dispatch_settled(
+        &self,
+        scratch: &mut Self::Scratch,
+        state: &mut S,
+        candidate: Candidate,
+        bound: u64,
+        limit: u64,
+    ) -> bool
+        requires scratch { IsScratch self.now scratch.old }
+        requires can { CanDispatch (shop self.now)
+            (λ w. IsStateOf self.now w state.old × IsCandidate self.now w candidate
+            × KnowsChild self.now scratch.old w candidate.job)
+            candidate.job bound }
+        ensures state { IsTrue result → (w : List ℕ) → IsStateOf self.now w state.old
+            → IsCandidate self.now w candidate
+            → IsStateOf self.now (w ++ candidate.job ∷ []) state.new }
+        ensures slot { IsSlot self.now state.new }
+        ensures scratch { IsScratch self.now scratch.new }
+        ensures kept { (w : List ℕ) (j : ℕ) → KnowsChild self.now scratch.old w j
+            → KnowsChild self.now scratch.new w j }
+    {
+        self.dispatch_child_below(scratch, state, candidate, bound, limit)
+            .is_some()
     }
 
     /// Law: the state of a word also has room for any other state.

@@ -4,6 +4,7 @@
 mod advances;
 mod beginnings;
 mod candidate_lists;
+mod delays;
 mod dispatchers;
 mod dispatches;
 mod dispatching;

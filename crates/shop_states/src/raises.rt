@@ -19,9 +19,9 @@ use std::mem;
 
 /// The routes of an instance, and at which position each job's next operation stands after a word.
 #[derive(Drop)]
-struct OpenRoutes<'a> {
-    routes: Routes<'a>,
-    next: &'a [u32],
+pub(crate) struct OpenRoutes<'a> {
+    pub routes: Routes<'a>,
+    pub next: &'a [u32],
 }
 
 /// Raises the head at `position` to `end`, then every later head on its route that is now too early. Notes in `raises`
@@ -74,7 +74,7 @@ pub(crate) fn raise_route<L: StateLanes>(
 
 /// Sets the end of the operation at `position` to `begin` plus its time, if it is its job's next operation.
 #[inline(always)]
-fn set_end_at<L: StateLanes>(
+pub(crate) fn set_end_at<L: StateLanes>(
     lanes: &mut L,
     routes: &Routes,
     next: &[u32],

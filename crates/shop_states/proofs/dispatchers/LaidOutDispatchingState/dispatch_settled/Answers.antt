@@ -1,0 +1,24 @@
+use Rattle.std.proofs.Common.{refl}
+use Rattle.shop_states.proofs.AskedStates.{kept_on}
+use Rattle.shop_states.proofs.ReadStates.{kept_read}
+use Rattle.shop_states.proofs.dispatchers.LaidOutDispatchingState.dispatch_settled.Goals as goal
+
+pub of-dispatch-requires : goal.of-dispatch-requires
+of-dispatch-requires g c = record {
+  shop = c.args.self.now.shop;
+  word = c.requires.can.word;
+  kept = kept_read c.grid-grid.ensures.grid refl c.requires.can.is.0.kept;
+  fits = c.requires.can.is.1.fits;
+}
+
+pub advance-requires-clause-can : goal.advance-requires-clause-can
+advance-requires-clause-can g c = record {
+  shop = c.args.self.now.shop;
+  word = c.requires.can.word;
+  kept = kept_read c.grid-grid.ensures.grid refl c.requires.can.is.0.kept;
+  fits = rw c.of-dispatch.ensures.job c.requires.can.is.1.fits;
+}
+
+pub returns-clause-state : goal.returns-clause-state
+returns-clause-state g c = λ told w of candidate. kept_on of (rw (c.grid-grid.ensures.grid, c.of-dispatch.ensures.job)
+    at c.advance.ensures.state c.args.self.now.shop w of.kept candidate.fits)
