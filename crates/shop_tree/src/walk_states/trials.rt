@@ -128,9 +128,9 @@ impl<'l, D: Dispatching<S>, S: Drop> WalkStates<'l, D, S> {
         )
     }
 
-    /// Dispatches the candidate with this `job` in the current state itself, after `bound_children`. Answers whether
-    /// the child's bound is below `limit`; else the current state may be no word's state any more. `bound` is the bound
-    /// of the word before the dispatch.
+    /// Dispatches the candidate with this `job` in the current state itself, after `bound_children` settled its child.
+    /// Answers whether the current state is that of the child now; else it may be no word's state any more. `bound` is
+    /// the bound of the word before the dispatch, and the child's is below `limit`.
     pub(crate) fn advance_to(
         &mut self,
         job: u16,
@@ -156,8 +156,7 @@ impl<'l, D: Dispatching<S>, S: Drop> WalkStates<'l, D, S> {
                 let (scratch, state) = (&mut self.scratch, &mut self.current);
                 return self
                     .dispatcher
-                    .dispatch_child_below(scratch, state, candidate, bound, limit)
-                    .is_some();
+                    .dispatch_settled(scratch, state, candidate, bound, limit);
             }
         }
         false
