@@ -240,9 +240,9 @@ pub trait Dispatching<S: Drop> {
         self.dispatch_child_below(scratch, to, candidate, bound, limit)
     }
 
-    /// Dispatches the next operation of `candidate.job` where `bound_children` settled the bound of the extended word,
-    /// so that nothing need be bounded. `bound` and `limit` are as in `dispatch_child_below`. Answers whether `state`
-    /// is that of the extended word now; else it is no word's state any more.
+    /// Does what `dispatch_child_below` does where the bound of the extended word is known already, in fewer steps, for
+    /// nothing need be bounded. Answers whether `state` is that of the extended word now; else it is no word's state
+    /// any more.
     fn dispatch_settled(
         &self,
         scratch: &mut Self::Scratch,

@@ -128,9 +128,9 @@ impl<'l, D: Dispatching<S>, S: Drop> WalkStates<'l, D, S> {
         )
     }
 
-    /// Dispatches the candidate with this `job` in the current state itself, after `bound_children` settled its child.
-    /// Answers whether the current state is that of the child now; else it may be no word's state any more. `bound` is
-    /// the bound of the word before the dispatch, and the child's is below `limit`.
+    /// Dispatches the candidate with this `job` in the current state itself, after `bound_children`, where the bound of
+    /// its child is known already, and is below `limit`. Answers whether the current state is the child's now; else it
+    /// may be no word's state any more. `bound` is the bound of the word before the dispatch.
     pub(crate) fn advance_to(
         &mut self,
         job: u16,
