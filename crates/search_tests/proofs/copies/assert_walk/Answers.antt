@@ -83,6 +83,19 @@ list_candidates-requires-in-loop-2-clause-state g c =
       is = c.in-Some.ensures.same w still its.1;
     }
 
+pub list_candidates-requires-in-loop-3-clause-state : goal.list_candidates-requires-in-loop-3-clause-state
+list_candidates-requires-in-loop-3-clause-state g c =
+    let d = c.args.dispatcher.now in let was = c.loop.invariant.state in let w = was.word in let state = was.is.0
+    in let word = g.met.D.Dispatching.state_is_of_word d w _ state in let long = c.list_candidates.new.candidates.ok.0
+    in let some = c.if-count-eq0.false in let count = c.len-count.ensures
+    in let its = picked word (c.list_candidates.ensures.listed w state) (c.up_to.result % c.len-count.result)
+    c.index-candidate.result.now (omega arith) c.index-candidate.ensures
+    in let still = subst (g.D.Dispatching.IsStateOf d w) (sym c.bound_together-together.ensures.state) state
+    in record {
+      word = w ++ c.index-candidate.result.now.job ∷ [];
+      is = c.in-Some.ensures.alike w still its.1;
+    }
+
 pub loop-preserved : goal.loop-preserved
 loop-preserved g c =
     let d = c.args.dispatcher.now in let was = c.loop.invariant.state in let w = was.word in let state = was.is.0
@@ -103,8 +116,10 @@ loop-preserved g c =
       copied = c.dispatch_twice-told.ensures.copied;
       direct = subst (g.D.Dispatching.IsSlot d) (sym (c.swap.ensures.y_after ∙ c.dispatch_twice-told.ensures.first))
           (g.met.D.Dispatching.state_is_slot d w _ still);
-      scratch = c.list_candidates-in-loop-2.ensures.scratch;
+      settled = c.dispatch_twice-told.ensures.settled;
+      scratch = c.list_candidates-in-loop-3.ensures.scratch;
       room = (let a = c.loop.invariant.room in let b = c.list_candidates.ensures.room
           in let e = c.list_candidates-in-loop.ensures.room in omega arith);
-      others = (let a = c.loop.invariant.others in let b = c.list_candidates-in-loop-2.ensures.room in omega arith);
+      others = (let a = c.loop.invariant.others in let b = c.list_candidates-in-loop-2.ensures.room
+          in let e = c.list_candidates-in-loop-3.ensures.room in omega arith);
     }

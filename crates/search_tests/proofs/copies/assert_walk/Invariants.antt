@@ -9,6 +9,7 @@ invariant-loop g l = record {
       × (l.bound ≡ lb (g.D.Dispatching.shop l.dispatcher) w));
   copied : g.D.Dispatching.IsSlot l.dispatcher l.rooms.copied;
   direct : g.D.Dispatching.IsSlot l.dispatcher l.rooms.direct;
+  settled : g.D.Dispatching.IsSlot l.dispatcher l.rooms.settled;
   scratch : g.D.Dispatching.IsScratch l.dispatcher l.scratch;
   room : length (g.D.Dispatching.shop l.dispatcher).jobs ≤ vec_capacity l.candidates;
   others : length (g.D.Dispatching.shop l.dispatcher).jobs ≤ vec_capacity l.others;

@@ -20,7 +20,8 @@ dispatch_in_copy-again-requires-clause-can g c =
         can.is.0,
         can.is.1,
         still_known c.args.trial.together
-            (λ top known. c.dispatch_below-told.ensures.kept can.word job known) can.is.2,
+            (λ top known. c.dispatch_below-told.ensures.kept can.word job
+            (c.dispatch_unbounded-is_child.ensures.kept can.word job known)) can.is.2,
       );
       fits = can.fits;
       bound_is = can.bound_is;
