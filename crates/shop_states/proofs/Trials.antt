@@ -194,7 +194,8 @@ module _ {greatest : ℕ} {shop : Shop} {w : List ℕ} {l : LayoutState} {hs es 
             in let long = watches.long
             in let its = subst (λ (q : ℕ). IsLeastAt shop w l (rows_of l hs es) d.job q least) (sym is.position_is)
             foreseen
-            in raised_is kept.kept d.job fits now_heads kept.kept.laid.machines_at d.machine d.end least limit (spans - 1)
+            in raised_is kept.kept d.job fits now_heads kept.kept.laid.machines_at d.machine d.end least limit (spans -
+            1)
             (λ under n known. record {
               raise = raise_of after n;
               covered = λ q lies some. subst (λ (k : ℕ). IsSeenAt (raise_of after k)
@@ -203,7 +204,8 @@ module _ {greatest : ℕ} {shop : Shop} {w : List ℕ} {l : LayoutState} {hs es 
             }) (omega arith)
             (λ c above each. let up = taken.within (c + 1) (omega arith) (λ n x y known. each n x y (omega arith))
             in omega arith)
-            (subst (λ (k : ℕ). IsLeastAfter shop w l (rows_of l hs es) d.job d.position k d.end least) (sym is.machine_is)
+            (subst (λ (k : ℕ). IsLeastAfter shop w l (rows_of l hs es) d.job d.position k d.end least) (sym
+            is.machine_is)
             (subst (λ (k : ℕ). IsLeastAfter shop w l (rows_of l hs es) d.job d.position
             (get_or l.machines d.position 0) k least) (sym is.end_is) its))
 

@@ -124,7 +124,7 @@ impl<'a, L: StateLanes> Dispatching<State<L>> for LaidOut<'a, L> {
     }
 
     fn fill(&self, scratch: &mut Scratch<L>, path: &[u16], state: &mut State<L>) {
-        // its promise: the layout differs from the instance in the numbers of machines alone
+        // its promises: the lanes hold every head and end, and the layout only numbers the machines anew
         let _ = self.grid();
         let next = state.next.as_mut_slice();
         let ready = scratch.ready.as_mut_slice();

@@ -1,25 +1,16 @@
-use Rattle.std.proofs.Common.{◌∙◌, arith, refl, sym}
+use Rattle.std.proofs.Common.{arith, refl}
 use Rattle.shop_states.proofs.CandidateDispatches.{candidate_can, candidate_kept, candidate_told}
 use Rattle.shop_states.proofs.AskedStates.{bound_there, kept_on_some, told_behind}
-use Rattle.shop_states.proofs.ReadStates.{kept_copied, kept_read, scratch_again}
+use Rattle.shop_states.proofs.ReadStates.{as_long, goes_on, kept_copied, scratch_again}
 use Rattle.shop_states.proofs.dispatchers.LaidOutDispatchingState.dispatch_below_in_copy.Goals as goal
 
 pub dispatch_in_copy-dispatch-requires-clause-can : goal.dispatch_in_copy-dispatch-requires-clause-can
-dispatch_in_copy-dispatch-requires-clause-can g c = record {
-  shop = c.args.self.now.shop;
-  word = c.requires.can.word;
-  kept = kept_read c.grid-grid.ensures.grid refl c.requires.can.is.0.kept;
-  fits = c.requires.can.is.1.fits;
-}
+dispatch_in_copy-dispatch-requires-clause-can g c =
+    goes_on c.grid-grid.ensures.grid c.requires.can.is.0.kept c.requires.can.is.1.fits
 
 pub dispatch_in_copy-dispatch-requires-clause-long : goal.dispatch_in_copy-dispatch-requires-clause-long
-dispatch_in_copy-dispatch-requires-clause-long g c =
-    let from = c.requires.can.is.0.kept in let to = c.requires.to
-    in record {
-      positions = to.positions ∙ sym from.kept.heads.positions;
-      jobs = to.jobs_with_ends ∙ sym from.ends.jobs;
-      nexts = to.jobs_with_nexts ∙ sym from.are_next.jobs;
-    }
+dispatch_in_copy-dispatch-requires-clause-long g c = as_long g.L.StateLanes.heads g.L.StateLanes.ends
+    c.args.from.now c.args.to.now c.requires.can.is.0.kept c.requires.to
 
 pub advance_below-requires-clause-can : goal.advance_below-requires-clause-can
 advance_below-requires-clause-can g c =
