@@ -16,7 +16,7 @@ use std::mem;
 const BLOCK: usize = 256;
 
 /// For how many of them a chunk that covers another has room at first. Most stacks end in such a chunk.
-const FIRST_ROOM: usize = 64;
+const FIRST_ROOM: usize = 16;
 
 /// A chunk of a stack of words: a top word, which `pop` takes, and the words below it.
 #[derive(Drop)]
@@ -94,8 +94,8 @@ impl Stack {
         self.cover(alloc, word)
     }
 
-    /// Puts `word` on top, in a chunk of its own, which takes a quarter of the memory of a full one at once. Fails with
-    /// `NoMemory` if memory runs out; the stack has then lost words.
+    /// Puts `word` on top, in a chunk of its own, which takes a quarter of a KB at once. Fails with `NoMemory` if memory
+    /// runs out; the stack has then lost words.
     fn cover(&mut self, alloc: Global, word: SharedWord) -> Result<(), NoMemory>
         ensures { OnOk result (words_on self.new ≡ word ∷ words_on self.old) }
     {
