@@ -17,7 +17,7 @@ use Rattle.shop_nodes.specs.Branching.{insert_by}
 use Rattle.shop_runs.specs.declared.stacks.Stack.{Stack}
 use Rattle.shop_nodes.specs.inner.HeldNodes.{nodes_below}
 use Rattle.shop_runs.specs.inner.NodeLists.{least_of_bounds}
-use Rattle.shop_runs.specs.inner.Stacks.{words_in, words_on, words_left, nodes_of_bound, nodes_by_bound}
+use Rattle.shop_runs.specs.inner.Stacks.{words_in, words_on, nodes_of_bound, nodes_by_bound}
 
 cmp_less : (a b : ℕ) → a < b → nat_cmp a b ≡ Less
 cmp_less a b h = rw (lt-ltb a b h) refl
@@ -61,6 +61,11 @@ insert_past n b (w ∷ ws) rest h = rw (lt-leb n.bound b h) (ap (λ ns. record {
 insert_here : (n : Node) (b : ℕ) (s : Stack) (rest : List Node) → n.bound ≤ b
     → insert_by (λ m. m.bound) n (nodes_of_bound b (words_on s) ++ rest) ≡ n ∷ nodes_of_bound b (words_on s) ++ rest
 insert_here n b s rest h = rw (le-leb n.bound b h) refl
+
+-- the words of a stack, if there is one
+abbrev pub words_left : Option Stack → List (List ℕ)
+words_left None = []
+words_left (Some s) = words_on s
 
 -- a word put on the stack of its bound, which is made where there is none
 pub put_is : (es : List (ℕ × Stack)) (w : List ℕ) (k : ℕ) (s : Stack) → IsStrictlySortedBy nat_cmp (keys_of es)
