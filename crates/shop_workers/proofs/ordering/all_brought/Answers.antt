@@ -7,7 +7,7 @@ use Rattle.shop_runs.specs.Entries.{told}
 use Rattle.shop_runs.specs.declared.entries.Entry.{Entry}
 use Rattle.shop_workers.specs.Entries.{OfRound, Brought}
 use Rattle.shop_workers.specs.inner.Gathered.{ListsOfRound}
-use Rattle.shop_workers.proofs.KeptEntries.{through_one}
+use Rattle.shop_workers.proofs.TakenLists.{through_one}
 use Rattle.shop_workers.proofs.ordering.all_brought.Goals as goal
 
 pub loop-entries-preserved : goal.loop-entries-preserved
@@ -29,6 +29,6 @@ loop-entries-preserved c =
       parts.0,
       subst (ListsOfRound r) (sym pushed)
           (All-push (λ (v : Vec Entry Global). OfRound r v.items) lists entries c.loop-entries.invariant.1 here),
-      through_one (λ (b : Brought). IsOk b) (λ (b : Brought). IsOk b) c.args.brought.items brought left (Ok entries)
-          (λ b ok. ok) granted was c.loop-entries.invariant.2,
+      through_one (λ (b : Brought). IsOk b) c.args.brought.items brought left (Ok entries) granted was
+          c.loop-entries.invariant.2,
     )

@@ -3,7 +3,7 @@ use Rattle.std.specs.Prelude.{IsOk}
 use Rattle.shop_runs.specs.Entries.{told}
 use Rattle.shop_workers.specs.Entries.{Brought}
 use Rattle.shop_workers.specs.inner.Gathered.{AllOfRound, ListsOfRound}
-use Rattle.shop_workers.proofs.KeptEntries.{AreThrough}
+use Rattle.shop_workers.proofs.TakenLists.{AreThrough}
 use Rattle.shop_workers.proofs.ordering.all_brought.Given as goal
 
 abbrev pub invariant-loop-entries : goal.invariant-loop-entries

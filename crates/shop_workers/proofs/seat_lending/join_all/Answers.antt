@@ -11,7 +11,7 @@ use Rattle.shop_workers.specs.inner.Gathered.{ListsOfRound}
 use Rattle.shop_workers.specs.inner.Returns.{IsReturned}
 use Rattle.shop_workers.specs.declared.boards.Seat.{Seat}
 use Rattle.shop_workers.specs.declared.seat_lending.Returned.{Returned}
-use Rattle.shop_workers.proofs.KeptEntries.{through_one}
+use Rattle.shop_workers.proofs.TakenLists.{through_one}
 use Rattle.shop_workers.proofs.seat_lending.join_all.Goals as goal
 use Rattle.shop_workers.proofs.seat_lending.join_all.Goals.{in-Some-joined, in-None}
 
@@ -44,6 +44,6 @@ loop-seat-preserved c =
       subst (ListsOfRound r) (sym pushed)
           (All-push (λ (v : Vec Entry Global). OfRound r v.items) lists entries c.loop-seat.invariant.1 of),
       parts.0,
-      through_one (λ (w : Returned). IsOk w.entries) (λ (w : Returned). IsOk w.entries) c.args.returned.items all left
-          taken (λ w ok. ok) granted was c.loop-seat.invariant.3,
+      through_one (λ (w : Returned). IsOk w.entries) c.args.returned.items all left taken granted was
+          c.loop-seat.invariant.3,
     )

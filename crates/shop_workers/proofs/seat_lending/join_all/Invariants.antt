@@ -5,7 +5,7 @@ use Rattle.shop_workers.specs.inner.Gathered.{ListsOfRound}
 use Rattle.shop_workers.specs.Seats.{IsSeatOf}
 use Rattle.shop_workers.specs.inner.Returns.{IsReturned}
 use Rattle.shop_workers.specs.declared.seat_lending.Returned.{Returned}
-use Rattle.shop_workers.proofs.KeptEntries.{AreThrough}
+use Rattle.shop_workers.proofs.TakenLists.{AreThrough}
 use Rattle.shop_workers.proofs.seat_lending.join_all.Given as goal
 
 abbrev pub invariant-loop-seat : goal.invariant-loop-seat

@@ -3,13 +3,13 @@ use Rattle.shop_runs.specs.Entries.{told}
 use Rattle.shop_runs.specs.Hits.{hits_of_round}
 use Rattle.shop_runs.specs.Hits.{IsHitOrEnd}
 use Rattle.shop_workers.proofs.TakenEntries.{AreTaken}
-use Rattle.shop_workers.proofs.lock_search.serve_with.Given as goal
+use Rattle.shop_workers.proofs.lock_search.serve.Given as goal
 
 abbrev pub invariant-loop : goal.invariant-loop
 invariant-loop g l =
     let searched = g.P.PieceSearch.searched in
     (goal.iterator-loop g).can_next l.iterator'
     × (goal.iterator-loop g).is_finite l.iterator'
-    × (searched l.searcher ≡ searched l.initial.searcher)
-    × IsHitOrEnd (hits_of_round (searched l.initial.searcher)) l.low
-    × AreTaken (told (searched l.initial.searcher)) l.low l.entries.items
+    × (searched l.searcher ≡ l.round)
+    × IsHitOrEnd (hits_of_round l.round) l.low
+    × AreTaken (told l.round) l.low l.entries.items

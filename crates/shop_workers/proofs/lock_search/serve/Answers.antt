@@ -4,12 +4,12 @@ use Rattle.shop_runs.specs.Crews.{IsEntryOf}
 use Rattle.shop_runs.specs.Hits.{hits_of_round}
 use Rattle.shop_runs.specs.Hits.{IsHitOrEnd}
 use Rattle.shop_workers.proofs.TakenEntries.{AreTaken, one_taken}
-use Rattle.shop_workers.proofs.lock_search.serve_with.Goals as goal
+use Rattle.shop_workers.proofs.lock_search.serve.Goals as goal
 
 pub loop-preserved : goal.loop-preserved
 loop-preserved g c =
     let searched = g.P.PieceSearch.searched in
-    let round = searched c.args.searcher.now in
+    let round = c.args.round.now in
     let same : searched c.loop.searcher ≡ round = c.loop.invariant.2 in
     let before = c.loop.low in
     let low = c.search_or_pass.new.low in
