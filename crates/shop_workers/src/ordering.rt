@@ -4,13 +4,13 @@ ghost use Rattle.std.specs.Prelude.{slice_set, slice_index_or, vec_len};
 ghost use Rattle.shop_runs.specs.Entries.{told};
 ghost use Rattle.shop_runs.specs.Crews.{OneForEach, IsEntryOf};
 ghost use Rattle.shop_workers.specs.Entries.{OfRound};
-ghost use Rattle.shop_workers.specs.inner.Gathered.{AllOfRound, ListsOfRound, Placed};
+ghost use Rattle.shop_workers.specs.inner.Gathered.{AllOfRound, Placed};
 
 use shop_runs::{Entry, PieceSearch, Round};
 use std::alloc::{AllocError as NoMemory, Global};
 
-// Makes an empty place for the entry of each piece of `round`.
-fn places<'r>(alloc: Global, round: &'r Round<'r>) -> Result<Vec<Option<Entry<'r>>>, NoMemory>
+/// Makes an empty place for the entry of each piece of `round`. Fails with `NoMemory` if memory runs out.
+pub fn places<'r>(alloc: Global, round: &'r Round<'r>) -> Result<Vec<Option<Entry<'r>>>, NoMemory>
     ensures len { IfOk result (λ v. vec_len v ≡ length round.now.pieces.items) }
     ensures placed { IfOk result (λ v. Placed (told round.now) v.items) }
 {
@@ -34,8 +34,12 @@ fn put<'r>(round: &'r Round<'r>, slots: &mut Vec<Option<Entry<'r>>>, entry: Entr
     }
 }
 
-// Puts each of `entries`, from the last to the first, into its piece's place in `slots`, over any entry there.
-fn place<'r>(round: &'r Round<'r>, slots: &mut Vec<Option<Entry<'r>>>, mut entries: Vec<Entry<'r>>)
+/// Puts each of `entries`, from the last to the first, into its piece's place in `slots`, over any entry there.
+pub fn place<'r>(
+    round: &'r Round<'r>,
+    slots: &mut Vec<Option<Entry<'r>>>,
+    mut entries: Vec<Entry<'r>>,
+)
     requires entries { OfRound (told round.now) entries.items }
     requires slots { Placed (told round.now) slots.old.items }
     ensures len { vec_len slots.new ≡ vec_len slots.old }
@@ -96,53 +100,20 @@ pub fn complete<'r, P: PieceSearch<'r>>(
     Ok(entries)
 }
 
-/// Puts the entries that workers brought into the places of their pieces, and keeps one entry for each piece. The place
-/// of a piece without an entry stays empty. Fails with `NoMemory` if memory runs out.
-pub fn in_places<'r>(
-    alloc: Global,
-    round: &'r Round<'r>,
-    mut lists: Vec<Vec<Entry<'r>>>,
-) -> Result<Vec<Option<Entry<'r>>>, NoMemory>
-    requires { ListsOfRound (told round.now) lists.items }
-    ensures len { IfOk result (λ v. vec_len v ≡ length round.now.pieces.items) }
-    ensures placed { IfOk result (λ v. Placed (told round.now) v.items) }
-{
-    let mut slots = places(alloc, round)?;
-    while let Some(entries) = lists.pop() {
-        place(round, &mut slots, entries);
-    }
-    Ok(slots)
-}
-
-// Collects the lists that the workers brought. Fails with `NoMemory` if memory runs out, here or for a worker.
-fn all_brought<'r>(
-    alloc: Global,
-    round: &'r Round<'r>,
-    mut brought: Vec<Result<Vec<Entry<'r>>, NoMemory>>,
-) -> Result<Vec<Vec<Entry<'r>>>, NoMemory>
-    requires { AllOfRound (told round.now) brought.items }
-    ensures granted { OnOk result (All IsOk brought.entry.items) }
-    ensures entries { IfOk result (λ v. ListsOfRound (told round.now) v.items) }
-{
-    let mut lists = Vec::with_capacity(alloc, brought.len())?;
-    while let Some(entries) = brought.pop() {
-        lists.push(entries?)?;
-    }
-    Ok(lists)
-}
-
 /// Answers one entry for each piece of `round`, in number order: takes one that a worker brought, or searches the piece
 /// if no worker brought one. Fails with `NoMemory` if memory runs out, here or for a worker.
 pub fn in_order<'r, P: PieceSearch<'r>>(
     alloc: Global,
     round: &'r Round<'r>,
-    brought: Vec<Result<Vec<Entry<'r>>, NoMemory>>,
+    mut brought: Vec<Result<Vec<Entry<'r>>, NoMemory>>,
 ) -> Result<Vec<Entry<'r>>, NoMemory>
     requires { AllOfRound (told round.now) brought.items }
     ensures granted { OnOk result (All IsOk brought.entry.items) }
     ensures each { IfOk result (λ v. OneForEach (told round.now) v.items) }
 {
-    let lists = all_brought(alloc, round, brought)?;
-    let slots = in_places(alloc, round, lists)?;
+    let mut slots = places(alloc, round)?;
+    while let Some(entries) = brought.pop() {
+        place(round, &mut slots, entries?);
+    }
     complete::<P>(alloc, round, slots)
 }

@@ -1,12 +1,9 @@
 -- What the workers of a round bring, in the places of its pieces.
 --     AllOfRound round lists        the entries of each worker that wasn't refused memory are of
 --                                   this round
---     ListsOfRound round lists      the entries of each worker are of this round
 --     Placed round places           an entry that stands in a place is that of the piece of this
 --                                   number
 use Rattle.std.specs.Prelude.{ℕ, ◌<◌, List, length, All, Option, IfSome, IfOk, slice_index_or}
-use Rattle.std.specs.declared.vec.Vec.{Vec}
-use Rattle.std.specs.declared.alloc.Global.{Global}
 use Rattle.shop_runs.specs.Round.{Told}
 use Rattle.shop_runs.specs.Crews.{IsEntryOf}
 use Rattle.shop_runs.specs.declared.entries.Entry.{Entry}
@@ -14,9 +11,6 @@ use Rattle.shop_workers.specs.Entries.{OfRound, Brought}
 
 abbrev pub AllOfRound : Told → List Brought → Type 0
 AllOfRound r lists = All (λ (l : Brought). IfOk l (λ v. OfRound r v.items)) lists
-
-abbrev pub ListsOfRound : Told → List (Vec Entry Global) → Type 0
-ListsOfRound r lists = All (λ (v : Vec Entry Global). OfRound r v.items) lists
 
 abbrev pub Placed : Told → List (Option Entry) → Type 0
 Placed r places =

@@ -1,4 +1,4 @@
-use Rattle.std.proofs.Common.{rules, ◌≡◌, ◌∙◌, sym, subst, length, None, ◌+◌, ◌<◌}
+use Rattle.std.proofs.Common.{rules, ◌≡◌, ◌∙◌, sym, subst, length, None, ◌+◌}
 use Rattle.std.proofs.lemmas.List.{length-map}
 use Rattle.shop_runs.specs.Entries.{told}
 use Rattle.shop_workers.proofs.Places.{EntriesUpTo, placed_set, one_more, all_entries}
@@ -20,6 +20,7 @@ loop-number-preserved g c =
           (one_more r c.loop-number.entries.items number entry (search rules) so_far (search rules)),
       search rules,
     )
+
 pub returns : goal.returns
 returns g c =
     let r = told c.args.round.now in
