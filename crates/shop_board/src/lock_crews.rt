@@ -66,7 +66,7 @@ impl<G: Gate + Sync> LockCrew<G> {
             &|index: usize|
                 requires { index < count }
                 ensures { IfOk result (λ v. OfRound (told round.entry.now) v.items) }
-            { serve::<PieceSearcher<'r>, R, G>(rt, alloc, round, lock, gate, count - 1 - index) },
+            { serve::<PieceSearcher, R, G>(rt, alloc, round, lock, gate, count - 1 - index) },
         )?;
         in_order::<PieceSearcher<'r>>(alloc, round, lists)
     }
