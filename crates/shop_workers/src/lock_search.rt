@@ -6,7 +6,7 @@ ghost use Rattle.shop_runs.specs.Crews.{IsEntryOf};
 ghost use Rattle.shop_runs.specs.Hits.{hits_of_round, IsHitOrEnd};
 ghost use Rattle.shop_workers.specs.Entries.{OfRound, IsPassed, LetsPass};
 
-use crate::pool_gates::Gate;
+use crate::gates::Gate;
 use crate::pools::Pool;
 use shop_runs::{Entry, PieceSearch, Round};
 use std::alloc::{AllocError as NoMemory, Global};

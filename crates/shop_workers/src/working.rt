@@ -8,7 +8,7 @@ ghost use Rattle.shop_workers.specs.Works.{Grows, IsKnown, IsAllKnown, BringsWon
 ghost use Rattle.shop_workers.specs.inner.Turns.{IsServedEntry, BringsTurn};
 
 use crate::boards::{Board, Seat};
-use crate::seat_gates::SeatGate;
+use crate::gates::SeatGate;
 use shop_runs::{Entry, PieceSearch};
 use std::alloc::{AllocError as NoMemory, Global};
 
