@@ -6,6 +6,7 @@ use Rattle.std.specs.Prelude.{IsSome, slice_index_or, slice_set}
 use Rattle.std.specs.List.{AllByRecursion}
 use Rattle.std.specs.Global.{Box}
 use Rattle.std.proofs.lemmas.Bool.{cases_eq, eq-eqb, ne_eqb, le-ltb, lt-ltb}
+use Rattle.std.proofs.lemmas.List.{length-map}
 use Rattle.std.proofs.lemmas.List.Elements.{filter-append}
 use Rattle.shop_nodes.specs.Branching.{insert_by}
 use Rattle.shop_nodes.specs.declared.nodes.Node.{Node}
@@ -243,8 +244,4 @@ count_next k os d h =
     in let behind = row_length 1 0 (drop (suc k) os) ∙ ap (λ n. length (nodes_in_row 0 (drop n os))) next
     in ap (λ xs. length (nodes_in_row 0 xs)) (next_at k os d h)
     ∙ (length-append (nodes_of_bound 0 (words_at o)) (nodes_in_row 1 (drop (suc k) os))
-    ∙ (λ i. named 0 (words_at o) i + behind i))
-  where
-    named : (b : ℕ) (ws : List (List ℕ)) → length (nodes_of_bound b ws) ≡ length ws
-    named b [] = refl
-    named b (w ∷ ws) = ap suc (named b ws)
+    ∙ (λ i. length-map (words_at o) (λ (w : List ℕ). let n : Node = record { word = w; bound = 0 } in n) i + behind i))

@@ -1,6 +1,6 @@
 -- The front that is cut off a run's open nodes.
 use Rattle.std.proofs.Common.{◌≡◌, ℕ, ◌*◌, ◌<◌, ◌≤◌, List, [], length, take, drop, sym, ◌∙◌, ap, subst, arith}
-use Rattle.std.proofs.lemmas.List.{drop-map}
+use Rattle.std.proofs.lemmas.List.{drop-map, length-map}
 use Rattle.std.proofs.lemmas.List.Elements.{All-take}
 use Rattle.shop_model.specs.Shop.{Shop}
 use Rattle.shop_bound.specs.Bound.{lb}
@@ -15,7 +15,7 @@ use Rattle.shop_runs.specs.inner.NodeLists.{least_of_bounds, nodes_in}
 use Rattle.shop_nodes.specs.declared.pieces.Piece.{Piece}
 use Rattle.shop_runs.proofs.Covering.{cut_is_round}
 use Rattle.shop_runs.proofs.NodeLemmas.{least_is}
-use Rattle.shop_runs.proofs.PieceLemmas.{cut_words, cut_nodes, few_pieces, length_in, cut_front}
+use Rattle.shop_runs.proofs.PieceLemmas.{cut_words, cut_nodes, few_pieces, cut_front}
 use Rattle.shop_runs.specs.declared.runs.OpenRun.{OpenRun}
 use Rattle.shop_runs.specs.inner.Searches.{IsSearchOf, front_of, stand_of}
 use Rattle.shop_runs.specs.inner.Stores.{open_list}
@@ -81,7 +81,7 @@ module _ (shop : Shop) (plan : Planned) (t : OpenRun) (bound : ℕ) (front : Lis
       made_pieces = cut_nodes shop ps 256 plan.piece front pieces front_nodes
 
       pub made_few : length ps ≤ 256
-      made_few = let a = few_pieces 256 plan.piece front in let b = ap length pieces in let d = length_in ps
+      made_few = let a = few_pieces 256 plan.piece front in let b = ap length pieces in let d = length-map ps (λ (p : Piece). p.nodes.items)
           in omega arith
 
 -- the others are the rest of what is cut

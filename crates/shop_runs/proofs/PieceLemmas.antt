@@ -133,11 +133,6 @@ cut_nodes shop ps n size ns e a = All-from_recursion (λ p. AreNodes shop p.node
     (are_pieces shop ps (subst (AllByRecursion (AllByRecursion (IsNode shop))) (sym e)
     (all_cut (IsNode shop) n size ns (recursion_from_All (IsNode shop) ns a))))
 
--- so many pieces as there are lists of nodes
-pub length_in : (ps : List Piece) → length (nodes_in ps) ≡ length ps
-length_in [] = refl
-length_in (p ∷ ps) = ap suc (length_in ps)
-
 -- a turn of the cutting: the pieces so far, and what is left, are all
 pub cut_turn : (ps : List Piece) (p : Piece) (n size : ℕ) (rest rest' all : List Node) → n < 256 → 0 < length rest
     → p.nodes.items ≡ take size rest → rest' ≡ drop size rest
