@@ -44,7 +44,8 @@ impl<G> LockCrew<G> {
 
 impl<G: Gate + Sync> LockCrew<G> {
     /// Does what `Crew::search` does, for a crew with a gate of any type: answers one entry for each piece of `round`,
-    /// in number order. Fails with `NoMemory` if memory runs out. Joins all workers before it returns or fails.
+    /// in number order. Uses at most one worker for each piece. If a thread can't start, the other threads do its work.
+    /// Fails with `NoMemory` if memory runs out. Joins all workers before it returns or fails.
     pub fn search_round<'r, R: Threads + Wait + Sync>(
         &self,
         rt: &R,
@@ -53,7 +54,21 @@ impl<G: Gate + Sync> LockCrew<G> {
     ) -> Result<Vec<Entry<'r>>, NoMemory>
         ensures { IfOk result (λ v. OneForEach (told round.now) v.items) }
     {
-        search_shared(rt, alloc, round, self.workers.count, &self.gate)
+        let pieces = round.pieces.len();
+        let pool = Mutex::new(Pool::open(pieces));
+        let (lock, gate) = (&pool, &self.gate);
+        let count = self.workers.count.min(pieces);
+        // `map_indices` runs the last index on the calling thread, which is thus worker 0.
+        let lists = thread::map_indices(
+            rt,
+            alloc,
+            count,
+            &|index: usize|
+                requires { index < count }
+                ensures { IfOk result (λ v. OfRound (told round.entry.now) v.items) }
+            { serve::<PieceSearcher, R, G>(rt, alloc, round, lock, gate, count - 1 - index) },
+        )?;
+        in_order::<PieceSearcher<'r>>(alloc, round, lists)
     }
 }
 
@@ -68,46 +83,4 @@ impl<R: Threads + Wait + Sync> Crew<R> for LockCrew<OpenGate> {
     ) -> Result<Vec<Entry<'r>>, NoMemory> {
         self.search_round(rt, alloc, round)
     }
-}
-
-// Searches, by `shop_tree`, the pieces whose numbers worker `worker` takes from `pool`, and answers their entries.
-fn serve_by_search<'r, R: Wait, G: Gate>(
-    rt: &R,
-    alloc: Global,
-    round: &'r Round<'r>,
-    pool: &Mutex<Pool>,
-    gate: &G,
-    worker: usize,
-) -> Result<Vec<Entry<'r>>, NoMemory>
-    ensures { IfOk result (λ v. OfRound (told round.now) v.items) }
-{
-    serve::<PieceSearcher<'r>, R, G>(rt, alloc, round, pool, gate, worker)
-}
-
-// Searches `round` by `workers` workers (fewer if it has fewer pieces) that take piece numbers from a pool. The calling
-// thread is one of them. If a thread can't start, the other threads do its work.
-fn search_shared<'r, R: Threads + Wait + Sync, G: Gate + Sync>(
-    rt: &R,
-    alloc: Global,
-    round: &'r Round<'r>,
-    workers: usize,
-    gate: &G,
-) -> Result<Vec<Entry<'r>>, NoMemory>
-    ensures { IfOk result (λ v. OneForEach (told round.now) v.items) }
-{
-    let pieces = round.pieces.len();
-    let pool = Mutex::new(Pool::open(pieces));
-    let lock = &pool;
-    let count = workers.min(pieces);
-    // `map_indices` runs the last index on the calling thread, which is thus worker 0.
-    let lists = thread::map_indices(
-        rt,
-        alloc,
-        count,
-        &|index: usize|
-            requires { index < count }
-            ensures { IfOk result (λ v. OfRound (told round.entry.now) v.items) }
-        { serve_by_search(rt, alloc, round, lock, gate, count - 1 - index) },
-    )?;
-    in_order::<PieceSearcher<'r>>(alloc, round, lists)
 }

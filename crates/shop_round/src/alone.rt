@@ -3,7 +3,7 @@ ghost use Rattle.std.specs.Prelude.{IfOk};
 ghost use Rattle.shop_runs.specs.Entries.{told};
 ghost use Rattle.shop_runs.specs.Crews.{OneForEach, StopsAtHit};
 
-use crate::hit_search::search_up_to_hit;
+use crate::hit_search::entry_up_to_hit;
 use crate::piece_searchers::PieceSearcher;
 use shop_runs::{Crew, Entry, PieceSearch, Round};
 use std::alloc::{AllocError as NoMemory, Global};
@@ -25,7 +25,14 @@ impl Alone {
         ensures stops { IfOk result (λ v. StopsAtHit (told round.now) v.items) }
     {
         let mut searcher = PieceSearcher::over(round);
-        search_up_to_hit(alloc, &mut searcher)
+        let pieces = round.pieces.len();
+        let mut entries = Vec::with_capacity(alloc, pieces)?;
+        let mut hit = None;
+        for number in 0..pieces {
+            let entry = entry_up_to_hit(alloc, &mut searcher, number, &mut hit)?;
+            entries.push(entry)?;
+        }
+        Ok(entries)
     }
 }
 

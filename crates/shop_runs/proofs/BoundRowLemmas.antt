@@ -5,7 +5,8 @@ use Rattle.std.proofs.Common.{append_assoc, length-append, eqb}
 use Rattle.std.specs.Prelude.{IsSome, slice_index_or, slice_set}
 use Rattle.std.specs.List.{AllByRecursion}
 use Rattle.std.specs.Global.{Box}
-use Rattle.std.proofs.lemmas.Bool.{cases_eq, eq-eqb, ne_eqb, le-leb, le-ltb, lt-ltb}
+use Rattle.std.proofs.lemmas.Bool.{cases_eq, eq-eqb, ne_eqb, le-ltb, lt-ltb}
+use Rattle.std.proofs.lemmas.List.{length-map}
 use Rattle.std.proofs.lemmas.List.Elements.{filter-append}
 use Rattle.shop_nodes.specs.Branching.{insert_by}
 use Rattle.shop_nodes.specs.declared.nodes.Node.{Node}
@@ -14,6 +15,7 @@ use Rattle.shop_nodes.specs.inner.HeldNodes.{nodes_below}
 use Rattle.shop_runs.specs.inner.NodeLists.{least_of_bounds}
 use Rattle.shop_runs.specs.inner.BoundRows.{AreEmptyBelow, IsFirstFrom}
 use Rattle.shop_runs.specs.inner.Stacks.{Place, words_at, nodes_of_bound, nodes_in_row}
+use Rattle.shop_runs.proofs.SortLemmas.{insert_low}
 use Rattle.shop_runs.proofs.StackLemmas.{insert_past, below_one, least_all, bounds_all, words_under}
 
 -- an empty place more
@@ -64,12 +66,6 @@ pub all_from : (c b : ℕ) (os : List Place) → c ≤ b → AllByRecursion (λ 
 all_from c b [] h = tt
 all_from c b (o ∷ os) h = bounds_all c b (words_at o) (nodes_in_row (suc b) os) h (all_from c (suc b) os (omega arith))
 
--- a node of no greater bound than all others goes first
-insert_first : (n : Node) (ns : List Node) → AllByRecursion (λ m. n.bound ≤ m.bound) ns
-    → insert_by (λ m. m.bound) n ns ≡ n ∷ ns
-insert_first n [] a = refl
-insert_first n (m ∷ ms) a = rw (le-leb n.bound m.bound a.0) refl
-
 -- a word is put on the stack of its bound
 pub put_at : (b k : ℕ) (os : List Place) (w : List ℕ) (o : Place) (d : Place) → k < length os
     → words_at o ≡ w ∷ words_at (slice_index_or os k d)
@@ -81,7 +77,7 @@ put_at b zero (p ∷ os) w o d h e =
     in let behind = all_from b (suc b) os (omega arith)
     in let all = bounds_all b b (words_at p) (nodes_in_row (suc b) os) (omega arith) behind
     in ap (λ ws. nodes_of_bound b ws ++ nodes_in_row (suc b) os) e
-    ∙ (sym (insert_first n (nodes_in_row b (p ∷ os)) all)
+    ∙ (sym (insert_low (λ (m : Node). m.bound) n (nodes_in_row b (p ∷ os)) all)
     ∙ ap (λ c. insert_by (λ m. m.bound) (record { word = w; bound = c }) (nodes_in_row b (p ∷ os)))
     (let x : b ≡ b + 0 = omega arith in x))
 put_at b (suc k) (p ∷ os) w o d h e =
@@ -248,8 +244,4 @@ count_next k os d h =
     in let behind = row_length 1 0 (drop (suc k) os) ∙ ap (λ n. length (nodes_in_row 0 (drop n os))) next
     in ap (λ xs. length (nodes_in_row 0 xs)) (next_at k os d h)
     ∙ (length-append (nodes_of_bound 0 (words_at o)) (nodes_in_row 1 (drop (suc k) os))
-    ∙ (λ i. named 0 (words_at o) i + behind i))
-  where
-    named : (b : ℕ) (ws : List (List ℕ)) → length (nodes_of_bound b ws) ≡ length ws
-    named b [] = refl
-    named b (w ∷ ws) = ap suc (named b ws)
+    ∙ (λ i. length-map (words_at o) (λ (w : List ℕ). let n : Node = record { word = w; bound = 0 } in n) i + behind i))

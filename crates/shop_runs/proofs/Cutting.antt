@@ -2,26 +2,13 @@
 use Rattle.std.proofs.Common.{◌≡◌, ℕ, zero, suc, ◌+◌, ◌*◌, ◌⊎◌, inl, inr, List, [], ◌∷◌, ◌++◌, take, drop, refl, sym}
 use Rattle.std.proofs.Common.{◌∙◌, ap, arith, append_assoc}
 use Rattle.std.specs.List.{AllByRecursion, flat_map}
+use Rattle.std.proofs.Math.Seq.{drop-nil}
+use Rattle.std.proofs.lemmas.List.{drop-drop, take-append-drop}
 use Rattle.shop_nodes.proofs.Members.{In}
 use Rattle.shop_runs.specs.Round.{cut_into}
 use Rattle.shop_runs.specs.Laws.{PiecesAreAll}
 
 module _ {A : Type 0} where
-  drop_none : (n : ℕ) → drop n (let xs : List A = [] in xs) ≡ []
-  drop_none zero = refl
-  drop_none (suc n) = refl
-
-  drop_twice : (a b : ℕ) (xs : List A) → drop (a + b) xs ≡ drop b (drop a xs)
-  drop_twice zero b xs = let e : 0 + b ≡ b = omega arith in ap (λ n. drop n xs) e
-  drop_twice (suc a) b [] = drop_none (suc a + b) ∙ sym (drop_none b)
-  drop_twice (suc a) b (x ∷ xs) = let e : suc a + b ≡ suc (a + b) = omega arith
-      in ap (λ n. drop n (x ∷ xs)) e ∙ drop_twice a b xs
-
-  take_drop : (n : ℕ) (xs : List A) → take n xs ++ drop n xs ≡ xs
-  take_drop zero xs = refl
-  take_drop (suc n) [] = refl
-  take_drop (suc n) (x ∷ xs) = ap (λ ys. x ∷ ys) (take_drop n xs)
-
   -- what is in two lists together is in one of them
   pub in_or : (x : A) (xs ys : List A) → In x (xs ++ ys) → In x xs ⊎ In x ys
   in_or x [] ys h = inr h
@@ -57,16 +44,16 @@ module _ {A : Type 0} where
 
 pub cut_join : (n size : ℕ) (ws : List (List ℕ)) → flat_map (λ p. p) (cut_into n size ws) ++ drop (n * size) ws ≡ ws
 cut_join zero size ws = let e : zero * size ≡ 0 = omega arith in ap (λ n. drop n ws) e
-cut_join (suc n) size [] = drop_none (suc n * size)
+cut_join (suc n) size [] = drop-nil (suc n * size)
 cut_join (suc n) size (w ∷ ws) =
     let e : suc n * size ≡ size + n * size = omega arith
     in let rest : drop (suc n * size) (w ∷ ws) ≡ drop (n * size) (drop size (w ∷ ws)) = ap (λ k. drop k (w ∷ ws)) e
-    ∙ drop_twice size (n * size) (w ∷ ws)
+    ∙ sym (drop-drop (n * size) size (w ∷ ws))
     in let first = take size (w ∷ ws)
     in let pieces = flat_map (λ p. p) (cut_into n size (drop size (w ∷ ws)))
     in append_assoc first pieces (drop (suc n * size) (w ∷ ws))
     ∙ (ap (λ ys. first ++ (pieces ++ ys)) rest
-    ∙ (ap (λ ys. first ++ ys) (cut_join n size (drop size (w ∷ ws))) ∙ take_drop size (w ∷ ws)))
+    ∙ (ap (λ ys. first ++ ys) (cut_join n size (drop size (w ∷ ws))) ∙ take-append-drop size (w ∷ ws)))
 
 pub pieces_all : PiecesAreAll
 pieces_all plan words = cut_join 256 plan.piece words

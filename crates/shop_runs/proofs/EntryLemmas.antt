@@ -21,10 +21,10 @@ use Rattle.shop_runs.specs.declared.entries.Kind.TheVariants.{Done, Passed}
 use Rattle.shop_runs.specs.declared.rounds.Round.{Round}
 use Rattle.shop_runs.specs.Nodes.{pieces_in}
 use Rattle.shop_runs.specs.Round.{Told}
-use Rattle.shop_runs.specs.Entries.{told, is_hit, IsOf, TellsHit, MayPass, Fits, number_of}
+use Rattle.shop_runs.specs.Entries.{told, is_hit, IsOf, MayPass, Fits, number_of}
 use Rattle.shop_runs.specs.Crews.{OneForEach, IsEntryOf}
 use Rattle.shop_runs.proofs.PieceLemmas.{numbered_at}
-use Rattle.shop_runs.proofs.GatherLemmas.{IsSheetAt, hits_here}
+use Rattle.shop_runs.proofs.GatherLemmas.{IsSheetAt}
 
 -- the entry at place n
 pub record IsEntryAt (es : List Entry) (n : ℕ) (e : Entry) : Type 0 where
@@ -96,7 +96,3 @@ pub sheets_of_piece : (r : Told) (n : ℕ) (o : Result Sheet AllocError) → IfO
     → IfOk o (λ s. IsOf r s × (s.number ≡ n))
 sheets_of_piece r n o at = IfOk-weaker _ _ _
     (λ s m. let both : IsOf r s × (s.number ≡ n) = (m.of_round, m.number) in both) at
-
-pub sheets_tell : (r : Told) (n : ℕ) (o : Result Sheet AllocError) → IfOk o (λ s. IsSheetAt r n s)
-    → IfOk o (λ s. TellsHit r n s)
-sheets_tell r n o at = IfOk-weaker _ _ _ (λ s m. hits_here r n s m) at

@@ -1,15 +1,15 @@
 -- A run whose open nodes stand in order: the front that is cut, and what joins it again.
-use Rattle.std.proofs.Common.{◌≡◌, ℕ, zero, suc, ◌+◌, ◌≤◌, ◌<◌, Bool, inl, inr, Option, Some, None, List}
-use Rattle.std.proofs.Common.{[], ◌∷◌, ◌++◌, length, drop, filter, refl, sym, ◌∙◌, ap, subst, arith, leb, ltb}
+use Rattle.std.proofs.Common.{◌≡◌, ℕ, suc, ◌+◌, ◌≤◌, ◌<◌, inl, inr, Option, Some, None, List}
+use Rattle.std.proofs.Common.{[], ◌∷◌, ◌++◌, length, drop, refl, sym, ◌∙◌, ap, subst, arith, leb, ltb}
 use Rattle.std.proofs.Common.{append-nil, min}
 use Rattle.std.specs.Prelude.{unwrap_or, Contains}
 use Rattle.std.specs.List.{AllByRecursion, flat_map}
-use Rattle.std.proofs.lemmas.Bool.{cases_Bool, le-leb}
+use Rattle.std.proofs.lemmas.Bool.{cases_Bool}
 use Rattle.std.proofs.lemmas.List.Elements.{filter-append, recursion_from_All, All-from_recursion, All-filter}
 use Rattle.shop_model.specs.Shop.{Shop}
 use Rattle.shop_model.specs.Word.{IsWord}
 use Rattle.shop_bound.specs.Bound.{lb}
-use Rattle.shop_bound.proofs.Lists.{all_append, all_filter}
+use Rattle.shop_bound.proofs.Lists.{all_append}
 use Rattle.shop_nodes.specs.Branching.{insert_by, sort_by}
 use Rattle.shop_nodes.specs.Walking.{Walk}
 use Rattle.shop_nodes.specs.declared.nodes.Node.{Node}
@@ -30,33 +30,8 @@ use Rattle.shop_runs.proofs.Cutting.{all_front}
 use Rattle.shop_runs.proofs.NodeLemmas.{insert_words, below_is}
 use Rattle.shop_runs.proofs.OpenLemmas.{ordered_all}
 use Rattle.shop_runs.proofs.SheetLemmas.{IsOfRound, hit_in, found_is}
-use Rattle.shop_runs.proofs.SortLemmas.{Rises, sort_rises}
+use Rattle.shop_runs.proofs.SortLemmas.{Rises, sort_rises, sort_fixed, rises_drop, rises_filter}
 use Rattle.shop_runs.proofs.StandingLemmas.{known, rest_closed}
-
--- a list in order stays as it is, and so do its parts
-module _ {A : Type 0} (key : A → ℕ) where
-  insert_low : (x : A) (ys : List A) → AllByRecursion (λ y. key x ≤ key y) ys → insert_by key x ys ≡ x ∷ ys
-  insert_low x [] a = refl
-  insert_low x (y ∷ ys) a = rw (le-leb (key x) (key y) a.0) refl
-
-  sort_fixed : (xs : List A) → Rises key xs → sort_by key xs ≡ xs
-  sort_fixed [] r = refl
-  sort_fixed (x ∷ xs) r = ap (insert_by key x) (sort_fixed xs r.1) ∙ insert_low x xs r.0
-
-  rises_drop : (n : ℕ) (xs : List A) → Rises key xs → Rises key (drop n xs)
-  rises_drop zero xs r = r
-  rises_drop (suc n) [] r = tt
-  rises_drop (suc n) (x ∷ xs) r = rises_drop n xs r.1
-
-  rises_filter : (p : A → Bool) (xs : List A) → Rises key xs → Rises key (filter p xs)
-  rises_filter p [] r = tt
-  rises_filter p (x ∷ xs) r = elim (cases_Bool (p x)) [
-    | inl t ↦ rw t (
-      all_filter p (λ y. key x ≤ key y) (λ y. key x ≤ key y) (λ y h e. h) xs r.0,
-      rises_filter p xs r.1,
-    )
-    | inr f ↦ rw f (rises_filter p xs r.1)
-  ]
 
 module _ (shop : Shop) where
   -- words in the plan's order

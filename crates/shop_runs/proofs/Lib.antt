@@ -9,7 +9,6 @@ pub mod SortLemmas
 pub mod NodeLemmas
 pub mod StartLemmas
 pub mod PieceLemmas
-pub mod CutLemmas
 pub mod GatherLemmas
 pub mod OutcomeLemmas
 pub mod EntryLemmas

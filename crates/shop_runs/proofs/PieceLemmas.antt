@@ -4,7 +4,7 @@ use Rattle.std.proofs.Common.{[], ◌∷◌, ◌++◌, map, length, get_or, take
 use Rattle.std.proofs.Common.{append_assoc}
 use Rattle.std.specs.List.{AllByRecursion}
 use Rattle.std.proofs.lemmas.Bool.{eqb-true, eq-eqb}
-use Rattle.std.proofs.lemmas.List.{map-append, take-take, drop-take, append-nil}
+use Rattle.std.proofs.lemmas.List.{map-append, take-take, drop-take, take-map, drop-map, append-nil}
 use Rattle.std.proofs.lemmas.List.Elements.{recursion_from_All, All-from_recursion}
 use Rattle.shop_model.specs.Shop.{Shop}
 use Rattle.shop_nodes.specs.declared.nodes.Node.{Node}
@@ -106,22 +106,12 @@ module _ {A : Type 0} where
       (all_take P size (x ∷ xs) a, all_cut P n size (drop size (x ∷ xs)) (all_drop P size (x ∷ xs) a))
 
 module _ {A B : Type 0} (f : A → B) where
-  map_take : (n : ℕ) (xs : List A) → map f (take n xs) ≡ take n (map f xs)
-  map_take zero xs = refl
-  map_take (suc n) [] = refl
-  map_take (suc n) (x ∷ xs) = ap (λ ys. f x ∷ ys) (map_take n xs)
-
-  pub map_drop : (n : ℕ) (xs : List A) → map f (drop n xs) ≡ drop n (map f xs)
-  map_drop zero xs = refl
-  map_drop (suc n) [] = refl
-  map_drop (suc n) (x ∷ xs) = map_drop n xs
-
   map_cut : (n size : ℕ) (xs : List A) → map (map f) (cut_into n size xs) ≡ cut_into n size (map f xs)
   map_cut zero size xs = refl
   map_cut (suc n) size [] = refl
   map_cut (suc n) size (x ∷ xs) =
-      (λ i. map_take size (x ∷ xs) i ∷
-      (map_cut n size (drop size (x ∷ xs)) ∙ ap (cut_into n size) (map_drop size (x ∷ xs))) i)
+      (λ i. sym (take-map f size (x ∷ xs)) i ∷
+      (map_cut n size (drop size (x ∷ xs)) ∙ ap (cut_into n size) (sym (drop-map f size (x ∷ xs)))) i)
 
 -- the words of the pieces are cut as the nodes are
 words_in : (ps : List Piece) → pieces_in ps ≡ map words_of (nodes_in ps)
@@ -131,12 +121,6 @@ words_in (p ∷ ps) = ap (λ ws. words_of p.nodes.items ∷ ws) (words_in ps)
 pub cut_words : (ps : List Piece) (n size : ℕ) (ns : List Node) → nodes_in ps ≡ cut_into n size ns
     → pieces_in ps ≡ cut_into n size (words_of ns)
 cut_words ps n size ns e = words_in ps ∙ (ap (map words_of) e ∙ map_cut (λ (x : Node). x.word) n size ns)
-
--- nodes that are cut alike have words that are
-pub cut_words_of : (n size : ℕ) (ns ms : List Node) → cut_into n size ns ≡ cut_into n size ms
-    → cut_into n size (words_of ns) ≡ cut_into n size (words_of ms)
-cut_words_of n size ns ms e = sym (map_cut (λ (x : Node). x.word) n size ns)
-    ∙ (ap (map words_of) e ∙ map_cut (λ (x : Node). x.word) n size ms)
 
 are_pieces : (shop : Shop) (ps : List Piece) → AllByRecursion (AllByRecursion (IsNode shop)) (nodes_in ps)
     → AllByRecursion (λ p. AreNodes shop p.nodes.items) ps
@@ -148,11 +132,6 @@ pub cut_nodes : (shop : Shop) (ps : List Piece) (n size : ℕ) (ns : List Node) 
 cut_nodes shop ps n size ns e a = All-from_recursion (λ p. AreNodes shop p.nodes.items) ps
     (are_pieces shop ps (subst (AllByRecursion (AllByRecursion (IsNode shop))) (sym e)
     (all_cut (IsNode shop) n size ns (recursion_from_All (IsNode shop) ns a))))
-
--- so many pieces as there are lists of nodes
-pub length_in : (ps : List Piece) → length (nodes_in ps) ≡ length ps
-length_in [] = refl
-length_in (p ∷ ps) = ap suc (length_in ps)
 
 -- a turn of the cutting: the pieces so far, and what is left, are all
 pub cut_turn : (ps : List Piece) (p : Piece) (n size : ℕ) (rest rest' all : List Node) → n < 256 → 0 < length rest

@@ -1,7 +1,7 @@
 -- The pieces of a round that end at its opening bound.
 use Rattle.std.proofs.Common.{◌≡◌, ℕ, zero, suc, ◌<◌, List, [], ◌∷◌, length, map, get_or, Bool, true, false, true≢false}
-use Rattle.std.proofs.Common.{refl, ap, sym, ◌∙◌, subst, ⊎_elim, arith}
-use Rattle.std.proofs.lemmas.List.{length-map}
+use Rattle.std.proofs.Common.{ap, sym, ◌∙◌, subst, ⊎_elim, arith}
+use Rattle.std.proofs.lemmas.List.{length-map, get_or-map}
 use Rattle.shop_runs.specs.Entries as entries
 use Rattle.shop_runs.specs.Entries.{told}
 use Rattle.shop_runs.specs.declared.rounds.Round.{Round}
@@ -11,11 +11,6 @@ pub hits_length : (r : Round) → length (hits_of_round r) ≡ length r.pieces.i
 hits_length r = length-map _ _ ∙ length-map r.pieces.items _
 
 module _ {A : Type 0} (test : A → Bool) where
-  mapped_at : (xs : List A) (n : ℕ) (d : A) → n < length xs → get_or (map test xs) n false ≡ test (get_or xs n d)
-  mapped_at [] n d h = absurd (omega arith)
-  mapped_at (x ∷ xs) zero d h = refl
-  mapped_at (x ∷ xs) (suc n) d h = mapped_at xs n d (omega arith)
-
   mapped_inside : (xs : List A) (n : ℕ) → get_or (map test xs) n false ≡ true → n < length xs
   mapped_inside [] n h = absurd (true≢false (sym h))
   mapped_inside (x ∷ xs) zero h = omega arith
@@ -26,7 +21,7 @@ pub same_hit : (r : Round) (hits : List Bool) (n : ℕ) → hits ≡ hits_of_rou
     → is_hit_in hits n ≡ entries.is_hit (told r) n
 same_hit r hits n e below =
     let inside : n < length (told r).pieces = subst (λ k. n < k) (sym (length-map r.pieces.items _)) below in
-    ap (λ l. get_or l n false) e ∙ mapped_at _ (told r).pieces n [] inside
+    ap (λ l. get_or l n false) e ∙ get_or-map _ (told r).pieces n [] false inside
 
 pub is_piece : (r : Round) (hits : List Bool) (n : ℕ) → hits ≡ hits_of_round r → is_hit_in hits n ≡ true
     → n < length r.pieces.items

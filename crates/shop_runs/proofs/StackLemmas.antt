@@ -7,9 +7,11 @@ use Rattle.std.specs.List.Sorted.{IsStrictlySortedBy}
 use Rattle.std.specs.Map.{keys_of, lookup}
 use Rattle.std.specs.BTreeMap.{is_at, insert_entry}
 use Rattle.std.specs.BTreeMap.Range.{IsLtBy, IsLeBy, entries_below}
+use Rattle.std.specs.Cmp.{nat_cmp_is}
 use Rattle.std.specs.Ordering.{nat_cmp, is_gt}
+use Rattle.std.proofs.lemmas.Cmp.{ranked}
 use Rattle.std.specs.declared.cmp.Ordering.TheVariants.{Less, Equal, Greater}
-use Rattle.std.proofs.lemmas.Bool.{cases_Bool, cases_lt, cases_eq, eq-eqb, ne_eqb}
+use Rattle.std.proofs.lemmas.Bool.{cases_Bool, cases_lt, cases_eq}
 use Rattle.std.proofs.lemmas.Bool.{lt-ltb, le-ltb, le-leb, lt-leb, ltb-false}
 use Rattle.std.proofs.lemmas.List.Elements.{recursion_from_All, filter-append}
 use Rattle.shop_nodes.specs.declared.nodes.Node.{Node}
@@ -17,26 +19,16 @@ use Rattle.shop_nodes.specs.Branching.{insert_by}
 use Rattle.shop_runs.specs.declared.stacks.Stack.{Stack}
 use Rattle.shop_nodes.specs.inner.HeldNodes.{nodes_below}
 use Rattle.shop_runs.specs.inner.NodeLists.{least_of_bounds}
-use Rattle.shop_runs.specs.inner.Stacks.{words_in, words_on, words_left, nodes_of_bound, nodes_by_bound}
+use Rattle.shop_runs.specs.inner.Stacks.{words_in, words_on, nodes_of_bound, nodes_by_bound}
 
 cmp_less : (a b : ℕ) → a < b → nat_cmp a b ≡ Less
-cmp_less a b h = rw (lt-ltb a b h) refl
+cmp_less a b h = sym (nat_cmp_is a b Less h)
 
 cmp_equal : (a b : ℕ) → a ≡ b → nat_cmp a b ≡ Equal
-cmp_equal a b e = rw (le-ltb a b (omega arith), eq-eqb a b e) refl
+cmp_equal a b e = sym (nat_cmp_is a b Equal e)
 
 cmp_greater : (a b : ℕ) → b < a → nat_cmp a b ≡ Greater
-cmp_greater a b h = (let ne : a ≡ b → ⊥ = (λ e. absurd (omega arith))
-    in rw (le-ltb a b (omega arith), ne_eqb a b ne) refl)
-
-less_from : (a b : ℕ) → nat_cmp a b ≡ Less → a < b
-less_from a b e = elim (cases_lt a b) [
-  | inl h ↦ h
-  | inr h ↦ elim (cases_eq a b) [
-    | inl same ↦ (let f : Equal ≡ Less = sym (cmp_equal a b same) ∙ e in absurd (cc))
-    | inr other ↦ (let f : Greater ≡ Less = sym (cmp_greater a b (omega arith)) ∙ e in absurd (cc))
-  ]
-]
+cmp_greater a b h = sym (nat_cmp_is a b Greater h)
 
 -- no key above k is k
 none_at : (k : ℕ) (es : List (ℕ × Stack)) → AllByRecursion (λ y. k < y) (keys_of es)
@@ -47,7 +39,7 @@ none_at k (e ∷ es) a = rw (cmp_less k e.0 a.0) (none_at k es a.1)
 all_above : (k b : ℕ) (ks : List ℕ) → k < b → AllByRecursion (λ y. nat_cmp b y ≡ Less) ks
     → AllByRecursion (λ y. k < y) ks
 all_above k b [] h a = tt
-all_above k b (y ∷ ks) h a = ((let l = less_from b y a.0 in omega arith), all_above k b ks h a.1)
+all_above k b (y ∷ ks) h a = ((let l = ranked b y Less (sym a.0) in omega arith), all_above k b ks h a.1)
 
 -- a node goes past those of lower bounds
 pub insert_past : (n : Node) (b : ℕ) (ws : List (List ℕ)) (rest : List Node) → b < n.bound
@@ -61,6 +53,11 @@ insert_past n b (w ∷ ws) rest h = rw (lt-leb n.bound b h) (ap (λ ns. record {
 insert_here : (n : Node) (b : ℕ) (s : Stack) (rest : List Node) → n.bound ≤ b
     → insert_by (λ m. m.bound) n (nodes_of_bound b (words_on s) ++ rest) ≡ n ∷ nodes_of_bound b (words_on s) ++ rest
 insert_here n b s rest h = rw (le-leb n.bound b h) refl
+
+-- the words of a stack, if there is one
+abbrev pub words_left : Option Stack → List (List ℕ)
+words_left None = []
+words_left (Some s) = words_on s
 
 -- a word put on the stack of its bound, which is made where there is none
 pub put_is : (es : List (ℕ × Stack)) (w : List ℕ) (k : ℕ) (s : Stack) → IsStrictlySortedBy nat_cmp (keys_of es)

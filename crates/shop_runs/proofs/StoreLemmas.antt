@@ -1,5 +1,5 @@
 -- Open nodes in the order of the next cut, through what is put, taken and let go.
-use Rattle.std.proofs.Common.{◌≡◌, ℕ, suc, ◌≤◌, ◌<◌, min, Bool, true, false, List, [], ◌∷◌, ◌++◌, length}
+use Rattle.std.proofs.Common.{◌≡◌, ℕ, suc, ◌<◌, min, Bool, true, false, List, [], ◌∷◌, ◌++◌, length}
 use Rattle.std.proofs.Common.{append-nil, ltb, reverse, refl, sym, ◌∙◌, ap, arith, eqb, filter, inl, inr, cond}
 use Rattle.std.proofs.Common.{drop, get_or, ◌+◌}
 use Rattle.std.specs.Prelude.{IsTrue, ◌↔◌}
@@ -10,10 +10,7 @@ use Rattle.shop_nodes.specs.Left.{Leaving}
 use Rattle.shop_nodes.specs.declared.nodes.Node.{Node}
 use Rattle.shop_runs.specs.declared.stacks.Stack.{Stack}
 use Rattle.shop_runs.specs.declared.plans.Order.{Order}
-use Rattle.shop_nodes.specs.Halts.{word_at}
-use Rattle.shop_nodes.specs.declared.halts.Open.{Open}
 use Rattle.shop_nodes.specs.declared.halts.Waiting.{Waiting}
-use Rattle.shop_nodes.specs.declared.halts.Waiting.TheVariants.{Child}
 use Rattle.shop_nodes.specs.inner.HeldNodes.{nodes_below, child_nodes, stack_nodes}
 use Rattle.shop_runs.specs.inner.NodeLists.{least_of_bounds}
 use Rattle.shop_runs.specs.inner.Outcomes.{open_of, left_open}
@@ -68,10 +65,6 @@ put_last o c ns n nodes low =
     ∙ ap (λ b. nodes_below c ns ++ cond b (n ∷ []) []) (lt-ltb n.bound c low)
     in ap (λ ms. put_all_before o ms nodes) e ∙ put_append o (nodes_below c ns) (n ∷ []) nodes
 
-pub skip_last : (c : ℕ) (ns : List Node) (n : Node) → c ≤ n.bound → nodes_below c (ns ++ n ∷ []) ≡ nodes_below c ns
-skip_last c ns n high = filter-append (λ (m : Node). ltb m.bound c) ns (n ∷ [])
-    ∙ (ap (λ b. nodes_below c ns ++ cond b (n ∷ []) []) (le-ltb n.bound c high) ∙ append-nil (nodes_below c ns))
-
 -- what the last sheet left is put first
 pub put_last_left : (o : Order) (c : ℕ) (ls : List Leaving) (l : Leaving) (nodes : List Node)
     → put_all_before o (nodes_below c (left_open (ls ++ l ∷ []))) nodes
@@ -94,15 +87,6 @@ put_entry o c path waiting k d nodes within =
     in ap (λ ws. put_all_before o (nodes_below c (stack_nodes path ws)) nodes) (drop_more waiting k d within)
     ∙ (ap (λ ns. put_all_before o ns nodes) (filter-append (λ (n : Node). ltb n.bound c) later here)
     ∙ put_append o (nodes_below c later) (nodes_below c here) nodes)
-
--- one open child is put, if its bound is below the makespan
-pub put_child : (o : Order) (c : ℕ) (path : List ℕ) (x : Open) (nodes : List Node) → x.bound < c
-    → put_all_before o (nodes_below c (child_nodes path (Child x))) nodes
-    ≡ put_before o (record { word = word_at path x; bound = x.bound }) nodes
-put_child o c path x nodes low = rw (lt-ltb x.bound c low) refl
-
-pub skip_child : (c : ℕ) (path : List ℕ) (x : Open) → c ≤ x.bound → nodes_below c (child_nodes path (Child x)) ≡ []
-skip_child c path x high = rw (le-ltb x.bound c high) refl
 
 -- what is below two makespans is below the less
 below_both : (c d : ℕ) (ns : List Node) → nodes_below c (nodes_below d ns) ≡ nodes_below (min c d) ns

@@ -1,9 +1,9 @@
 -- Standings, and the rounds that are cut from them and gathered to the next.
-use Rattle.std.specs.Prelude.{◌≡◌, ℕ, List}
+use Rattle.std.specs.Prelude.{◌≡◌}
 use Rattle.shop_model.specs.Shop.{Shop}
 use Rattle.shop_nodes.specs.Nodes.{words_of, AreNodes}
-pub use Rattle.shop_runs.specs.Plans.{Planned, planned}
-use Rattle.shop_runs.specs.Round.{Stand, Told, pieces_of, cut_of, gathered, makespan_of}
+use Rattle.shop_runs.specs.Plans.{planned}
+use Rattle.shop_runs.specs.Round.{Stand, cut_of, gathered, makespan_of}
 use Rattle.shop_runs.specs.Laws.{IsStanding, StandsCovering, CoversInRound}
 use Rattle.shop_runs.specs.Entries.{told}
 use Rattle.shop_runs.specs.declared.plans.Plan.{Plan}
@@ -40,17 +40,3 @@ IsGatheredOf r t = StandsAt r.instance.now (gathered (told r)) t
 -- where the round covers the instance, so does the standing
 abbrev pub GatheredCovers : Round → Standing → Type 0
 GatheredCovers r t = CoversInRound (told r) → StandsCovering r.instance.now (stands t)
-
--- the round whose pieces are cut from the open words of s, with this opening bound and this rest
-abbrev pub round_of : Shop → Planned → Stand → ℕ → List (List ℕ) → Told
-round_of shop plan s bound rest = record {
-  shop = shop;
-  word = s.word;
-  best = makespan_of shop s;
-  bound = bound;
-  budget = plan.budget;
-  pieces = pieces_of plan s.open_words;
-  rest = rest;
-  rounds = s.rounds;
-  nodes = s.nodes;
-}

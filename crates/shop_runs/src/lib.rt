@@ -1,6 +1,7 @@
 // Plans, rounds and their outcomes, the contracts of a crew and of a searcher, and runs of rounds by any crew.
 #![tactic(auto)]
 
+mod bound_maps;
 mod bound_rows;
 mod crews;
 mod entries;

@@ -72,12 +72,14 @@ pub(crate) fn layout_for<'r>(
     ensures { IfOk result (λ l. l ≡ instance.now) }
 {
     let is_ordered = instance.operations() <= MOST_OPERATIONS;
-    match kept {
-        Some(layout) if !is_ordered || rounds != ROUND_TO_REORDER => Ok(layout),
-        _ if is_ordered => {
-            let keys = machine_keys(alloc, instance, front)?;
-            Layout::ordered(alloc, instance, keys.as_slice())
+    if let Some(layout) = kept {
+        if !is_ordered || rounds != ROUND_TO_REORDER {
+            return Ok(layout);
         }
-        _ => Layout::of(alloc, instance),
     }
+    if !is_ordered {
+        return Layout::of(alloc, instance);
+    }
+    let keys = machine_keys(alloc, instance, front)?;
+    Layout::ordered(alloc, instance, keys.as_slice())
 }

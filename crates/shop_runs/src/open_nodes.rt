@@ -7,16 +7,13 @@ ghost use Rattle.shop_runs.specs.inner.NodeLists.{least_of_bounds};
 ghost use Rattle.shop_runs.specs.inner.OpenNodes.{AreBelow};
 ghost use Rattle.shop_runs.specs.inner.Outcomes.{left_open, open_of};
 
+use crate::bound_maps::BoundMap;
 use crate::bound_rows::BoundRow;
 use crate::kept_stacks::KeptStack;
 use crate::plans::Order;
-use crate::stacks::{
-    Stack, count_by_bound, keep_by_bound, least_by_bound, pop_by_bound, put_by_bound,
-};
 use shop_model::SharedWord;
 use shop_nodes::{Halt, Left, Node, SharedNode, Waiting};
 use std::alloc::{AllocError as NoMemory, Global};
-use std::collections::BTreeMap;
 use std::sync::ArcSlice;
 
 /// The greatest opening makespan at which open nodes are kept in a row by bound, whose places then take 1 MB at most.
@@ -38,7 +35,7 @@ fn fits_row(makespan: u64, operations: usize) -> bool {
 pub(crate) enum OpenNodes {
     AsKept(KeptStack),
     InRow(BoundRow),
-    ByBound(BTreeMap<u64, Stack>),
+    InMap(BoundMap),
 }
 
 impl OpenNodes {
@@ -57,7 +54,7 @@ impl OpenNodes {
                 if fits_row(makespan, operations) {
                     OpenNodes::InRow(BoundRow::new(alloc))
                 } else {
-                    OpenNodes::ByBound(BTreeMap::new(alloc))
+                    OpenNodes::InMap(BoundMap::new(alloc))
                 }
             }
         }
@@ -72,7 +69,7 @@ impl OpenNodes {
         match self {
             OpenNodes::AsKept(nodes) => nodes.push(node),
             OpenNodes::InRow(nodes) => nodes.put(alloc, node),
-            OpenNodes::ByBound(stacks) => put_by_bound(alloc, stacks, node),
+            OpenNodes::InMap(nodes) => nodes.put(alloc, node),
         }
     }
 
@@ -173,7 +170,7 @@ impl OpenNodes {
         match self {
             OpenNodes::AsKept(nodes) => Ok(nodes.pop()),
             OpenNodes::InRow(nodes) => Ok(nodes.pop()),
-            OpenNodes::ByBound(stacks) => pop_by_bound(stacks),
+            OpenNodes::InMap(nodes) => nodes.pop(),
         }
     }
 
@@ -184,7 +181,7 @@ impl OpenNodes {
     {
         match self {
             OpenNodes::AsKept(nodes) => most.min(nodes.len()),
-            OpenNodes::InRow(_) | OpenNodes::ByBound(_) => most.min(guess),
+            OpenNodes::InRow(_) | OpenNodes::InMap(_) => most.min(guess),
         }
     }
 
@@ -226,7 +223,7 @@ impl OpenNodes {
                 nodes.keep_below(makespan);
                 Ok(())
             }
-            OpenNodes::ByBound(stacks) => keep_by_bound(stacks, makespan),
+            OpenNodes::InMap(nodes) => nodes.keep_below(makespan),
         }
     }
 
@@ -237,7 +234,7 @@ impl OpenNodes {
         match self {
             OpenNodes::AsKept(nodes) => nodes.least_bound(makespan),
             OpenNodes::InRow(nodes) => nodes.least_bound(makespan),
-            OpenNodes::ByBound(stacks) => least_by_bound(stacks, makespan),
+            OpenNodes::InMap(nodes) => nodes.least_bound(makespan),
         }
     }
 
@@ -249,7 +246,7 @@ impl OpenNodes {
         match self {
             OpenNodes::AsKept(nodes) => Ok(nodes.len()),
             OpenNodes::InRow(nodes) => nodes.count(),
-            OpenNodes::ByBound(stacks) => count_by_bound(stacks),
+            OpenNodes::InMap(nodes) => nodes.count(),
         }
     }
 
@@ -260,7 +257,7 @@ impl OpenNodes {
         match self {
             OpenNodes::AsKept(nodes) => nodes.is_empty(),
             OpenNodes::InRow(nodes) => nodes.is_empty(),
-            OpenNodes::ByBound(stacks) => stacks.is_empty(),
+            OpenNodes::InMap(nodes) => nodes.is_empty(),
         }
     }
 }

@@ -1,7 +1,7 @@
 // Rounds, and how they cut the open nodes of a standing into pieces.
 ghost use Rattle.std.specs.Prelude.{◌≡◌, ◌≤◌, ◌<◌, [], length, take, drop, true, IfOk, OnOk};
 ghost use Rattle.std.specs.Vec.Iter.{into_iter_items};
-ghost use Rattle.shop_nodes.specs.Nodes.{words_of, AreNodes};
+ghost use Rattle.shop_nodes.specs.Nodes.{AreNodes};
 ghost use Rattle.shop_runs.specs.Limits.{IsCountWithin};
 ghost use Rattle.shop_runs.specs.Round.{cut_into};
 ghost use Rattle.shop_runs.specs.Nodes.{numbered, told_of, ArePieces};
@@ -46,9 +46,7 @@ pub struct Round<'r> {
 }
 
 impl<'r> Round<'r> {
-    ghost use Rattle.shop_runs.specs.Entries.{told};
-    ghost use Rattle.shop_runs.specs.Standings.{IsCutOf, CutCovers};
-    ghost use Rattle.shop_runs.specs.Standings.{IsStandingOf, StandsAt, stands, round_of, planned};
+    ghost use Rattle.shop_runs.specs.Standings.{IsStandingOf, IsCutOf, CutCovers};
 
     /// Cuts the open nodes of `standing`, in the plan's order, into at most 256 pieces, and keeps the other nodes as
     /// the round's rest. Fails with `NoMemory` if memory runs out. For library callers: a run cuts a store of its own.
@@ -70,80 +68,6 @@ impl<'r> Round<'r> {
         let rest = others.take(alloc, count, count)?;
         round.rest = rest;
         Ok(round)
-    }
-
-    /// Makes a round. Cuts the open nodes of `front`, in their order, into at most 256 pieces; takes over `rest`, the
-    /// opening bound `bound` and `layout`. Fails with `NoMemory` if memory runs out.
-    pub fn of(
-        alloc: Global,
-        instance: &'r Instance,
-        plan: &Plan,
-        front: Standing,
-        rest: Vec<Node>,
-        bound: u64,
-        layout: Layout<'r>,
-    ) -> Result<Round<'r>, NoMemory>
-        requires rounds { front.rounds < plan.now.rounds }
-        requires standing { StandsAt instance.now (stands front) front }
-        requires rest { AreNodes instance.now rest.items }
-        requires layout { layout ≡ instance.now }
-        requires round { IsRound (round_of instance.now (planned plan.now) (stands front) bound
-            (words_of rest.items)) }
-        ensures { IfOk result (λ r. told r ≡ round_of instance.now (planned plan.now)
-            (stands front) bound (words_of rest.items)) }
-    {
-        let mut round = Round::of_front(
-            alloc,
-            instance,
-            plan,
-            front,
-            Vec::new(alloc),
-            bound,
-            layout,
-        )?;
-        round.rest = rest;
-        Ok(round)
-    }
-
-    /// Makes the round of `front` without a rest. Its pieces take over the lists of the pieces in `spare`. Fails with
-    /// `NoMemory` if memory runs out.
-    pub(crate) fn of_front(
-        alloc: Global,
-        instance: &'r Instance,
-        plan: &Plan,
-        front: Standing,
-        spare: Vec<Piece>,
-        bound: u64,
-        layout: Layout<'r>,
-    ) -> Result<Round<'r>, NoMemory>
-        requires rounds { front.rounds < plan.now.rounds }
-        requires standing { StandsAt instance.now (stands front) front }
-        requires layout { layout ≡ instance.now }
-        requires round { IsRound (round_of instance.now (planned plan.now) (stands front) bound []) }
-        ensures { IfOk result (λ r. told r ≡ round_of instance.now (planned plan.now)
-            (stands front) bound []) }
-    {
-        let Standing {
-            word,
-            makespan,
-            open,
-            rounds,
-            nodes,
-        } = front;
-        let pieces = cut_pieces(alloc, open, plan.piece, spare)?;
-        let rest = Vec::new(alloc);
-        Ok(Round {
-            instance,
-            word,
-            best: makespan,
-            bound,
-            budget: plan.budget,
-            pieces,
-            rest,
-            rounds,
-            nodes,
-            layout,
-        })
     }
 
     /// Answers the layout of the instance, which all who search the pieces share.

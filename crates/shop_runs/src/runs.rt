@@ -8,7 +8,7 @@ use crate::machine_orders::layout_for;
 use crate::open_nodes::OpenNodes;
 use crate::outcomes::{RoundResult, outcome_of};
 use crate::plans::{MAX_PIECES, Order, Plan};
-use crate::rounds::Round;
+use crate::rounds::{Round, cut_pieces};
 use crate::standings::Standing;
 use shop_layout::Layout;
 use shop_model::{Instance, Table, Word, place};
@@ -59,9 +59,9 @@ impl OpenRun {
         })
     }
 
-    /// Cuts the first open nodes into at most 256 pieces. Answers the round of these pieces, without a rest, and the
-    /// store of the other open nodes. `layout_for` chooses the round's layout; `kept` is the last round's, if there was
-    /// one. Fails with `NoMemory` if memory runs out.
+    /// Cuts the first open nodes into at most 256 pieces, which take over the lists of those in `spare`. Answers the
+    /// round of these pieces, without a rest, and the store of the other open nodes. `layout_for` chooses the round's
+    /// layout; `kept` is the last round's, if there was one. Fails with `NoMemory` if memory runs out.
     pub(crate) fn cut<'r>(
         self,
         alloc: Global,
@@ -78,14 +78,19 @@ impl OpenRun {
         let bound = others.least_bound(self.makespan);
         let front = others.take(alloc, MAX_PIECES * plan.piece, self.spare.len())?;
         let layout = layout_for(alloc, instance, kept, self.rounds, front.as_slice())?;
-        let standing = Standing {
+        let pieces = cut_pieces(alloc, front, plan.piece, self.spare)?;
+        let round = Round {
+            instance,
             word: self.word,
-            makespan: self.makespan,
-            open: front,
+            best: self.makespan,
+            bound,
+            budget: plan.budget,
+            pieces,
+            rest: Vec::new(alloc),
             rounds: self.rounds,
             nodes: self.nodes,
+            layout,
         };
-        let round = Round::of_front(alloc, instance, plan, standing, self.spare, bound, layout)?;
         Ok((round, others))
     }
 

@@ -1,24 +1,18 @@
-// Open nodes for the order `Bound`: one stack of words for each bound.
+// Stacks of words, each of the open nodes of one bound.
 ghost use Rattle.std.specs.Prelude.{◌≡◌, ◌^◌, ◌≤◌, ◌∷◌, [], length, IfOk, OnOk, OnErr};
-ghost use Rattle.shop_runs.specs.inner.NodeLists.{least_of_bounds};
-ghost use Rattle.shop_runs.specs.inner.Stacks.{words_in, words_in_rest, words_on, words_left};
-ghost use Rattle.shop_runs.specs.inner.Stacks.{nodes_in_stacks, IsPutByBound, IsNextByBound};
-ghost use Rattle.shop_runs.specs.inner.Stacks.{KeepsBelow, IsTopIfMore};
+ghost use Rattle.shop_runs.specs.inner.Stacks.{words_in, words_on, IsTopIfMore};
 
-use shop_model::{SharedWord, Word};
-use shop_nodes::{Node, SharedNode};
+use shop_model::SharedWord;
 use std::alloc::{AllocError as NoMemory, Global};
-use std::collections::BTreeMap;
-use std::collections::btree_map::Entry;
 use std::mem;
 
 /// How many words a full chunk holds below its top word. They take 4 KB.
 const BLOCK: usize = 256;
 
 /// For how many of them a chunk that covers another has room at first. Most stacks end in such a chunk.
-const FIRST_ROOM: usize = 64;
+const FIRST_ROOM: usize = 16;
 
-/// A chunk of a stack of words: a top word, which `pop` takes, and the words below it.
+/// A chunk of a stack of words: a top word, which is taken first, and the words below it.
 #[derive(Drop)]
 pub(crate) struct Chunk {
     pub(crate) top: SharedWord,
@@ -50,17 +44,6 @@ impl Chunk {
         ensures { result ≡ length (words_in self.now) }
     {
         self.below.len() + 1
-    }
-
-    /// Answers the top word, and the chunk of the other words, or `None` if there are no others.
-    fn pop(self) -> (SharedWord, Option<Chunk>)
-        ensures { words_in self ≡ result.0 ∷ words_in_rest result.1 }
-    {
-        let Chunk { top, mut below } = self;
-        match below.pop() {
-            Some(next) => (top, Some(Chunk { top: next, below })),
-            None => (top, None),
-        }
     }
 }
 
@@ -94,8 +77,8 @@ impl Stack {
         self.cover(alloc, word)
     }
 
-    /// Puts `word` on top, in a chunk of its own, which takes a quarter of the memory of a full one at once. Fails with
-    /// `NoMemory` if memory runs out; the stack has then lost words.
+    /// Puts `word` on top, in a chunk of its own, which takes a quarter of a KB at once. Fails with `NoMemory` if memory
+    /// runs out; the stack has then lost words.
     fn cover(&mut self, alloc: Global, word: SharedWord) -> Result<(), NoMemory>
         ensures { OnOk result (words_on self.new ≡ word ∷ words_on self.old) }
     {
@@ -144,91 +127,4 @@ impl Stack {
         let Chunk { top, below: _ } = self.topmost;
         top
     }
-
-    /// Answers the top word, and the stack of the other words, or `None` if there are no others.
-    pub(crate) fn pop(self) -> (SharedWord, Option<Stack>)
-        ensures { words_on self ≡ result.0 ∷ words_left result.1 }
-    {
-        let Stack {
-            topmost,
-            mut covered,
-        } = self;
-        let (word, left) = topmost.pop();
-        if let Some(topmost) = left {
-            return (word, Some(Stack { topmost, covered }));
-        }
-        match covered.pop() {
-            Some(topmost) => (word, Some(Stack { topmost, covered })),
-            None => (word, None),
-        }
-    }
-}
-
-/// Puts `node` into `stacks`, before all other nodes of its bound. Fails with `NoMemory` if memory runs out.
-pub(crate) fn put_by_bound(
-    alloc: Global,
-    stacks: &mut BTreeMap<u64, Stack>,
-    node: SharedNode,
-) -> Result<(), NoMemory>
-    ensures { OnOk result (IsPutByBound node stacks.old stacks.new) }
-{
-    let (word, bound) = node.into_parts();
-    match stacks.entry(bound)? {
-        Entry::Occupied(stack) => stack.into_mut().push(alloc, word)?,
-        Entry::Vacant(place) => {
-            place.insert(Stack::of(alloc, word));
-        }
-    }
-    Ok(())
-}
-
-/// Takes the first node of least bound, or answers `None` if no node is open. Fails with `NoMemory` if memory runs out.
-pub(crate) fn pop_by_bound(stacks: &mut BTreeMap<u64, Stack>) -> Result<Option<Node>, NoMemory>
-    ensures { IfOk result (λ n. IsNextByBound n stacks.old stacks.new) }
-{
-    let Some((bound, stack)) = stacks.pop_first() else {
-        return Ok(None);
-    };
-    let (word, left) = stack.pop();
-    if let Some(others) = left {
-        stacks.insert(bound, others)?;
-    }
-    let word = Word::of_shared(word);
-    Ok(Some(Node { word, bound }))
-}
-
-/// Drops the nodes whose bounds are at least `makespan`. Fails with `NoMemory` if memory runs out.
-pub(crate) fn keep_by_bound(
-    stacks: &mut BTreeMap<u64, Stack>,
-    makespan: u64,
-) -> Result<(), NoMemory>
-    ensures { OnOk result (KeepsBelow makespan stacks.old stacks.new) }
-{
-    let _above = stacks.split_off(&makespan)?;
-    Ok(())
-}
-
-/// Answers the least of `makespan` and the bounds of the nodes in `stacks`.
-pub(crate) fn least_by_bound(stacks: &BTreeMap<u64, Stack>, makespan: u64) -> u64
-    ensures { result ≡ least_of_bounds makespan (nodes_in_stacks stacks.now) }
-{
-    match stacks.first_key_value() {
-        Some((bound, _)) => makespan.min(*bound),
-        None => makespan,
-    }
-}
-
-/// Answers how many nodes `stacks` hold. Fails with `NoMemory` if they are 2^64 or more, which no memory holds.
-pub(crate) fn count_by_bound(stacks: &BTreeMap<u64, Stack>) -> Result<usize, NoMemory>
-    ensures count { IfOk result (λ n. n ≡ length (nodes_in_stacks stacks.now)) }
-    ensures too_many { OnErr result (2 ^ 64 ≤ length (nodes_in_stacks stacks.now)) }
-{
-    let mut count = 0_usize;
-    for (_, stack) in stacks {
-        let Some(sum) = count.checked_add(stack.count()?) else {
-            return Err(NoMemory);
-        };
-        count = sum;
-    }
-    Ok(count)
 }

@@ -1,6 +1,7 @@
 -- A claim is one swap of a flag, which keeps a board lawful.
 use Rattle.std.proofs.Common.{◌≡◌, ◌≢◌, ◌⊎◌, ℕ, ◌<◌, List, [], length, set, Bool, true, false, refl, sym, ap, ◌∙◌}
 use Rattle.std.proofs.Common.{subst, inl, inr, ⊎_elim, arith}
+use Rattle.std.proofs.lemmas.List.{length-set, get_or-set_same, get_or-set_other}
 use Rattle.std.specs.Prelude.{slice_index}
 use mathlib.Core.Option.{none}
 use mathlib.Core.Logic.{dite}
@@ -14,7 +15,7 @@ use Rattle.shop_workers.specs.Moves.{with_mine, with_seen, IsTold}
 use Rattle.shop_workers.specs.inner.Steps.{Claims}
 use Rattle.shop_workers.specs.Winners.{IsDecided}
 use Rattle.shop_workers.proofs.Numbers.{has_cons, has_head, has_tail, has_same, is_false, once_cons}
-use Rattle.shop_workers.proofs.Words.{word_here, word_else, words_length, same_word}
+use Rattle.shop_workers.proofs.Words.{same_word}
 use Rattle.shop_workers.proofs.LawfulSteps.{Moment, Risen, Step, still_knows, stepped_lawful, quiet}
 
 module _ (hits : List Bool) (s : Moment) (id : ℕ) (v : View) (i : ℕ) (law : IsLawful hits s) (at : IsLive s.views id v)
@@ -24,11 +25,11 @@ module _ (hits : List Bool) (s : Moment) (id : ℕ) (v : View) (i : ℕ) (law : 
 
   flag_set : slice_index flagged i ≡ 1
   unfolding flagged
-  flag_set = let size = law.size in word_here s.words i 1 (omega arith)
+  flag_set = let size = law.size in get_or-set_same s.words i 1 0 (omega arith)
 
   flag_else : (n : ℕ) → n ≢ i → slice_index flagged n ≡ slice_index s.words n
   unfolding flagged
-  flag_else n ne = word_else s.words i n 1 ne
+  flag_else n ne = get_or-set_other s.words i n 1 0 ne
 
   same_hit : hit_word hits flagged ≡ hit_word hits s.words
   same_hit = flag_else (length hits) (λ e. omega arith)
@@ -69,7 +70,7 @@ module _ (hits : List Bool) (s : Moment) (id : ℕ) (v : View) (i : ℕ) (law : 
     pub claim_won : Step hits s.words (set s.words i 1) v (with_mine v i)
     unfolding flagged
     claim_won = record {
-      size = words_length s.words i 1;
+      size = length-set s.words i 1;
       risen = risen;
       flag = is_flag;
       won = λ n h. dite (ℕ_discrete n i)

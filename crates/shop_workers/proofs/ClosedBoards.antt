@@ -3,7 +3,7 @@ use Rattle.std.proofs.Common.{◌≡◌, ℕ, ◌<◌, List, [], ◌∷◌, leng
 use Rattle.std.proofs.Common.{sym, ap, ◌∙◌, subst, ⊎_elim, eqb, arith}
 use Rattle.std.specs.Prelude.{slice_index}
 use Rattle.std.specs.List.{IsDistinct, AllByRecursion}
-use Rattle.std.proofs.lemmas.Bool.{cases_Bool}
+use Rattle.std.proofs.lemmas.Bool.{both_ways, cases_Bool}
 use Rattle.std.proofs.lemmas.Map.Steps.{length-le_from_distinct_below}
 use mathlib.Core.Option.{some}
 use lib.ListN.{get_elem?}
@@ -11,7 +11,7 @@ use Rattle.shop_workers.specs.declared.views.View.{View}
 use Rattle.shop_workers.specs.Views.{has, once, HasServed, ArePieces, HasAll, HasAsMany}
 use Rattle.shop_runs.specs.Hits.{is_hit_in, IsLeastHit}
 use Rattle.shop_workers.specs.Moments.{hit_word, IsLive, IsLawful}
-use Rattle.shop_workers.proofs.Numbers.{has_cons, has_tail, is_false, once_first, once_others, once_cons, not_has}
+use Rattle.shop_workers.proofs.Numbers.{has_cons, has_tail, is_false, once_first, once_others, once_cons}
 use Rattle.shop_workers.proofs.Words.{word_read}
 use Rattle.shop_workers.proofs.LawfulSteps.{Moment}
 
@@ -34,7 +34,7 @@ all_stand xs n k o below full inside =
     ⊎_elim (λ there. there) (λ none. absurd (too_many none)) (cases_Bool (has xs k)) where
       too_many : has xs k ≡ false → ⊥
       too_many none =
-          let apart = once_cons k xs (not_has (has xs k) none) o in
+          let apart = once_cons k xs (both_ways (has xs k) none) o in
           let within : (q : ℕ) → has (k ∷ xs) q ≡ true → q < n =
           λ q h. ⊎_elim (λ (e : k ≡ q). subst (λ j. j < n) e inside) (λ old. below q old) (has_cons k q xs h) in
           let many = length-le_from_distinct_below (k ∷ xs) n (distinct (k ∷ xs) apart) within in

@@ -1,6 +1,7 @@
 -- Reading and lowering the hit word keep a board lawful.
 use Rattle.std.proofs.Common.{◌≡◌, ◌⊎◌, ℕ, ◌<◌, ◌≤◌, List, [], ◌∷◌, length, set, min, Bool, true, refl, sym, ap, ◌∙◌}
 use Rattle.std.proofs.Common.{subst, inl, inr, ⊎_elim, arith}
+use Rattle.std.proofs.lemmas.List.{length-set, get_or-set_same, get_or-set_other}
 use Rattle.std.specs.Prelude.{slice_index}
 use mathlib.Core.Option.{none}
 use Rattle.atomic_table.specs.Table.{step, Me, Allows, keeps}
@@ -11,7 +12,7 @@ use Rattle.shop_workers.specs.Moments.{hit_word, IsLive, Knows, IsLawful}
 use Rattle.shop_workers.specs.Moves.{with_low, with_done, IsAtMostMarked}
 use Rattle.shop_workers.specs.inner.Steps.{Looks, Marks}
 use Rattle.shop_workers.proofs.Numbers.{has_cons, has_head, has_tail}
-use Rattle.shop_workers.proofs.Words.{word_here, word_else, words_length, same_word}
+use Rattle.shop_workers.proofs.Words.{same_word}
 use Rattle.shop_workers.proofs.LawfulSteps.{Moment, Risen, Step, still_knows, stepped_lawful, quiet}
 use Rattle.shop_workers.proofs.JoinedSeats.{min_is}
 
@@ -53,31 +54,22 @@ looks hits slots id me i bare live last =
     subst (λ (m : Me (Unit {0}) View). Allows (IsLawful hits) slots id m i (λ n. n) (Looks (step slots i 0 0 none) m))
     (λ j. (me.0, sym bare j)) (looks_at hits slots id me.0 i last live)
 
-min_comm : (a b : ℕ) → min a b ≡ min b a
-min_comm a b = omega arith
-
 -- a mark is one fetch_min
 module _ (hits : List Bool) (s : Moment) (id : ℕ) (v : View) (n : ℕ) (law : IsLawful hits s) (at : IsLive s.views id v)
     (mine : has v.mine n ≡ true) (hits_n : is_hit_in hits n ≡ true) where
-  lowered : ℕ
-  lowered = min (hit_word hits s.words) n
-
   marked : List ℕ
   marked = set s.words (length hits) (min (hit_word hits s.words) n)
 
   hit_is : hit_word hits marked ≡ min (hit_word hits s.words) n
   unfolding marked
-  hit_is = let z = law.size in word_here s.words (length hits) (min (hit_word hits s.words) n) (omega arith)
+  hit_is = let z = law.size in get_or-set_same s.words (length hits) (min (hit_word hits s.words) n) 0 (omega arith)
 
   flag_is : (m : ℕ) → m < length hits → slice_index marked m ≡ slice_index s.words m
   unfolding marked
-  flag_is m below = word_else s.words (length hits) m (min (hit_word hits s.words) n) (λ e. omega arith)
+  flag_is m below = get_or-set_other s.words (length hits) m (min (hit_word hits s.words) n) 0 (λ e. omega arith)
 
   risen : Risen hits marked s.words
   risen = record { flags = λ m h. (h.0, flag_is m h.0 ∙ h.1); hit = let e = hit_is in omega arith }
-
-  Which : Type 0
-  Which = (hit_word hits marked ≡ hit_word hits s.words) ⊎ (hit_word hits marked ≡ n)
 
   which : (hit_word hits marked ≡ hit_word hits s.words) ⊎ (hit_word hits marked ≡ n)
   which = ⊎_elim (λ e. inl (hit_is ∙ e)) (λ e. inr (hit_is ∙ e)) (min_is (hit_word hits s.words) n)
@@ -88,11 +80,8 @@ module _ (hits : List Bool) (s : Moment) (id : ℕ) (v : View) (n : ℕ) (law : 
       (λ (e : hit_word hits marked ≡ n). subst (IsHitOrEnd hits) (sym e) (inr hits_n))
       which
 
-  after : View
-  after = with_done v n (min n (hit_word hits s.words))
-
   low_is : hit_word hits marked ≡ min n (hit_word hits s.words)
-  low_is = hit_is ∙ min_comm (hit_word hits s.words) n
+  low_is = let e = hit_is in omega arith
 
   abbrev IsDone : ℕ → Type 0
   IsDone m = (has v.mine m ≡ true) × (is_hit_in hits m ≡ true) × (hit_word hits marked ≤ m)
@@ -123,7 +112,7 @@ module _ (hits : List Bool) (s : Moment) (id : ℕ) (v : View) (n : ℕ) (law : 
       (with_done v n (min n (hit_word hits s.words)))
   unfolding marked
   mark_step = record {
-    size = words_length s.words (length hits) (min (hit_word hits s.words) n);
+    size = length-set s.words (length hits) (min (hit_word hits s.words) n);
     risen = risen;
     flag = λ m below. subst (λ k. (k ≡ 0) ⊎ (k ≡ 1)) (sym (flag_is m below)) (law.flag m below);
     won = λ m h. inl (h.0, sym (flag_is m h.0) ∙ h.1);

@@ -1,4 +1,4 @@
-pub mod KeptEntries
+pub mod TakenLists
 pub mod Places
 pub mod ClaimSteps
 pub mod ClosedBoards

@@ -1,6 +1,8 @@
 -- Lists of numbers: which stand in them, and that none stands twice.
 use Rattle.std.proofs.Common.{◌≡◌, ◌⊎◌, ℕ, List, [], ◌∷◌, ◌++◌, Bool, true, false, ◌||◌, ◌&&◌, not}
-use Rattle.std.proofs.Common.{true≢false, refl, sym, ◌∙◌, subst, inl, inr, ⊎_elim, eqb, eq-eqb, ne_eqb}
+use Rattle.std.proofs.Common.{true≢false, refl, sym, ap, ◌∙◌, subst, inl, inr, ⊎_elim, eqb, eq-eqb, ne_eqb}
+use Rattle.std.proofs.lemmas.Bool.{both_ways, not-true, or_cases}
+use Rattle.std.proofs.lemmas.List.Folds.{list_any-append}
 use mathlib.Core.Logic.{dite}
 use native.Mathlib.Decide.{ℕ_discrete}
 use Rattle.shop_workers.specs.Views.{has, once}
@@ -25,34 +27,18 @@ pub has_same : (x n : ℕ) (xs : List ℕ) → x ≡ n → has (x ∷ xs) n ≡ 
 has_same x n xs e = subst (λ k. has (x ∷ xs) k ≡ true) e (has_head x xs)
 
 pub has_append : (xs ys : List ℕ) (n : ℕ) → has (xs ++ ys) n ≡ true → (has xs n ≡ true) ⊎ (has ys n ≡ true)
-has_append [] ys n h = inr h
-has_append (x ∷ xs) ys n h = ⊎_elim
-    (λ (e : x ≡ n). inl (has_same x n xs e))
-    (λ (t : has (xs ++ ys) n ≡ true). ⊎_elim (λ u. inl (has_tail x n xs u)) (λ u. inr u) (has_append xs ys n t))
-    (has_cons x n (xs ++ ys) h)
+has_append xs ys n h = or_cases (has xs n) (has ys n) (sym (list_any-append (eqb n) xs ys) ∙ h)
 
 pub has_left : (xs ys : List ℕ) (n : ℕ) → has xs n ≡ true → has (xs ++ ys) n ≡ true
-has_left [] ys n h = absurd (true≢false (sym h))
-has_left (x ∷ xs) ys n h = ⊎_elim
-    (λ (e : x ≡ n). has_same x n (xs ++ ys) e)
-    (λ (t : has xs n ≡ true). has_tail x n (xs ++ ys) (has_left xs ys n t))
-    (has_cons x n xs h)
+has_left xs ys n h = list_any-append (eqb n) xs ys ∙ ap (λ b. b || has ys n) h
 
 pub has_right : (xs ys : List ℕ) (n : ℕ) → has ys n ≡ true → has (xs ++ ys) n ≡ true
-has_right [] ys n h = h
-has_right (x ∷ xs) ys n h = has_tail x n (xs ++ ys) (has_right xs ys n h)
+has_right xs ys n h = list_any-append (eqb n) xs ys ∙ or_right (has xs n) (has ys n) h
 
 and_both : (a b : Bool) → (a && b) ≡ true → (a ≡ true) × (b ≡ true)
 and_both true true e = (refl, refl)
 and_both true false e = absurd (true≢false (sym e))
 and_both false b e = absurd (true≢false (sym e))
-
-pub not_true : (b : Bool) → not b ≡ true → b ≡ true → ⊥
-not_true true e h = true≢false (sym e)
-not_true false e h = true≢false (sym h)
-
-pub not_has : (b : Bool) → b ≡ false → b ≡ true → ⊥
-not_has b e h = true≢false (sym h ∙ e)
 
 pub is_false : (b : Bool) → (b ≡ true → ⊥) → b ≡ false
 is_false true n = absurd (n refl)
@@ -60,7 +46,7 @@ is_false false n = refl
 
 -- the first number of those of which none stands twice, and the others
 pub once_first : (x : ℕ) (xs : List ℕ) → once (x ∷ xs) ≡ true → has xs x ≡ true → ⊥
-once_first x xs o h = not_true (has xs x) (and_both (not (has xs x)) (once xs) o).0 h
+once_first x xs o h = both_ways (has xs x) (not-true (has xs x) (and_both (not (has xs x)) (once xs) o).0) h
 
 pub once_others : (x : ℕ) (xs : List ℕ) → once (x ∷ xs) ≡ true → once xs ≡ true
 once_others x xs o = (and_both (not (has xs x)) (once xs) o).1

@@ -1,27 +1,10 @@
--- One word of a board written, and the words that it opens with.
-use Rattle.std.proofs.Common.{◌≡◌, ◌≢◌, ℕ, zero, suc, ◌<◌, List, [], ◌∷◌, ◌++◌, length, set, replicate}
+-- Words of a board that are read, or written as they were, and the words that it opens with.
+use Rattle.std.proofs.Common.{◌≡◌, ℕ, zero, suc, ◌<◌, List, [], ◌∷◌, ◌++◌, length, set, replicate}
 use Rattle.std.proofs.Common.{refl, sym, ap, subst, arith}
 use Rattle.std.specs.Prelude.{slice_index}
 use Rattle.std.proofs.lemmas.List.{set-get_or}
 use mathlib.Core.Option.{some, some-ne-none, some-injective}
 use lib.ListN.{get_elem?}
-
-pub word_here : (l : List ℕ) (i x : ℕ) → i < length l → slice_index (set l i x) i ≡ x
-word_here [] i x h = absurd (omega arith)
-word_here (y ∷ ys) zero x h = refl
-word_here (y ∷ ys) (suc i) x h = word_here ys i x (omega arith)
-
-pub word_else : (l : List ℕ) (i j x : ℕ) → j ≢ i → slice_index (set l i x) j ≡ slice_index l j
-word_else [] i j x n = refl
-word_else (y ∷ ys) zero zero x n = absurd (n refl)
-word_else (y ∷ ys) zero (suc j) x n = refl
-word_else (y ∷ ys) (suc i) zero x n = refl
-word_else (y ∷ ys) (suc i) (suc j) x n = word_else ys i j x (λ e. n (ap suc e))
-
-pub words_length : (l : List ℕ) (i x : ℕ) → length (set l i x) ≡ length l
-words_length [] i x = refl
-words_length (y ∷ ys) zero x = refl
-words_length (y ∷ ys) (suc i) x = ap suc (words_length ys i x)
 
 -- a word written as it was
 pub same_word : (words : List ℕ) (i x : ℕ) → slice_index words i ≡ x → set words i x ≡ words

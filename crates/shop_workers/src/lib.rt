@@ -2,26 +2,22 @@
 #![tactic(auto)]
 
 mod boards;
+mod gates;
 mod lock_search;
-mod open_gates;
 mod ordering;
-mod pool_gates;
 mod pools;
 mod round_hits;
 mod rules;
-mod seat_gates;
 mod seat_laws;
 mod seat_lending;
 mod views;
 mod working;
 
 pub use boards::{Board, Seat};
+pub use gates::{Gate, OpenGate, SeatGate};
 pub use lock_search::serve;
-pub use open_gates::OpenGate;
 pub use ordering::in_order;
-pub use pool_gates::Gate;
 pub use pools::Pool;
-pub use seat_gates::SeatGate;
 pub use seat_laws::has_all;
 pub use seat_lending::{Lent, Returned, complete_returned, seats_for_workers};
 pub use working::claim_and_search_all;

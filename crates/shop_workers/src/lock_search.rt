@@ -6,7 +6,7 @@ ghost use Rattle.shop_runs.specs.Crews.{IsEntryOf};
 ghost use Rattle.shop_runs.specs.Hits.{hits_of_round, IsHitOrEnd};
 ghost use Rattle.shop_workers.specs.Entries.{OfRound, IsPassed, LetsPass};
 
-use crate::pool_gates::Gate;
+use crate::gates::Gate;
 use crate::pools::Pool;
 use shop_runs::{Entry, PieceSearch, Round};
 use std::alloc::{AllocError as NoMemory, Global};
@@ -52,32 +52,6 @@ fn next_piece<R: Wait>(rt: &R, pool: &Mutex<Pool>, pieces: usize) -> Option<usiz
     if number < pieces { Some(number) } else { None }
 }
 
-// Takes piece numbers from `pool` until it is empty, searches or passes these pieces, and answers their entries.
-fn serve_with<'r, P: PieceSearch<'r>, R: Wait, G: Gate>(
-    rt: &R,
-    alloc: Global,
-    searcher: &mut P,
-    pool: &Mutex<Pool>,
-    gate: &G,
-    worker: usize,
-) -> Result<Vec<Entry<'r>>, NoMemory>
-    ensures of { IfOk result (λ v. OfRound (told (P.searched searcher.old)) v.items) }
-    ensures passes { IfOk result
-        (λ v. AllPairs (LetsPass (told (P.searched searcher.old))) v.items) }
-{
-    let mut entries = Vec::new(alloc);
-    let pieces = searcher.round().pieces.len();
-    let mut low = pieces;
-    for _ in rt.forever() {
-        let Some(number) = next_piece(rt, pool, pieces) else {
-            break;
-        };
-        let entry = search_or_pass(alloc, searcher, &mut low, number, worker, gate)?;
-        entries.push(entry)?;
-    }
-    Ok(entries)
-}
-
 /// Searches the pieces whose numbers worker `worker` takes from `pool`, and answers their entries. Once one's makespan
 /// equals the opening bound, passes the worker's pieces of higher numbers. Fails with `NoMemory` if memory runs out.
 pub fn serve<'r, P: PieceSearch<'r>, R: Wait, G: Gate>(
@@ -92,5 +66,15 @@ pub fn serve<'r, P: PieceSearch<'r>, R: Wait, G: Gate>(
     ensures passes { IfOk result (λ v. AllPairs (LetsPass (told round.now)) v.items) }
 {
     let mut searcher = P::over(round);
-    serve_with(rt, alloc, &mut searcher, pool, gate, worker)
+    let mut entries = Vec::new(alloc);
+    let pieces = round.pieces.len();
+    let mut low = pieces;
+    for _ in rt.forever() {
+        let Some(number) = next_piece(rt, pool, pieces) else {
+            break;
+        };
+        let entry = search_or_pass(alloc, &mut searcher, &mut low, number, worker, gate)?;
+        entries.push(entry)?;
+    }
+    Ok(entries)
 }

@@ -4,14 +4,13 @@ ghost use Rattle.std.specs.Prelude.{slice_set, slice_index_or, vec_len};
 ghost use Rattle.shop_runs.specs.Entries.{told};
 ghost use Rattle.shop_runs.specs.Crews.{OneForEach, IsEntryOf};
 ghost use Rattle.shop_workers.specs.Entries.{OfRound};
-ghost use Rattle.shop_workers.specs.inner.Gathered.{AllOfRound, ListsOfRound, Placed, AreFilled, AreKept};
-ghost use Rattle.shop_workers.specs.inner.Gathered.{Fills, StayFilled};
+ghost use Rattle.shop_workers.specs.inner.Gathered.{AllOfRound, Placed};
 
 use shop_runs::{Entry, PieceSearch, Round};
 use std::alloc::{AllocError as NoMemory, Global};
 
-// Makes an empty place for the entry of each piece of `round`.
-fn places<'r>(alloc: Global, round: &'r Round<'r>) -> Result<Vec<Option<Entry<'r>>>, NoMemory>
+/// Makes an empty place for the entry of each piece of `round`. Fails with `NoMemory` if memory runs out.
+pub fn places<'r>(alloc: Global, round: &'r Round<'r>) -> Result<Vec<Option<Entry<'r>>>, NoMemory>
     ensures len { IfOk result (λ v. vec_len v ≡ length round.now.pieces.items) }
     ensures placed { IfOk result (λ v. Placed (told round.now) v.items) }
 {
@@ -28,8 +27,6 @@ fn put<'r>(round: &'r Round<'r>, slots: &mut Vec<Option<Entry<'r>>>, entry: Entr
     requires slots { Placed (told round.now) slots.old.items }
     ensures len { vec_len slots.new ≡ vec_len slots.old }
     ensures placed { Placed (told round.now) slots.new.items }
-    ensures stays { StayFilled slots.old.items slots.new.items }
-    ensures fills { Fills slots.new.items entry.entry }
 {
     let number = entry.number();
     if number < slots.len() {
@@ -37,14 +34,16 @@ fn put<'r>(round: &'r Round<'r>, slots: &mut Vec<Option<Entry<'r>>>, entry: Entr
     }
 }
 
-// Puts each of `entries`, from the last to the first, into its piece's place in `slots`, over any entry there.
-fn place<'r>(round: &'r Round<'r>, slots: &mut Vec<Option<Entry<'r>>>, mut entries: Vec<Entry<'r>>)
+/// Puts each of `entries`, from the last to the first, into its piece's place in `slots`, over any entry there.
+pub fn place<'r>(
+    round: &'r Round<'r>,
+    slots: &mut Vec<Option<Entry<'r>>>,
+    mut entries: Vec<Entry<'r>>,
+)
     requires entries { OfRound (told round.now) entries.items }
     requires slots { Placed (told round.now) slots.old.items }
     ensures len { vec_len slots.new ≡ vec_len slots.old }
     ensures placed { Placed (told round.now) slots.new.items }
-    ensures stays { StayFilled slots.old.items slots.new.items }
-    ensures filled { All (Fills slots.new.items) entries.entry.items }
 {
     while let Some(entry) = entries.pop() {
         put(round, slots, entry);
@@ -71,7 +70,6 @@ fn or_search<'r, P: PieceSearch<'r>>(
     requires brought { IfSome brought (λ e. IsEntryOf (told (P.searched searcher.old)) number e) }
     ensures round { P.searched searcher.new ≡ P.searched searcher.old }
     ensures entry { IfOk result (λ e. IsEntryOf (told (P.searched searcher.old)) number e) }
-    ensures kept { IfOk result (λ e. IfSome brought.entry (λ kept. e ≡ kept)) }
 {
     match brought {
         Some(entry) => Ok(entry),
@@ -80,25 +78,6 @@ fn or_search<'r, P: PieceSearch<'r>>(
             Ok(Entry::done(searcher.round(), sheet))
         }
     }
-}
-
-// Answers each piece's entry, in number order: takes it from its place, or searches the piece if the place is empty.
-fn complete_with<'r, P: PieceSearch<'r>>(
-    alloc: Global,
-    searcher: &mut P,
-    slots: &mut Vec<Option<Entry<'r>>>,
-) -> Result<Vec<Entry<'r>>, NoMemory>
-    requires len { vec_len slots.old ≡ length (P.searched searcher.old).pieces.items }
-    requires slots { Placed (told (P.searched searcher.old)) slots.old.items }
-    ensures each { IfOk result (λ v. OneForEach (told (P.searched searcher.old)) v.items) }
-    ensures kept { IfOk result (λ v. AreKept slots.old.items v.items) }
-{
-    let mut entries = Vec::with_capacity(alloc, slots.len())?;
-    for number in 0..slots.len() {
-        let brought = take(slots, number);
-        entries.push(or_search(alloc, searcher, number, brought)?)?;
-    }
-    Ok(entries)
 }
 
 /// Answers one entry for each piece of `round`, in number order: takes it from the piece's place in `slots`, or
@@ -110,47 +89,15 @@ pub fn complete<'r, P: PieceSearch<'r>>(
 ) -> Result<Vec<Entry<'r>>, NoMemory>
     requires len { vec_len slots ≡ length round.now.pieces.items }
     requires slots { Placed (told round.now) slots.items }
-    ensures each { IfOk result (λ v. OneForEach (told round.now) v.items) }
-    ensures kept { IfOk result (λ v. AreKept slots.entry.items v.items) }
+    ensures { IfOk result (λ v. OneForEach (told round.now) v.items) }
 {
     let mut searcher = P::over(round);
-    complete_with(alloc, &mut searcher, &mut slots)
-}
-
-/// Puts the entries that workers brought into the places of their pieces, and keeps one entry for each piece. The place
-/// of a piece without an entry stays empty. Fails with `NoMemory` if memory runs out.
-pub fn in_places<'r>(
-    alloc: Global,
-    round: &'r Round<'r>,
-    mut lists: Vec<Vec<Entry<'r>>>,
-) -> Result<Vec<Option<Entry<'r>>>, NoMemory>
-    requires { ListsOfRound (told round.now) lists.items }
-    ensures len { IfOk result (λ v. vec_len v ≡ length round.now.pieces.items) }
-    ensures placed { IfOk result (λ v. Placed (told round.now) v.items) }
-    ensures filled { IfOk result (λ v. AreFilled lists.entry.items v.items) }
-{
-    let mut slots = places(alloc, round)?;
-    while let Some(entries) = lists.pop() {
-        place(round, &mut slots, entries);
+    let mut entries = Vec::with_capacity(alloc, slots.len())?;
+    for number in 0..slots.len() {
+        let brought = take(&mut slots, number);
+        entries.push(or_search(alloc, &mut searcher, number, brought)?)?;
     }
-    Ok(slots)
-}
-
-// Collects the lists that the workers brought. Fails with `NoMemory` if memory runs out, here or for a worker.
-fn all_brought<'r>(
-    alloc: Global,
-    round: &'r Round<'r>,
-    mut brought: Vec<Result<Vec<Entry<'r>>, NoMemory>>,
-) -> Result<Vec<Vec<Entry<'r>>>, NoMemory>
-    requires { AllOfRound (told round.now) brought.items }
-    ensures granted { OnOk result (All IsOk brought.entry.items) }
-    ensures entries { IfOk result (λ v. ListsOfRound (told round.now) v.items) }
-{
-    let mut lists = Vec::with_capacity(alloc, brought.len())?;
-    while let Some(entries) = brought.pop() {
-        lists.push(entries?)?;
-    }
-    Ok(lists)
+    Ok(entries)
 }
 
 /// Answers one entry for each piece of `round`, in number order: takes one that a worker brought, or searches the piece
@@ -158,13 +105,15 @@ fn all_brought<'r>(
 pub fn in_order<'r, P: PieceSearch<'r>>(
     alloc: Global,
     round: &'r Round<'r>,
-    brought: Vec<Result<Vec<Entry<'r>>, NoMemory>>,
+    mut brought: Vec<Result<Vec<Entry<'r>>, NoMemory>>,
 ) -> Result<Vec<Entry<'r>>, NoMemory>
     requires { AllOfRound (told round.now) brought.items }
     ensures granted { OnOk result (All IsOk brought.entry.items) }
     ensures each { IfOk result (λ v. OneForEach (told round.now) v.items) }
 {
-    let lists = all_brought(alloc, round, brought)?;
-    let slots = in_places(alloc, round, lists)?;
+    let mut slots = places(alloc, round)?;
+    while let Some(entries) = brought.pop() {
+        place(round, &mut slots, entries?);
+    }
     complete::<P>(alloc, round, slots)
 }

@@ -1,8 +1,8 @@
 // Lends the seats of a board to workers, and completes the entries that the workers bring back.
-ghost use Rattle.std.specs.Prelude.{◌≡◌, ◌<◌, length, All, IfOk, IsOk, OnOk, IfSome, IfNone};
+ghost use Rattle.std.specs.Prelude.{◌≡◌, ◌<◌, length, vec_len, All, IfOk, IsOk, OnOk, IfSome, IfNone};
 ghost use Rattle.shop_runs.specs.Entries.{told};
 ghost use Rattle.shop_runs.specs.Crews.{OneForEach};
-ghost use Rattle.shop_workers.specs.inner.Gathered.{ListsOfRound};
+ghost use Rattle.shop_workers.specs.inner.Gathered.{Placed};
 ghost use Rattle.shop_workers.specs.inner.Returns.{AreReturned};
 ghost use Rattle.shop_runs.specs.Hits.{hits_of_round};
 ghost use Rattle.shop_workers.specs.Seats.{knows, hits_of, IsSeatOf};
@@ -10,7 +10,7 @@ ghost use Rattle.shop_workers.specs.Works.{Grows, IsKnown};
 ghost use Rattle.shop_workers.specs.inner.Turns.{IsRestKnown};
 
 use crate::boards::{Board, Seat};
-use crate::ordering::{complete, in_places};
+use crate::ordering::{complete, place, places};
 use shop_runs::{Entry, PieceSearch, Round};
 use std::alloc::{AllocError as NoMemory, Global};
 
@@ -53,28 +53,30 @@ pub fn seats_for_workers(
     Ok(lent)
 }
 
-// Joins the workers' seats and collects their entries. Fails with `NoMemory` if memory runs out, here or for a worker.
+// Joins the workers' seats, and puts their entries into the places of their pieces. Fails with `NoMemory` if memory runs
+// out, here or for a worker.
 fn join_all<'r>(
     alloc: Global,
     board: &Board,
     round: &'r Round<'r>,
     mut returned: Vec<Returned<'r>>,
-) -> Result<(Option<Seat>, Vec<Vec<Entry<'r>>>), NoMemory>
+) -> Result<(Option<Seat>, Vec<Option<Entry<'r>>>), NoMemory>
     requires { AreReturned board.now (told round.now) returned.items }
     ensures granted { OnOk result (All (λ w. IsOk w.entries) returned.entry.items) }
     ensures seat { IfOk result (λ p. IfSome p.0 (IsSeatOf board.now)) }
-    ensures entries { IfOk result (λ p. ListsOfRound (told round.now) p.1.items) }
+    ensures len { IfOk result (λ p. vec_len p.1 ≡ length round.now.pieces.items) }
+    ensures placed { IfOk result (λ p. Placed (told round.now) p.1.items) }
 {
-    let mut lists = Vec::with_capacity(alloc, returned.len())?;
+    let mut slots = places(alloc, round)?;
     let mut joined = None;
     while let Some(Returned { seat, entries }) = returned.pop() {
         joined = match joined {
             Some(mine) => Some(board.join(mine, seat)),
             None => Some(seat),
         };
-        lists.push(entries?)?;
+        place(round, &mut slots, entries?);
     }
-    Ok((joined, lists))
+    Ok((joined, slots))
 }
 
 // Claims piece `number` if `place`, the place of its entry, is empty, as no worker brought the entry.
@@ -115,10 +117,9 @@ pub fn complete_returned<'r, P: PieceSearch<'r>>(
     ensures granted { OnOk result (All (λ w. IsOk w.entries) returned.entry.items) }
     ensures each { IfOk result (λ v. OneForEach (told round.now) v.items) }
 {
-    let (joined, lists) = join_all(alloc, board, round, returned)?;
-    let places = in_places(alloc, round, lists)?;
+    let (joined, slots) = join_all(alloc, board, round, returned)?;
     if let Some(mut seat) = joined {
-        claim_rest(board, &mut seat, &places);
+        claim_rest(board, &mut seat, &slots);
     }
-    complete::<P>(alloc, round, places)
+    complete::<P>(alloc, round, slots)
 }

@@ -8,42 +8,13 @@ ghost use Rattle.shop_workers.specs.Works.{Grows, IsKnown, IsAllKnown, BringsWon
 ghost use Rattle.shop_workers.specs.inner.Turns.{IsServedEntry, BringsTurn};
 
 use crate::boards::{Board, Seat};
-use crate::seat_gates::SeatGate;
+use crate::gates::SeatGate;
 use shop_runs::{Entry, PieceSearch};
 use std::alloc::{AllocError as NoMemory, Global};
 
-// Searches piece `number`, which `seat` won, marks it if its makespan equals the opening bound, and answers its entry.
-fn search_won<'r, P: PieceSearch<'r>, G: SeatGate>(
-    alloc: Global,
-    board: &Board,
-    seat: &mut Seat,
-    searcher: &mut P,
-    number: usize,
-    worker: usize,
-    gate: &G,
-) -> Result<Entry<'r>, NoMemory>
-    requires seat { IsSeatOf board.now seat.old }
-    requires round { hits_of board.now ≡ hits_of_round (P.searched searcher.old) }
-    requires piece { number < length (P.searched searcher.old).pieces.items }
-    requires won { has (knows seat.old).mine number ≡ true }
-    ensures seat { IsSeatOf board.now seat.new }
-    ensures grows { Grows (knows seat.old) (knows seat.new) }
-    ensures round { P.searched searcher.new ≡ P.searched searcher.old }
-    ensures mine { (knows seat.new).mine ≡ (knows seat.old).mine }
-    ensures entry { IfOk result
-        (IsServedEntry (told (P.searched searcher.old)) number (knows seat.new)) }
-{
-    gate.won(worker, seat, number);
-    let sheet = searcher.search(alloc, number)?;
-    let round = searcher.round();
-    if sheet.makespan == round.bound {
-        board.mark(seat, number);
-    }
-    Ok(Entry::done(round, sheet))
-}
-
-// Reads the least number of a marked piece, then claims piece `number`. If the seat wins piece `number`, searches it,
-// or passes it if the number read is lower. Answers the entry of piece `number`, or `None` if the seat didn't win it.
+// Reads the least number of a marked piece, then claims piece `number`. If the seat wins piece `number`, passes it if
+// the number read is lower; else searches it, and marks it if its makespan equals the opening bound. Answers the entry
+// of piece `number`, or `None` if the seat didn't win it.
 fn claim_and_search<'r, P: PieceSearch<'r>, G: SeatGate>(
     alloc: Global,
     board: &Board,
@@ -70,8 +41,13 @@ fn claim_and_search<'r, P: PieceSearch<'r>, G: SeatGate>(
     if low < number {
         return Ok(Some(Entry::passed(searcher.round(), number, low)));
     }
-    let entry = search_won(alloc, board, seat, searcher, number, worker, gate)?;
-    Ok(Some(entry))
+    gate.won(worker, seat, number);
+    let sheet = searcher.search(alloc, number)?;
+    let round = searcher.round();
+    if sheet.makespan == round.bound {
+        board.mark(seat, number);
+    }
+    Ok(Some(Entry::done(round, sheet)))
 }
 
 /// Claims each piece of the board in order. Searches a piece that the seat wins, or passes it if the board shows an

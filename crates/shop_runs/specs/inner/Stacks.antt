@@ -1,8 +1,6 @@
 -- Open nodes in the order in which the next cut takes them.
 --     words_in block                  the words of a block, from its top down
---     words_in_rest block             those of a block, if there is one
 --     words_on stack                  the words of a stack, from its top down
---     words_left stack                those of a stack, if there is one
 --     Place                           a place of a row: the stack of a bound, if there is one
 --     words_at place                  the words of this stack
 --     nodes_of_bound bound words      nodes of these words, of one bound
@@ -16,29 +14,19 @@
 --                                     at most one word
 use Rattle.std.specs.Prelude.{◌≡◌, ℕ, suc, ◌≤◌, Option, Some, None, List, [], ◌∷◌, ◌++◌}
 use Rattle.std.specs.Prelude.{map, flat_map, reverse, length}
-use Rattle.std.specs.BTreeMap.{BTreeMap}
 use Rattle.std.specs.Global.{Box}
 use Rattle.shop_nodes.specs.Branching.{insert_by}
 use Rattle.shop_nodes.specs.declared.nodes.Node.{Node}
 use Rattle.shop_runs.specs.declared.stacks.Chunk.{Chunk}
 use Rattle.shop_runs.specs.declared.stacks.Stack.{Stack}
-use Rattle.shop_nodes.specs.inner.HeldNodes.{nodes_below}
 use Rattle.shop_runs.specs.declared.plans.Order.{Order}
 use Rattle.shop_runs.specs.declared.plans.Order.TheVariants.{Kept, Bound}
 
 abbrev pub words_in : Chunk → List (List ℕ)
 words_in b = b.top ∷ reverse b.below.items
 
-abbrev pub words_in_rest : Option Chunk → List (List ℕ)
-words_in_rest None = []
-words_in_rest (Some b) = words_in b
-
 abbrev pub words_on : Stack → List (List ℕ)
 words_on s = words_in s.topmost ++ flat_map words_in (reverse s.covered.items)
-
-abbrev pub words_left : Option Stack → List (List ℕ)
-words_left None = []
-words_left (Some s) = words_on s
 
 abbrev pub Place : Type 0
 Place = Option (Box Stack)
@@ -59,9 +47,6 @@ nodes_in_row bound [] = []
 nodes_in_row bound (s ∷ stacks) =
     nodes_of_bound bound (words_at s) ++ nodes_in_row (suc bound) stacks
 
-abbrev pub nodes_in_stacks : BTreeMap ℕ Stack → List Node
-nodes_in_stacks stacks = nodes_by_bound stacks.entries
-
 abbrev pub put_before : Order → Node → List Node → List Node
 put_before Kept node nodes = node ∷ nodes
 put_before Bound node nodes = insert_by (λ n. n.bound) node nodes
@@ -77,15 +62,3 @@ IsNextOf (Some node) before after = before ≡ node ∷ after
 abbrev pub IsTopIfMore : Option (List ℕ) → List (List ℕ) → List (List ℕ) → Type 0
 IsTopIfMore None before after = (after ≡ before) × (length before ≤ 1)
 IsTopIfMore (Some word) before after = before ≡ word ∷ after
-
--- of stacks by bound: a node is put, one is taken, those below a makespan are kept
-abbrev pub IsPutByBound : Node → BTreeMap ℕ Stack → BTreeMap ℕ Stack → Type 0
-IsPutByBound node before after =
-    nodes_in_stacks after ≡ insert_by (λ n. n.bound) node (nodes_in_stacks before)
-
-abbrev pub IsNextByBound : Option Node → BTreeMap ℕ Stack → BTreeMap ℕ Stack → Type 0
-IsNextByBound node before after = IsNextOf node (nodes_in_stacks before) (nodes_in_stacks after)
-
-abbrev pub KeepsBelow : ℕ → BTreeMap ℕ Stack → BTreeMap ℕ Stack → Type 0
-KeepsBelow makespan before after =
-    nodes_in_stacks after ≡ nodes_below makespan (nodes_in_stacks before)

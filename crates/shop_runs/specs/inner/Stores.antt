@@ -9,21 +9,21 @@
 use Rattle.std.specs.Prelude.{◌≡◌, ℕ, Option, List, take, drop}
 use Rattle.shop_nodes.specs.declared.nodes.Node.{Node}
 use Rattle.shop_runs.specs.declared.open_nodes.OpenNodes.{OpenNodes}
-use Rattle.shop_runs.specs.declared.open_nodes.OpenNodes.TheVariants.{AsKept, InRow, ByBound}
+use Rattle.shop_runs.specs.declared.open_nodes.OpenNodes.TheVariants.{AsKept, InRow, InMap}
 use Rattle.shop_runs.specs.declared.plans.Order.{Order}
 use Rattle.shop_runs.specs.declared.plans.Order.TheVariants.{Kept, Bound}
 use Rattle.shop_nodes.specs.inner.HeldNodes.{nodes_below}
-use Rattle.shop_runs.specs.inner.Stacks.{nodes_in_stacks, put_before, put_all_before, IsNextOf}
+use Rattle.shop_runs.specs.inner.Stacks.{put_before, put_all_before, IsNextOf}
 
 abbrev pub open_list : OpenNodes → List Node
 open_list (AsKept nodes) = nodes
 open_list (InRow nodes) = nodes
-open_list (ByBound stacks) = nodes_in_stacks stacks
+open_list (InMap nodes) = nodes
 
 abbrev pub order_of : OpenNodes → Order
 order_of (AsKept nodes) = Kept
 order_of (InRow nodes) = Bound
-order_of (ByBound stacks) = Bound
+order_of (InMap nodes) = Bound
 
 abbrev pub IsPut : Node → OpenNodes → OpenNodes → Type 0
 IsPut node before after = (order_of after ≡ order_of before)

@@ -1,17 +1,15 @@
-use Rattle.std.proofs.Common.{rules, sym, subst, ◌≡◌, Option, Some, [], ◌∷◌, ◌++◌}
-use Rattle.std.proofs.lemmas.List.Elements.{All-pop, All-push}
-use Rattle.std.specs.Prelude.{Ok, IsOk, IfOk, IfSome}
+use Rattle.std.proofs.Common.{rules, ◌∙◌, sym, subst, ◌≡◌, Option, Some, [], ◌∷◌, ◌++◌}
+use Rattle.std.proofs.lemmas.List.Elements.{All-pop}
+use Rattle.std.specs.Prelude.{Ok, IsOk, IfSome}
 use Rattle.std.specs.declared.vec.Vec.{Vec}
 use Rattle.std.specs.declared.alloc.Global.{Global}
 use Rattle.shop_runs.specs.Entries.{told}
 use Rattle.shop_runs.specs.declared.entries.Entry.{Entry}
-use Rattle.shop_workers.specs.Entries.{OfRound, Brought}
 use Rattle.shop_workers.specs.Seats.{IsSeatOf}
-use Rattle.shop_workers.specs.inner.Gathered.{ListsOfRound}
 use Rattle.shop_workers.specs.inner.Returns.{IsReturned}
 use Rattle.shop_workers.specs.declared.boards.Seat.{Seat}
 use Rattle.shop_workers.specs.declared.seat_lending.Returned.{Returned}
-use Rattle.shop_workers.proofs.KeptEntries.{through_one}
+use Rattle.shop_workers.proofs.TakenLists.{through_one}
 use Rattle.shop_workers.proofs.seat_lending.join_all.Goals as goal
 use Rattle.shop_workers.proofs.seat_lending.join_all.Goals.{in-Some-joined, in-None}
 
@@ -20,7 +18,6 @@ loop-seat-preserved c =
     let b = c.args.board.now in
     let r = told c.args.round.now in
     let all = c.loop-seat.returned.items in
-    let lists = c.loop-seat.lists.items in
     let left = c.pop.new.self.items in
     let taken : Returned = c.in-Some.field-0 in
     let entries : Vec Entry Global = c.in_ok-entries.field-0 in
@@ -29,21 +26,19 @@ loop-seat-preserved c =
     let popped : c.pop.result ≡ Some taken = search rules in
     let held : taken.entries ≡ Ok entries = search rules in
     let granted : IsOk taken.entries = search rules in
-    let pushed : c.push.new.self.items ≡ lists ++ entries ∷ [] = search rules in
     let parts = All-pop (λ (w : Returned). IsReturned b r w.seat w.entries) all left c.pop.result
-    c.pop.ensures.items c.loop-seat.invariant.2 in
+    c.pop.ensures.items c.loop-seat.invariant.3 in
     let here : IsReturned b r taken.seat taken.entries =
-    subst (λ (o : Option Returned). IfSome o (λ w. IsReturned b r w.seat w.entries)) popped parts.1 in
-    let of : OfRound r entries.items = subst (λ (x : Brought). IfOk x (λ v. OfRound r v.items)) held here.1 in (
+    subst (λ (o : Option Returned). IfSome o (λ w. IsReturned b r w.seat w.entries)) popped parts.1 in (
       elim c.match-joined.branch [
         | in-Some-joined w ↦ (let is : joined ≡ Some w.join.result = search rules
             in subst (λ (o : Option Seat). IfSome o (IsSeatOf b)) (sym is) w.join.ensures.seat)
         | in-None w ↦ (let is : joined ≡ Some taken.seat = search rules
             in subst (λ (o : Option Seat). IfSome o (IsSeatOf b)) (sym is) here.0)
       ],
-      subst (ListsOfRound r) (sym pushed)
-          (All-push (λ (v : Vec Entry Global). OfRound r v.items) lists entries c.loop-seat.invariant.1 of),
+      c.place.ensures.len ∙ c.loop-seat.invariant.1,
+      c.place.ensures.placed,
       parts.0,
-      through_one (λ (w : Returned). IsOk w.entries) (λ (w : Returned). IsOk w.entries) c.args.returned.items all left
-          taken (λ w ok. ok) granted was c.loop-seat.invariant.3,
+      through_one (λ (w : Returned). IsOk w.entries) c.args.returned.items all left taken granted was
+          c.loop-seat.invariant.4,
     )

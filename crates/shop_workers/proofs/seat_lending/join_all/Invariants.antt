@@ -1,17 +1,18 @@
-use Rattle.std.proofs.Common.{vec_len}
+use Rattle.std.proofs.Common.{◌≡◌, length, vec_len}
 use Rattle.std.specs.Prelude.{All, IfSome, IsOk}
 use Rattle.shop_runs.specs.Entries.{told}
-use Rattle.shop_workers.specs.inner.Gathered.{ListsOfRound}
+use Rattle.shop_workers.specs.inner.Gathered.{Placed}
 use Rattle.shop_workers.specs.Seats.{IsSeatOf}
 use Rattle.shop_workers.specs.inner.Returns.{IsReturned}
 use Rattle.shop_workers.specs.declared.seat_lending.Returned.{Returned}
-use Rattle.shop_workers.proofs.KeptEntries.{AreThrough}
+use Rattle.shop_workers.proofs.TakenLists.{AreThrough}
 use Rattle.shop_workers.proofs.seat_lending.join_all.Given as goal
 
 abbrev pub invariant-loop-seat : goal.invariant-loop-seat
 invariant-loop-seat l =
     IfSome l.joined (IsSeatOf l.board)
-    × ListsOfRound (told l.round) l.lists.items
+    × (vec_len l.slots ≡ length l.round.pieces.items)
+    × Placed (told l.round) l.slots.items
     × All (λ (b : Returned). IsReturned l.board (told l.round) b.seat b.entries) l.returned.items
     × AreThrough (λ (b : Returned). IsOk b.entries) l.initial.returned.items l.returned.items
 

@@ -1,0 +1,19 @@
+-- Lists that are taken from their ends.
+use Rattle.std.proofs.Common.{◌≡◌, List, [], ◌∷◌, ◌++◌, ap, ◌∙◌}
+use Rattle.std.proofs.lemmas.List.{append_assoc}
+use Rattle.std.proofs.lemmas.List.Elements.{All-cons}
+use Rattle.std.specs.Prelude.{All}
+
+-- what was taken has P
+pub record AreThrough {X : Type 0} (P : X → Type 0) (all left : List X) : Type 0 where
+  pub done : List X
+  pub split : all ≡ left ++ done
+  pub holds : All P done
+
+pub through_one : {X : Type 0} (P : X → Type 0) (all before left : List X) (x : X) → P x
+    → before ≡ left ++ x ∷ [] → AreThrough P all before → AreThrough P all left
+through_one P all before left x here was through = record {
+  done = x ∷ through.done;
+  split = through.split ∙ ap (λ l. l ++ through.done) was ∙ append_assoc left (x ∷ []) through.done;
+  holds = All-cons P x through.done here through.holds;
+}

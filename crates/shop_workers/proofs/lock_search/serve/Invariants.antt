@@ -1,0 +1,15 @@
+use Rattle.std.proofs.Common.{◌≡◌}
+use Rattle.shop_runs.specs.Entries.{told}
+use Rattle.shop_runs.specs.Hits.{hits_of_round}
+use Rattle.shop_runs.specs.Hits.{IsHitOrEnd}
+use Rattle.shop_workers.proofs.TakenEntries.{AreTaken}
+use Rattle.shop_workers.proofs.lock_search.serve.Given as goal
+
+abbrev pub invariant-loop : goal.invariant-loop
+invariant-loop g l =
+    let searched = g.P.PieceSearch.searched in
+    (goal.iterator-loop g).can_next l.iterator'
+    × (goal.iterator-loop g).is_finite l.iterator'
+    × (searched l.searcher ≡ l.round)
+    × IsHitOrEnd (hits_of_round l.round) l.low
+    × AreTaken (told l.round) l.low l.entries.items

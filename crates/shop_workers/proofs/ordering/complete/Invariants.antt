@@ -1,0 +1,13 @@
+use Rattle.std.proofs.Common.{◌≡◌, vec_len}
+use Rattle.shop_runs.specs.Entries.{told}
+use Rattle.shop_workers.specs.inner.Gathered.{Placed}
+use Rattle.shop_workers.proofs.Places.{EntriesUpTo}
+use Rattle.shop_workers.proofs.ordering.complete.Given as goal
+
+abbrev pub invariant-loop-number : goal.invariant-loop-number
+invariant-loop-number g l =
+    (vec_len l.slots ≡ vec_len l.initial.slots)
+    × Placed (told l.round) l.slots.items
+    × (vec_len l.entries ≡ l.number)
+    × EntriesUpTo (told l.round) l.entries.items l.number
+    × (g.P.PieceSearch.searched l.searcher ≡ l.round)
