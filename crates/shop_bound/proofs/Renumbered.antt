@@ -10,8 +10,7 @@ use Rattle.std.proofs.lemmas.List.Elements.{filter_agree, filter_passes, recursi
 use Rattle.std.proofs.lemmas.List.Sums.{sum_by-cons}
 use Rattle.shop_model.specs.declared.ops.Op.{Op}
 use Rattle.shop_model.specs.Limits.{IsWithinLimits}
-use Rattle.shop_model.specs.Shop.{Shop, IsOperation, no_op, route_of, machine_of, time_of, finish_of}
-use Rattle.shop_model.specs.Shop.{greatest_below}
+use Rattle.shop_model.specs.Shop.{Shop, IsOperation, no_op, route_of, machine_of, time_of, finish_of, greatest_below}
 use Rattle.shop_model.specs.Word.{Placing, IsWord, placing, place_next}
 use Rattle.shop_model.proofs.Greatest.{le-greatest_below, greatest_below-le}
 use Rattle.shop_model.proofs.Placings.{IsNext, place_next-is, each_placed}

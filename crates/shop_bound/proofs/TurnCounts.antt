@@ -5,9 +5,7 @@ use Rattle.std.proofs.Math.ListN.{set}
 use Rattle.std.proofs.lemmas.Bool.Decides.{nat_tests}
 use Rattle.std.proofs.lemmas.List.Sums.{sum_by-cons, sum_by-set}
 use Rattle.shop_bound.specs.declared.works.Work.{Work}
-use Rattle.shop_bound.specs.inner.Serving.{no_work, work_at, IsFresh}
-use Rattle.shop_bound.specs.inner.Serving.{IsReady, turns_of, turns_left, undone_of}
-use Rattle.shop_bound.specs.inner.Serving.{undone}
+use Rattle.shop_bound.specs.inner.Serving.{no_work, work_at, IsFresh, IsReady, turns_of, turns_left, undone_of, undone}
 
 -- the turns left
 turn_of-le : (a b : ℕ) (w : Work) → a ≤ b → turns_of b w ≤ turns_of a w

@@ -10,15 +10,13 @@ use Rattle.shop_bound.specs.declared.works.Work.{Work}
 use Rattle.shop_bound.specs.OneMachine.{one, greatest_of, IsSmall}
 use Rattle.shop_bound.specs.inner.Thresholds.{is_above, span_above}
 use Rattle.shop_bound.specs.inner.Serving.{no_work, work_at, triples_of, Waits, IsFresh, fresh, IsServed, IsStop}
-use Rattle.shop_bound.specs.inner.Serving.{IsRelease, IsReady, worked, IsBusy, IsRun, turns_left}
-use Rattle.shop_bound.specs.inner.Serving.{undone}
+use Rattle.shop_bound.specs.inner.Serving.{IsRelease, IsReady, worked, IsBusy, IsRun, turns_left, undone}
 use Rattle.shop_bound.proofs.Lists.{get_or-le-greatest_of}
 use Rattle.shop_bound.proofs.ThresholdLemmas.{one-le, span_above-some, span_above-le, is_above-from, is_above-true}
 use Rattle.shop_bound.proofs.ThresholdLemmas.{sublist_sum, sublist_filter, greatest_of-map}
 use Rattle.shop_bound.proofs.WorkSums.{triple_at, triples-set, set_all, worked-set, some_above}
 use Rattle.shop_bound.proofs.WorkSums.{worked-le, worked-all, span_above-parts, worked-none, none_above}
-use Rattle.shop_bound.proofs.TurnCounts.{turns_left-le, turns_left-release, turns_left-same}
-use Rattle.shop_bound.proofs.TurnCounts.{turns_left-done}
+use Rattle.shop_bound.proofs.TurnCounts.{turns_left-le, turns_left-release, turns_left-same, turns_left-done}
 
 -- An operation that is served until the clock and d more: v is what becomes of it.
 pub record IsServing (ws : List Work) (clock i d : ℕ) (v : Work) : Type 0 where

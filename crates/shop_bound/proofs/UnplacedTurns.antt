@@ -14,8 +14,7 @@ use Rattle.shop_model.specs.Word.{Placing}
 use Rattle.shop_model.proofs.Unders.{after_word}
 use Rattle.shop_bound.specs.declared.triples.Triple.{Triple}
 use Rattle.shop_bound.specs.Bound.{Waiting, waiting_from, waiting_of, triples_on}
-use Rattle.shop_bound.specs.Heads.{tail_in}
-use Rattle.shop_bound.specs.Heads.{AreTimesSmall}
+use Rattle.shop_bound.specs.Heads.{tail_in, AreTimesSmall}
 use Rattle.shop_model.specs.Placements.{PlacementState, IsPlacement}
 use Rattle.shop_bound.specs.inner.PlacedWords.{IsOfWord}
 use Rattle.shop_bound.specs.inner.Unplaced.{unplaced_from, CanGoOn}

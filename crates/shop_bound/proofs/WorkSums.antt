@@ -10,9 +10,7 @@ use Rattle.std.proofs.lemmas.List.Sums.{sum_by-cons, sum_by-set}
 use Rattle.shop_bound.specs.declared.triples.Triple.{Triple}
 use Rattle.shop_bound.specs.declared.works.Work.{Work}
 use Rattle.shop_bound.specs.inner.Thresholds.{is_above, span_above}
-use Rattle.shop_bound.specs.inner.Serving.{no_work, work_at, triples_of, IsFresh, fresh}
-use Rattle.shop_bound.specs.inner.Serving.{worked}
-use Rattle.shop_bound.specs.inner.Serving.{undone}
+use Rattle.shop_bound.specs.inner.Serving.{no_work, work_at, triples_of, IsFresh, fresh, worked, undone}
 use Rattle.shop_bound.proofs.ThresholdLemmas.{span_above-some}
 
 -- one operation changed

@@ -1,6 +1,5 @@
 -- Lists of eight, their sums by three shifted additions, and their greatest by three turns.
-use Rattle.std.proofs.Common.{◌≡◌, ℕ, suc, ◌+◌, ◌-◌, ◌≤◌, ◌^◌, List, [], ◌∷◌, length, refl, ap}
-use Rattle.std.proofs.Common.{◌∙◌, arith}
+use Rattle.std.proofs.Common.{◌≡◌, ℕ, suc, ◌+◌, ◌-◌, ◌≤◌, ◌^◌, List, [], ◌∷◌, length, refl, ap, ◌∙◌, arith}
 use lib.Lanes.{Each2, sum_l}
 use mir.Syntax.{Width}
 use mir.Val.{Fits, bits}

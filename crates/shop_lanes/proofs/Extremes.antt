@@ -1,6 +1,5 @@
 -- The greatest and the least of lists and of vectors.
-use Rattle.std.proofs.Common.{◌≡◌, ℕ, ◌≤◌, min, max, List, [], ◌∷◌, ◌++◌, length, get_or}
-use Rattle.std.proofs.Common.{refl, ap, sym, ◌∙◌, arith}
+use Rattle.std.proofs.Common.{◌≡◌, ℕ, ◌≤◌, min, max, List, [], ◌∷◌, ◌++◌, length, get_or, refl, ap, sym, ◌∙◌, arith}
 use Rattle.std.proofs.lemmas.Simd.{length-zip2}
 use lib.Lanes.{zip2, top}
 use Rattle.shop_lanes.specs.Eights.{halves, quarters, neighbours}

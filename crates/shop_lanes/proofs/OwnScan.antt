@@ -1,6 +1,5 @@
 -- Where the passes for own spans begin, down the columns and back.
-use Rattle.std.proofs.Common.{◌≡◌, ℕ, ◌+◌, ◌*◌, List, length, take, get_or, refl, ap, sym}
-use Rattle.std.proofs.Common.{◌∙◌, arith, subst}
+use Rattle.std.proofs.Common.{◌≡◌, ℕ, ◌+◌, ◌*◌, List, length, take, get_or, refl, ap, sym, ◌∙◌, arith, subst}
 use Rattle.shop_lanes.specs.Eights.{added}
 use Rattle.shop_lanes.specs.Folds.{greatest_before, maxima_behind, sums_before}
 use Rattle.shop_lanes.proofs.Maxima.{greatest_before-get, maxima_behind-get}

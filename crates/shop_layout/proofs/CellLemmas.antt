@@ -4,8 +4,7 @@ use Rattle.std.proofs.Common.{length, get_or, sym, ◌∙◌, ap, subst, arith}
 use Rattle.std.specs.Int.{div_ceil}
 use Rattle.std.proofs.lemmas.Bool.{cases_eq}
 use Rattle.std.proofs.lemmas.Grind.{div_ceil_times}
-use Rattle.std.proofs.lemmas.List.{get_or_append_left, get_or_default, get_or_past}
-use Rattle.std.proofs.lemmas.List.{length-append}
+use Rattle.std.proofs.lemmas.List.{get_or_append_left, get_or_default, get_or_past, length-append}
 use Rattle.std.proofs.Math.Seq.{get_or-append_seam}
 use Rattle.shop_lanes.specs.Rows.{place_at_rank}
 use Rattle.shop_lanes.proofs.Columns.{place_fits, rank_of_place}

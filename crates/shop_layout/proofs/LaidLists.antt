@@ -10,8 +10,7 @@ use Rattle.shop_layout.specs.declared.slots.Slot.{Slot}
 use Rattle.shop_layout.specs.Slots.{AreMachineSlots, AreSlotsOf}
 use Rattle.shop_layout.specs.inner.Layings.{AreCells, AreNoted, ArePlaces, AreShorter, HasRoutes}
 use Rattle.shop_layout.specs.inner.Layings.{IsInRows, no_slot, place_after}
-use Rattle.shop_layout.specs.Positions.{AreMachinesOf, place_in, place_or, IsLaidOut, LayoutState}
-use Rattle.shop_layout.specs.Positions.{position_at_rank}
+use Rattle.shop_layout.specs.Positions.{AreMachinesOf, place_in, place_or, IsLaidOut, LayoutState, position_at_rank}
 use Rattle.shop_layout.proofs.ApartSlots.{slots_few}
 use Rattle.shop_layout.proofs.Ranks.{rank_at}
 use Rattle.shop_layout.proofs.SlotFacts.{slots_are_operations}

@@ -6,8 +6,7 @@ use Rattle.std.proofs.lemmas.Bool.{cases_eq}
 use Rattle.std.proofs.lemmas.List.{take_more}
 use Rattle.std.proofs.lemmas.List.Sums.{sum_by_push, sum_by-take-le}
 use Rattle.shop_model.specs.declared.ops.Op.{Op}
-use Rattle.shop_model.specs.Shop.{Shop, no_op, route_of, release_of, machine_of, time_of}
-use Rattle.shop_model.specs.Shop.{IsOperation}
+use Rattle.shop_model.specs.Shop.{Shop, no_op, route_of, release_of, machine_of, time_of, IsOperation}
 use Rattle.shop_model.specs.Word.{Placing, IsWord, placing, place_next}
 use Rattle.shop_model.proofs.Ends.{IsOperation-job}
 use Rattle.shop_model.proofs.Greatest.{le-greatest_below}

@@ -5,8 +5,7 @@ use Rattle.std.specs.List.{AllByRecursion, All, Contains, filter, flat_map, rang
 use Rattle.std.proofs.lemmas.Bool.{cases_Bool, eq-eqb, eqb-true}
 use Rattle.std.proofs.lemmas.List.{length-map, get_or-map}
 use Rattle.std.proofs.lemmas.List.FromFn.{get_or-range_with_len, length-range_with_len}
-use Rattle.std.proofs.lemmas.List.Elements.{All-from_recursion, Contains-append_left}
-use Rattle.std.proofs.lemmas.List.Elements.{Contains-append_right}
+use Rattle.std.proofs.lemmas.List.Elements.{All-from_recursion, Contains-append_left, Contains-append_right}
 use Rattle.std.proofs.lemmas.List.Sorted.{All-permutation, Contains-permutation}
 use Rattle.shop_model.specs.Shop.{Shop, route_of, machine_of, IsOperation}
 use Rattle.shop_layout.specs.declared.slots.Slot.{Slot}

@@ -1,6 +1,5 @@
 -- How long a word of an instance may be, and how late what it places may end.
-use Rattle.std.proofs.Common.{◌≡◌, ℕ, zero, suc, ◌+◌, ◌*◌, ◌≤◌, ◌<◌, inl, inr, List, [], ◌∷◌, length, refl}
-use Rattle.std.proofs.Common.{sym, arith}
+use Rattle.std.proofs.Common.{◌≡◌, ℕ, zero, suc, ◌+◌, ◌*◌, ◌≤◌, ◌<◌, inl, inr, List, [], ◌∷◌, length, refl, sym, arith}
 use Rattle.std.specs.List.{AllByRecursion}
 use Rattle.std.proofs.lemmas.Bool.{cases_eq}
 use Rattle.std.proofs.lemmas.List.{length_push}
@@ -58,12 +57,7 @@ word_length shop w limits word =
 
 -- a word of an instance can share its jobs
 pub word_shared : (shop : Shop) (w : List ℕ) → IsWithinLimits shop → IsWord shop w → CanBeShared w
-word_shared shop w limits word =
-    let most = limits.jobs
-    in record {
-      jobs = All-weaker (λ j. j < length shop.jobs) (λ j. j < 1000) (λ j below. omega arith) w (word_jobs shop w word);
-      length = word_length shop w limits word;
-    }
+word_shared shop w limits word = grind (arith, word_jobs, word_length)
 
 -- no job and no machine is ready later than b
 pub record IsReadyBy (p : Placing) (b : ℕ) : Type 0 where

@@ -1,5 +1,4 @@
-use Rattle.std.proofs.Common.{◌≡◌, ◌∙◌, ℕ, ◌+◌, ◌-◌, ◌≤◌, ◌<◌, List, get_or, length, map, refl, ap}
-use Rattle.std.proofs.Common.{sym, subst, arith}
+use Rattle.std.proofs.Common.{◌≡◌, ◌∙◌, ℕ, ◌+◌, ◌-◌, ◌≤◌, ◌<◌, List, get_or, length, map, refl, ap, sym, subst, arith}
 use Rattle.std.specs.List.{All}
 use Rattle.std.specs.Prelude.{Vec}
 use Rattle.std.specs.declared.alloc.Global.{Global}
@@ -11,8 +10,7 @@ use Rattle.shop_layout.specs.Ranks.{AreRanks, ranked}
 use Rattle.shop_layout.specs.Slots.{AreMachineSlots}
 use Rattle.shop_layout.specs.inner.Layings.{AreCells, ArePlaces, AreShorter, place_after}
 use Rattle.shop_layout.specs.Positions.{AreMachinesOf}
-use Rattle.shop_layout.proofs.LaidLists.{blocks_few, blocks_rise, cells_known, laid_out}
-use Rattle.shop_layout.proofs.LaidLists.{machine_few}
+use Rattle.shop_layout.proofs.LaidLists.{blocks_few, blocks_rise, cells_known, laid_out, machine_few}
 use Rattle.shop_layout.proofs.RankedShops.{jobs_ranked, limits_ranked}
 use Rattle.shop_layout.proofs.RankedSlots.{places_ranked}
 use Rattle.shop_layout.proofs.positions.Positions.of.Goals as goal
