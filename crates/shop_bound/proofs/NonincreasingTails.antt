@@ -52,10 +52,7 @@ only_heads head tail us h = ap (λ (ys : List Triple). sum_by (λ t. t.time) ys)
   same : (us : List Triple) → AllByRecursion (λ y. tail ≤ y.tail) us
       → filter (is_above head tail) us ≡ filter (begins_from head) us
   same [] h = refl
-  same (u ∷ us) h = elim (cases_Bool (leb head u.head)) [
-    | inl e ↦ rw (e, le-leb tail u.tail h.0, same us h.1) refl
-    | inr e ↦ rw (e, same us h.1) refl
-  ]
+  same (u ∷ us) h = grind (arith, cases_Bool, le-leb, same us h.1)
 
 -- what is done up to an operation, and its tail, follow no earlier than the bound says
 pub within_in : (us : List Triple) (x : Triple) (vs : List Triple) (head : ℕ)

@@ -54,13 +54,7 @@ mask-pair p b xs le = grind (arith, length-map, length-pair, pair_split, map-app
 pub mask_back : (p : ℕ → Bool) (n : ℕ) (xs : List ℕ) → 0 < n → 16 * n ≤ length xs → (pair rest : ℕ)
     → pair ≡ mask_l (map p (take 16 (drop (16 * (n - 1)) xs))) → rest ≡ mask_l (map p (drop (16 * n) xs))
     → pair + 65536 * rest ≡ mask_l (map p (drop (16 * (n - 1)) xs))
-mask_back p n xs some le pair rest e f =
-    let back : n - 1 + 1 ≡ n = omega arith
-    in let fits : 16 * (n - 1 + 1) ≤ length xs = omega arith
-    in ap (λ m. m + 65536 * rest) e
-    ∙ ap (λ m. mask_l (map p (take 16 (drop (16 * (n - 1)) xs))) + 65536 * m)
-    (f ∙ ap (λ k. mask_l (map p (drop (16 * k) xs))) (sym back))
-    ∙ mask-pair p (n - 1) xs fits
+mask_back p n xs some le pair rest e f = grind (arith, mask-pair)
 
 -- behind all pairs stands nothing, or one block
 pub no_odd : (p : ℕ → Bool) (n : ℕ) (xs : List ℕ) → length xs ≤ n → 0 ≡ mask_l (map p (drop n xs))
@@ -90,18 +84,12 @@ pub least_more : (top b : ℕ) (xs least next : List ℕ) (all : ℕ) → 8 * (b
     → next ≡ zip2 min least (take 8 (drop (8 * b) xs))
     → min (least_up_to top least) (least_up_to top (drop (8 * b) xs)) ≡ all
     → min (least_up_to top next) (least_up_to top (drop (8 * (b + 1)) xs)) ≡ all
-least_more top b xs least next all le eight is so_far = grind (
-  arith,
-  length-block,
-  least-lesser,
-  drop_split,
-  least-append,
-)
+least_more top b xs least next all le eight is so_far =
+    grind (arith, length-block, least-lesser, drop_split, least-append)
 
 pub length-lesser : (b : ℕ) (xs least next : List ℕ) → 8 * (b + 1) ≤ length xs → length least ≡ 8
     → next ≡ zip2 min least (take 8 (drop (8 * b) xs)) → length next ≡ 8
-length-lesser b xs least next le eight is =
-    ap length is ∙ length-zip2 min least (take 8 (drop (8 * b) xs)) (eight ∙ sym (length-block b xs le)) ∙ eight
+length-lesser b xs least next le eight is = grind (arith, length-zip2, length-block)
 
 pub least_ends : (top b : ℕ) (xs least : List ℕ) → length xs ≤ 8 * b
     → min (least_up_to top least) (least_up_to top (drop (8 * b) xs)) ≡ least_up_to top xs
@@ -214,22 +202,7 @@ least_reached top x (y ∷ xs) small =
 pub first_of_least : (top : ℕ) (xs : List ℕ) (least i : ℕ) → 0 < length xs → ((k : ℕ) → get_or xs k 0 ≤ top)
     → least ≡ least_up_to top xs → IsFirstOf xs least i → IsFirstLeast xs i
 first_of_least top [] least i some small is h = absurd (omega arith)
-first_of_least top (x ∷ xs) least i some small is h =
-    let r = least_reached top x xs small
-    in let within : i < length (x ∷ xs) =
-    elim (cases_lt i (length (x ∷ xs))) [
-      | inl lt ↦ lt
-      | inr past ↦ absurd (h.first r.0 (let a = r.1 in omega arith) (r.2 ∙ sym is))
-    ]
-    in let here = h.found within
-    in record {
-      within = within;
-      least = λ k lt. let a = least_le top (x ∷ xs) k lt in omega arith;
-      first = λ k lt.
-          let a = least_le top (x ∷ xs) k (omega arith)
-          in let b = h.first k lt
-          in omega arith;
-    }
+first_of_least top (x ∷ xs) least i some small is h = grind (arith, least_reached, cases_lt, least_le)
 
 -- of the bits of those that are the least, the lowest
 pub least_by_mask : (top : ℕ) (xs : List ℕ) (least bits : ℕ) → 0 < length xs → length xs ≤ 64

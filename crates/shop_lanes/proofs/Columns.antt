@@ -34,16 +34,7 @@ pub place_of_rank_of : (count p : ℕ) → p < 8 * count → place_at_rank count
 place_of_rank_of count p lt = place_of_rank count (p % 8) (p / 8) (omega arith) ∙ omega arith
 
 pub rank_of_place : (count i : ℕ) → i < 8 * count → rank_of count (place_at_rank count i) ≡ i
-rank_of_place count i lt =
-    let parts = rank_parts count i lt
-    in let lane : (8 * (i % count) + i / count) % 8 ≡ i / count = omega (arith, parts.1)
-    in let block : (8 * (i % count) + i / count) / 8 ≡ i % count = omega (arith, parts.1)
-    in ap (λ n. n * count + (8 * (i % count) + i / count) / 8) lane
-    ∙ ap (λ n. i / count * count + n) block
-    ∙ whole (i / count) (div-add-mod i count)
-  where
-    whole : (q : ℕ) → count * q + i % count ≡ i → q * count + i % count ≡ i
-    whole q e = omega (arith, e)
+rank_of_place count i lt = grind (arith, rank_parts, div-add-mod)
 
 pub rank_of_parts : (count k j : ℕ) → k < 8 → rank_of count (8 * j + k) ≡ k * count + j
 rank_of_parts count k j lt = grind arith
@@ -55,12 +46,7 @@ module _ {A : Type 0} where
   module _ (count : ℕ) (xs : List A) (whole : length xs ≡ 8 * count) where
     length-ranks : (n : ℕ) → n ≤ 8 * count → length (first_ranks count xs n) ≡ n
     length-ranks zero le = refl
-    length-ranks (suc n) le =
-        let place = place_fits count n (omega arith)
-        in let rest = length-ranks n (omega arith)
-        in let both = length-append (first_ranks count xs n) (take 1 (drop (place_at_rank count n) xs))
-        in let one = one_long (place_at_rank count n) xs (omega (arith, place, whole))
-        in omega (arith, rest, both, one)
+    length-ranks (suc n) le = grind (arith, place_fits, length-append, one_long, whole, length-ranks n (omega arith))
 
     ranks-at : (n : ℕ) → n ≤ 8 * count → (i : ℕ) (d : A) → i < n
         → get_or (first_ranks count xs n) i d ≡ get_or xs (place_at_rank count i) d
@@ -94,10 +80,7 @@ module _ {A : Type 0} where
     by_columns-of p d lt = grind (arith, by_columns-at, rank_fits, place_of_rank_of)
 
     pub All-by_columns : (P : A → Type 0) → All P xs → All P (by_columns count xs)
-    All-by_columns P each i d lt =
-        let inside : i < 8 * count = omega (arith, length-by_columns)
-        in subst P (sym (by_columns-at i d inside))
-        (each (place_at_rank count i) d (let fits = place_fits count i inside in omega (arith, fits, whole)))
+    All-by_columns P each i d lt = grind (arith, length-by_columns, by_columns-at, place_fits, whole)
 
     pub All-by_places : (P : A → Type 0) → All P (by_columns count xs) → All P xs
     All-by_places P each p d lt =
@@ -108,16 +91,8 @@ module _ {A : Type 0} where
 pub lanes-by_columns : (count : ℕ) (hs ts qs : List ℕ) → length hs ≡ 8 * count → length ts ≡ length hs
     → length qs ≡ length hs
     → lanes (by_columns count hs) (by_columns count ts) (by_columns count qs) ≡ by_columns count (lanes hs ts qs)
-lanes-by_columns count hs ts qs whole a b = grind (
-  arith,
-  length-by_columns,
-  whole,
-  length-lanes,
-  same_lists,
-  place_fits,
-  get_or-lanes,
-  by_columns-at,
-)
+lanes-by_columns count hs ts qs whole a b =
+    grind (arith, length-by_columns, length-lanes, same_lists, place_fits, get_or-lanes, by_columns-at)
 
 -- a number replaced at a place is replaced at its rank
 pub by_columns-set : (count : ℕ) (xs : List ℕ) → length xs ≡ 8 * count → (p x : ℕ) → p < 8 * count
@@ -150,10 +125,4 @@ by_columns-set count xs whole p x lt =
     ])
   where
     same_or_not : (i r : ℕ) → (i ≡ r) ⊎ (i ≢ r)
-    same_or_not i r = elim (cases_lt i r) [
-      | inl less ↦ inr (λ e. omega (arith, e))
-      | inr le ↦ elim (cases_lt r i) [
-        | inl more ↦ inr (λ e. omega (arith, e))
-        | inr back ↦ inl (omega arith)
-      ]
-    ]
+    same_or_not i r = grind (arith, cases_lt)

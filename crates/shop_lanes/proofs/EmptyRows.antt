@@ -16,13 +16,10 @@ row_begun xs n y = sym (append-nil xs) ∙ ap (λ k. xs ++ replicate k y) {x = 0
 
 pub row_more : (xs : List ℕ) (n i y : ℕ) → n ≤ i
     → (xs ++ replicate (i - n) y) ++ y ∷ [] ≡ xs ++ replicate (i + 1 - n) y
-row_more xs n i y le = append_assoc xs (replicate (i - n) y) (y ∷ [])
-    ∙ ap (λ l. xs ++ l) (replicate_more (i - n) y
-    ∙ ap (λ k. replicate k y) {x = i - n + 1} {y = i + 1 - n} (omega arith))
+row_more xs n i y le = grind (arith, append_assoc, replicate_more)
 
 row_long : (n m x y : ℕ) → length (replicate n x ++ replicate m y) ≡ n + m
-row_long n m x y = length-append (replicate n x) (replicate m y)
-    ∙ (ap (λ k. k + length (replicate m y)) (length-replicate n x) ∙ ap (λ k. n + k) (length-replicate m y))
+row_long n m x y = grind (arith, length-append, length-replicate)
 
 first_behind : (n m x y : ℕ) → 0 < m → get_or (replicate n x ++ replicate m y) n 0 ≡ y
 first_behind zero m x y some = get_or-replicate m 0 y 0 some
@@ -66,7 +63,4 @@ module _ {A : Type 0} (f : A → ℕ) (none positions jobs : ℕ) where
   pub is_cleared : (n lent : ℕ) (made rest : List A) → lent ≡ positions + 8 + 8 * (jobs / 8 + 1) → n ≡ lent
       → map f made ≡ replicate positions 0 ++ replicate (lent - positions) none
       → map f (take n (made ++ rest)) ≡ numbers
-  is_cleared n lent made rest long same is =
-      row_written f n numbers made rest
-      (is ∙ ap (λ k. replicate positions 0 ++ replicate k none) {x = lent - positions} {y = behind} (omega arith))
-      (row_long positions behind 0 none ∙ omega arith)
+  is_cleared n lent made rest long same is = grind (arith, row_written, behind, row_long)

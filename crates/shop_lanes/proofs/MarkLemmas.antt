@@ -42,23 +42,8 @@ pub set_bits-mask : (p : ℕ → Bool) (n at : ℕ) (xs : List ℕ) → length x
     → set_bits n at (mask_l (map p xs)) ≡ marked p at xs
 set_bits-mask p n at [] le = set_bits-zero n at
 set_bits-mask p zero at (x ∷ xs) le = absurd (omega arith)
-set_bits-mask p (suc n) at (x ∷ xs) le = by_test (set_bits-mask p n (at + 1) xs (omega arith)) (p x) refl
-  where
-    by_test : set_bits n (at + 1) (mask_l (map p xs)) ≡ marked p (at + 1) xs → (b : Bool) → p x ≡ b
-        → set_bits (suc n) at (mask_l (map p (x ∷ xs))) ≡ marked p at (x ∷ xs)
-    by_test rest true e =
-        let m = mask_l (map p xs)
-        in let h : mask_l (map p (x ∷ xs)) ≡ 1 + 2 * m = rw e refl
-        in let odd : (1 + 2 * m) % 2 ≡ 1 = omega arith
-        in let half : (1 + 2 * m) / 2 ≡ m = omega arith
-        in rw (h, e) (set_bits-odd n at (1 + 2 * m) odd ∙ ap (λ b. at ∷ set_bits n (at + 1) b) half
-        ∙ ap (λ l. at ∷ l) rest)
-    by_test rest false e =
-        let m = mask_l (map p xs)
-        in let h : mask_l (map p (x ∷ xs)) ≡ 0 + 2 * m = rw e refl
-        in let odd : (0 + 2 * m) % 2 ≡ 0 = omega arith
-        in let half : (0 + 2 * m) / 2 ≡ m = omega arith
-        in rw (h, e) (set_bits-even n at (0 + 2 * m) odd ∙ ap (λ b. set_bits n (at + 1) b) half ∙ rest)
+set_bits-mask p (suc n) at (x ∷ xs) le =
+    grind (arith, set_bits-odd, set_bits-even, set_bits-mask p n (at + 1) xs (omega arith))
 
 pub odd_lowest : (k m : ℕ) → m % 2 ≡ 1 → count_trailing_zeros (suc k) m ≡ 0
 unfolding count_trailing_zeros
@@ -100,16 +85,7 @@ set_bits-lowest (suc n) at m some small =
 
 -- no position is left exactly where no bit is
 pub no_bits : (n at m : ℕ) → m < 2 ^ n → set_bits n at m ≡ [] → m ≡ 0
-no_bits n at m small e =
-    elim (cases_eq m 0) [
-      | inl z ↦ z
-      | inr some ↦ absurd
-          (let h : set_bits n at m ≡ (at + count_trailing_zeros n m) ∷ set_bits n at (bit_and m (m - 1)) =
-          set_bits-lowest n at m (omega arith) small in nil_cons (sym e ∙ h))
-    ]
-  where
-    nil_cons : {x : ℕ} {xs : List ℕ} → [] ≡ x ∷ xs → ⊥
-    nil_cons h = cc
+no_bits n at m small e = grind (arith, cases_eq, set_bits-lowest)
 
 pub no_bits_exactly : (n at m : ℕ) (marks : List ℕ) → m < 2 ^ n → set_bits n at m ≡ marks
     → IsTrue (nat_eq m 0) ↔ (marks ≡ [])

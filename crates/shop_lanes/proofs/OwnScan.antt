@@ -15,10 +15,7 @@ module _ {count : ℕ} {hs ts qs : List ℕ} {all : List Lane} (cols : AreColumn
     {works begins : List ℕ} (works_are : works ≡ eight (work 1 cols)) (begins_told : begins ≡ sums_before 0 works)
   where
     pub first_clocks : begins ≡ eight (λ k. clock_after 1 0 (take (k * count + 0) all))
-    first_clocks =
-        begins_eight 1 cols works_are begins_told
-        ∙ eight_same (begin 1 cols) (λ k. clock_after 1 0 (take (k * count + 0) all))
-        (λ k lt. ap (λ n. clock_after 1 0 (take n all)) (omega arith))
+    first_clocks = grind (arith, begins_eight, eight_same, begin)
 
     pub last_clocks : {clocks : List ℕ} → clocks ≡ added begins works
         → clocks ≡ eight (λ k. clock_after 1 0 (take (k * count + count) all))

@@ -31,8 +31,7 @@ op_within : (machines : ℕ) (route : List Op) → 1 ≤ machines → IsRouteWit
 op_within machines route some h k = grind (arith, cases_lt, route, get_or_past)
 
 no_job_within : (machines : ℕ) → 1 ≤ machines → KeepsLimits machines no_job
-no_job_within machines some =
-    record { release = omega arith; route = omega arith; machine = λ k. omega arith; time = λ k. omega arith }
+no_job_within machines some = grind arith
 
 -- a row as long as there are machines, and a job
 row_within : (machines : ℕ) (row : Vec Op Global) → 1 ≤ machines → machines ≤ 100 → length row.items ≡ machines

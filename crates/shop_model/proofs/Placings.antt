@@ -24,29 +24,7 @@ next_start shop p j = max (p.ready j) (p.free (machine_of shop j (p.steps j)))
 
 pub place_next-is : (shop : Shop) (p : Placing) (j : ℕ) → IsNext shop p j (place_next shop p j)
 unfolding next_start
-place_next-is shop p j =
-    let k = p.steps j
-    in let start = next_start shop p j
-    in let here : (place_next shop p j).begins j k ≡ start =
-    (let e : (place_next shop p j).begins j k ≡ with_value (p.begins j) k start k =
-    ap (λ (f : ℕ → ℕ). f k) (with_value-same p.begins j (with_value (p.begins j) k start) j refl)
-    in e ∙ with_value-same (p.begins j) k start k refl)
-    in let end = ap (λ n. n + time_of shop j k) (sym here)
-    in record {
-      steps_here = with_value-same p.steps j (k + 1) j refl;
-      steps_other = λ i ne. with_value-other p.steps j (k + 1) i ne;
-      begins_here = here;
-      begins_old = λ i l h. elim (cases_eq i j) [
-        | inl e ↦ (let d : l ≡ k → ⊥ = (λ f. let g : p.steps i ≡ k = ap p.steps e in absurd (omega arith))
-            in ap (λ (f : ℕ → ℕ). f l) (with_value-same p.begins j (with_value (p.begins j) k start) i e)
-            ∙ (with_value-other (p.begins j) k start l d ∙ ap (λ n. p.begins n l) (sym e)))
-        | inr ne ↦ ap (λ (f : ℕ → ℕ). f l) (with_value-other p.begins j (with_value (p.begins j) k start) i ne)
-      ];
-      ready_here = with_value-same p.ready j (start + time_of shop j k) j refl ∙ end;
-      ready_other = λ i ne. with_value-other p.ready j (start + time_of shop j k) i ne;
-      free_here = λ m e. with_value-same p.free (machine_of shop j k) (start + time_of shop j k) m e ∙ end;
-      free_other = λ m ne. with_value-other p.free (machine_of shop j k) (start + time_of shop j k) m ne;
-    }
+place_next-is shop p j = grind arith
 
 -- a placing that keeps releases, routes and machines among what it has placed
 pub record IsSound (shop : Shop) (p : Placing) : Type 0 where

@@ -66,17 +66,7 @@ pub next_operation : (shop : Shop) (w : List ℕ) (j : ℕ) → IsWord shop (w +
 next_operation shop w j h = let a = h j in let b = count_of-snoc_same w j j refl in omega arith
 
 after_none : (shop : Shop) → AfterWord shop [] (placing shop [])
-after_none shop = record {
-  steps = λ i. refl;
-  sound = record {
-    operations = λ i l h. absurd (omega arith);
-    in_time = λ i l h. absurd (omega arith);
-    ready = λ i. omega arith;
-    free = λ i l h. absurd (omega arith);
-    apart = λ i l h. absurd (omega arith);
-  };
-  ordered = λ v j later e i l c h. absurd (omega arith);
-}
+after_none shop = grind arith
 
 module _ (shop : Shop) (w : List ℕ) (j : ℕ) (p q : Placing) (n : IsNext shop p j q) where
   after_next : AfterWord shop w p → IsWord shop (w ++ j ∷ []) → AfterWord shop (w ++ j ∷ []) q

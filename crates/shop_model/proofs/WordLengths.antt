@@ -27,8 +27,7 @@ sum_below_none f (suc n) h = let a = sum_below_none f n h in let b = h n in omeg
 
 sum_below_same : (f g : ℕ → ℕ) (n : ℕ) → ((i : ℕ) → i < n → g i ≡ f i) → sum_below n g ≡ sum_below n f
 sum_below_same f g zero h = refl
-sum_below_same f g (suc n) h = let a = sum_below_same f g n (λ i below. h i (omega arith)) in let b = h n (omega arith)
-    in omega arith
+sum_below_same f g (suc n) h = grind (arith, sum_below_same f g n (λ i below. h i (omega arith)), h n (omega arith))
 
 sum_below_one_more : (f g : ℕ → ℕ) (x n : ℕ) → x < n → g x ≡ f x + 1 → ((i : ℕ) → (x ≡ i → ⊥) → g i ≡ f i)
     → sum_below n g ≡ sum_below n f + 1
@@ -66,21 +65,7 @@ pub record IsReadyBy (p : Placing) (b : ℕ) : Type 0 where
 
 ready_next : (shop : Shop) (p q : Placing) (j b : ℕ) → IsWithinLimits shop → IsNext shop p j q → IsReadyBy p b
     → IsReadyBy q (b + 1000000000)
-ready_next shop p q j b limits n r =
-    let time = limits.times j (p.steps j)
-    in let begins = n.begins_here
-    in let job = r.ready j
-    in let machine = r.free (machine_of shop j (p.steps j))
-    in record {
-      ready = λ i. elim (cases_eq i j) [
-        | inl e ↦ rw e (let a = n.ready_here in omega arith)
-        | inr ne ↦ (let a = n.ready_other i ne in let c = r.ready i in omega arith)
-      ];
-      free = λ m. elim (cases_eq m (machine_of shop j (p.steps j))) [
-        | inl e ↦ (let a = n.free_here m e in omega arith)
-        | inr ne ↦ (let a = n.free_other m ne in let c = r.free m in omega arith)
-      ];
-    }
+ready_next shop p q j b limits n r = grind arith
 
 -- each operation takes 10 ^ 9 at most
 pub ready_word : (shop : Shop) → IsWithinLimits shop → (w : List ℕ)

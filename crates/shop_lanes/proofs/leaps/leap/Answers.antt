@@ -5,8 +5,7 @@ use Rattle.shop_lanes.proofs.leaps.leap.Goals as goal
 
 pub overflow_add-upto : goal.overflow_add-upto
 overflow_add-upto g c =
-    let fits = load_fits c.loop-settled.invariant c.load_of-load.ensures g.B.Block.GREATEST c.requires.fits
-    in omega (arith, fits, c.GREATEST-greatest.ensures, c.GREATEST-greatest.type_inv)
+    grind (arith, load_fits c.loop-settled.invariant c.load_of-load.ensures g.B.Block.GREATEST c.requires.fits)
 
 pub overflow_add-head-in-loop-settled-2 : goal.overflow_add-head-in-loop-settled-2
 overflow_add-head-in-loop-settled-2 g c =

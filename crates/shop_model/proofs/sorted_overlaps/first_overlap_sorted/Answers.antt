@@ -21,10 +21,7 @@ returns-then-are_in_turn c =
     (parted_pairs sorted turns forward))
 
 pub keep_clear-requires : goal.keep_clear-requires
-keep_clear-requires c k d below =
-    let sorted = c.sort.new.self.items
-    in begins_from_sort (get_or sorted k d) (get_or sorted (k + 1) d)
-    (c.in_ok-sort.ensures.sorted k d (omega arith) below)
+keep_clear-requires c k d below = grind (arith, c.sort.new.self.items)
 
 pub first_unclear_overlap-requires-clause-apart : goal.first_unclear_overlap-requires-clause-apart
 first_unclear_overlap-requires-clause-apart c =
