@@ -10,9 +10,7 @@ use Rattle.shop_layout.proofs.layings.note_places.Goals as goal
 items_set : (now : List (Vec ℕ Global)) (j k x : ℕ) (d : Vec ℕ Global) → j < length now
     → map (λ v. v.items) (set now j (with_item (get_or now j d) k x))
     ≡ set (map (λ v. v.items) now) j (set (get_or (map (λ v. v.items) now) j []) k x)
-items_set now j k x d here = map-set (λ v. v.items) now j (with_item (get_or now j d) k x)
-    ∙ ap (λ (row : List ℕ). set (map (λ v. v.items) now) j (set row k x))
-    (sym (get_or-map (λ v. v.items) now j d [] here))
+items_set now j k x d here = grind (arith, map-set, get_or-map)
 
 pub loop-i-preserved : goal.loop-i-preserved
 loop-i-preserved c =

@@ -14,12 +14,10 @@ use Rattle.shop_layout.proofs.grid.Grid.of.Goals as goal
 -- the rows of a layout that is ready, as they were lent
 module _ {greatest : ℕ} {l : LayoutState} (ready : (shop : Shop) × IsReady greatest shop l) where
   lent_times : {times : List ℕ} → times ≡ l.times → All (λ t. t ≤ greatest) times
-  lent_times e =
-      subst (All (λ t. t ≤ greatest)) (sym e) (times_fit greatest ready.0 ready.1.limits l ready.1.laid ready.1.holds)
+  lent_times e = grind (arith, times_fit greatest ready.0 ready.1.limits l ready.1.laid ready.1.holds)
 
   lent_tails : {tails : List ℕ} → tails ≡ l.tails → All (λ t. t ≤ greatest) tails
-  lent_tails e =
-      subst (All (λ t. t ≤ greatest)) (sym e) (tails_fit greatest ready.0 ready.1.limits l ready.1.laid ready.1.holds)
+  lent_tails e = grind (arith, tails_fit greatest ready.0 ready.1.limits l ready.1.laid ready.1.holds)
 
   lent_machines : {machines : List ℕ} {rows : List (List ℕ)} → machines ≡ l.machines → rows ≡ l.places
       → All (AreBelow (length machines)) rows
@@ -39,9 +37,7 @@ made : {l : LayoutState} {machines times jobs steps lent firsts behind : List �
     → jobs ≡ l.jobs → steps ≡ l.steps → lent ≡ firsts → length legs < 2 ^ 64
     → legs ≡ flat_map (route_legs machines times end) rows → AreFirsts (route_legs machines times end) rows firsts
     → AreBehind jobs steps lent behind → (legs ≡ all_legs l) × IsBehind l behind
-made {l} {legs = legs} m t e r j s f few is begin are =
-    let whole : legs ≡ all_legs l = rw (m, t, e, r) at is
-    in (whole, behind_is l (rw (m, t, e, r) at begin) (rw (j, s, f) at are) (rw (← whole) few))
+made {l} {legs = legs} m t e r j s f few is begin are = grind (arith, behind_is)
 
 pub fixed-requires-clause-fitting_times : goal.fixed-requires-clause-fitting_times
 fixed-requires-clause-fitting_times g c = lent_times c.requires.ready
