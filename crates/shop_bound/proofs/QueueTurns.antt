@@ -74,12 +74,6 @@ pub least_from : (c : Coming) (cs : List Coming)
 least_from c [] h = λ k d l. absurd (omega arith)
 least_from c (x ∷ xs) h = grind (arith, then_less, least_from c xs h.1)
 
-pub behind_from : (w : Waiting) (hs : List Waiting)
-    → AllByRecursion (λ h. is_lt (by_tail w h) ≡ false) hs
-    → All (IsBehind w) hs
-behind_from w [] h = λ k d l. absurd (omega arith)
-behind_from w (x ∷ xs) h = grind (arith, then_less, behind_from w xs h.1)
-
 -- how many of an operation that is done, and of one that isn't
 count_done : (w : Work) → w.done ≡ true → undone_of w ≡ 0
 count_done w d = rw d refl

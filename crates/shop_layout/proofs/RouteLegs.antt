@@ -118,6 +118,3 @@ module _ (shop : Shop) (limits : IsWithinLimits shop) (l : LayoutState) (laid : 
 
   pub jobs_below : AreBelow (length l.places) l.jobs
   jobs_below q d here = grind (arith, get_or_default)
-
-  pub as_many_steps : length l.steps ≡ length l.jobs
-  as_many_steps = laid.positions.steps ∙ sym laid.positions.jobs

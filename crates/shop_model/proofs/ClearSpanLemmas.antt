@@ -121,13 +121,6 @@ apart_from_clear shop rows xs ys all clear j k n d op below is i l other before 
     (of_operations shop rows (AreClearPair xs) all j k i l op other before).0
     (subst (λ (a : Occupied). IsClearOf xs a) is (clear n d below))
 
--- what a sort's order says of machines and starts
-pub begins_from_sort : (a b : Occupied)
-    → is_lt (ordering_then (nat_cmp b.machine a.machine)
-    (ordering_then (nat_cmp b.start a.start) (nat_cmp b.finish a.finish))) ≡ false
-    → BeginsNotAfter a b
-begins_from_sort a b e = grind (arith, nat_tests)
-
 -- spans that no comparison tells apart are one
 abbrev pub span_cmp : Occupied → Occupied → Ordering
 span_cmp a b = ordering_then (nat_cmp a.machine b.machine)

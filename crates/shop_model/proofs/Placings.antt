@@ -6,7 +6,6 @@ use Rattle.shop_model.specs.Shop.{Shop, Starts, machine_of, time_of, IsOperation
 use Rattle.shop_model.proofs.Ends.{AreDifferent, le-end_of, end_of-le, feasible-in_time, feasible_from}
 use Rattle.shop_model.specs.Word.{Placing, place_next, with_value}
 use Rattle.shop_model.specs.Checking.{earliest_of, NoneEarly}
-use Rattle.shop_model.proofs.WordLemmas.{with_value-same, with_value-other}
 
 -- one more step of job j is placed
 pub record IsNext (shop : Shop) (p : Placing) (j : ℕ) (q : Placing) : Type 0 where

@@ -5,7 +5,6 @@ use Rattle.shop_model.specs.inner.ClearSpans.{ArePartedSpans}
 use Rattle.shop_model.proofs.SwappedPairs.{AllPairs-permutation}
 use Rattle.shop_model.proofs.SpanLemmas.{IsForward, parted_both_ways, parted_pairs, apart_from_pairs, spans_forward}
 use Rattle.shop_model.proofs.ClearSpanLemmas.{AreClearPair, clear_both_ways, clear_pairs, apart_from_clear}
-use Rattle.shop_model.proofs.ClearSpanLemmas.{begins_from_sort}
 use Rattle.shop_model.proofs.sorted_overlaps.first_overlap_sorted.Goals as goal
 
 pub returns-then-are_in_turn : goal.returns-then-are_in_turn

@@ -8,7 +8,7 @@ use Rattle.shop_layout.specs.declared.legs.Leg.{Leg}
 use Rattle.shop_layout.specs.inner.RouteRows.{AreBehind, AreBelow, AreFirsts, IsBehind}
 use Rattle.shop_layout.specs.inner.Vectors.{items_in}
 use Rattle.shop_layout.proofs.LaneLimits.{tails_fit, times_fit}
-use Rattle.shop_layout.proofs.RouteLegs.{as_many_steps, behind_is, jobs_below, machines_below, times_below}
+use Rattle.shop_layout.proofs.RouteLegs.{behind_is, jobs_below, machines_below, times_below}
 use Rattle.shop_layout.proofs.grid.Grid.of.Goals as goal
 
 -- the rows of a layout that is ready, as they were lent
