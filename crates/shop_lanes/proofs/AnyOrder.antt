@@ -68,13 +68,10 @@ module _ {A : Type 0} (f : A → ℕ) (rows : LaneRows A) (whole : length rows.h
   raw_whole : length raw ≡ 8 * (length rows.heads.now / 8)
   raw_whole = raw_long ∙ omega (arith, whole)
 
-  least_in : (top from : ℕ) → least_later top from (map f rows.heads.now) ≡ least_head top from (lanes_in f rows)
-  least_in top from = grind (arith, least_head_is, as_long, least-by_columns, raw_whole)
-
   pub nearest_in : (top from ahead : ℕ) → from ≤ top
       → ahead ≡ least_up_to top (map (ahead_of top from) (map f rows.heads.now))
       → min (from + ahead) top ≡ least_head top from (lanes_in f rows)
-  nearest_in top from ahead le is = grind (arith, nearest_is_least, least_in)
+  nearest_in top from ahead le is = grind (arith, nearest_is_least, least_head_is, as_long, least-by_columns, raw_whole)
 
   -- where it isn't past some number below the greatest one, the nearest head ahead is the least
   pub next_head : (top from ahead upto : ℕ) → upto < top

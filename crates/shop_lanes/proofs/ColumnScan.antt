@@ -40,9 +40,7 @@ module _ (least : ℕ) {count : ℕ} {hs ts qs : List ℕ} {all : List Lane} (co
 
   from_here : (k : ℕ) → drop (k * count) all ≡ column count all k ++ drop (suc k * count) all
   from_here k =
-      sym (take-append-drop count (drop (k * count) all))
-      ∙ ap (λ l. column count all k ++ l)
-      (drop-drop count (k * count) all ∙ ap (λ n. drop n all) (sym (next_column k count)))
+      grind (arith, take-append-drop count (drop (k * count) all), drop-drop count (k * count) all, next_column k count)
 
   pub begin_next : (k : ℕ) → begin (suc k) ≡ begin k + work k
   begin_next k = grind (arith, up_to_next, work-append)
@@ -54,10 +52,6 @@ module _ (least : ℕ) {count : ℕ} {hs ts qs : List ℕ} {all : List Lane} (co
   behind_here : (k : ℕ) → span least 0 (drop (k * count) all)
       ≡ max (load k) (work k + span least 0 (drop (suc k * count) all))
   behind_here k = ap (span least 0) (from_here k) ∙ load-append least (column count all k) (drop (suc k * count) all)
-
-  work_here : (k : ℕ) → clock_after least 0 (drop (k * count) all)
-      ≡ work k + clock_after least 0 (drop (suc k * count) all)
-  work_here k = grind (arith, from_here, work-append)
 
   none_left : (k : ℕ) → k + 0 ≡ 8 → drop (k * count) all ≡ []
   none_left k e = grind (arith, drop_all)
@@ -77,7 +71,7 @@ module _ (least : ℕ) {count : ℕ} {hs ts qs : List ℕ} {all : List Lane} (co
 
   work_from : (n k : ℕ) → k + n ≡ 8 → sum_l (listed work k n) ≡ clock_after least 0 (drop (k * count) all)
   work_from zero k e = sym (ap (clock_after least 0) (none_left k e))
-  work_from (suc n) k e = grind (arith, work_from n (suc k) (omega (arith, e)), work_here)
+  work_from (suc n) k e = grind (arith, work_from n (suc k) (omega (arith, e)), from_here, work-append)
 
   first_begin : begin 0 ≡ 0
   first_begin = ap (λ n. clock_after least 0 (take n all)) (no_columns count)

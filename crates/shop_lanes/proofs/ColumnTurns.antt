@@ -65,11 +65,7 @@ columns_of count hs ts qs whole a b =
       tails_long = b ∙ whole;
       are = refl;
       long = length-by_columns count (lanes hs ts qs) long;
-      at = λ k j k_lt j_lt d.
-          let below = rank_below count k j k_lt j_lt
-          in by_columns-at count (lanes hs ts qs) long (k * count + j) d below
-          ∙ ap (λ p. get_or (lanes hs ts qs) p d) (place_of_rank count k j j_lt)
-          ∙ get_or-lanes hs ts qs (8 * j + k) d a b (omega (arith, k_lt, j_lt, whole));
+      at = λ k j k_lt j_lt d. grind (arith, rank_below, by_columns-at, place_of_rank, get_or-lanes);
     }
 
 -- of rows of some width
@@ -223,15 +219,4 @@ module _ {count : ℕ} {hs ts qs : List ℕ} {all : List Lane} (c : AreColumnsOf
         pub served_more : {later : List ℕ}
             → later ≡ zip2 max most (waiting (get_or leasts 0 0) heads (added after tails))
             → IsServedTo least part (j + 1) after later
-        served_more {later} later_is =
-            let on : suc j ≡ j + 1 = omega arith
-            in subst (λ n. IsServedTo least part n after later) on (record {
-              clocks_are = next_eight
-                  ∙ eight_same (λ k. work k j + added_by k j) (λ k. work k (suc j))
-                  (λ k lt. sym (work_next k j lt j_lt));
-              most_are = later_is
-                  ∙ ap (λ l. zip2 max l (waiting (get_or leasts 0 0) heads (added after tails))) so_far.most_are
-                  ∙ ap (zip2 max (eight (λ k. end k j))) late_eight
-                  ∙ eight_same (λ k. max (end k j) (late k j)) (λ k. end k (suc j))
-                  (λ k lt. sym (end_next k j lt j_lt));
-            })
+        served_more {later} later_is = grind (arith, next_eight, eight_same, work_next, late_eight, end_next)

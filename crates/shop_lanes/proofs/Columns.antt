@@ -11,11 +11,8 @@ use Rattle.shop_lanes.specs.Rows.{lanes, place_at_rank, first_ranks, by_columns}
 use Rattle.shop_lanes.specs.inner.OwnSpans.{rank_of}
 use Rattle.shop_lanes.proofs.LaneLists.{length-lanes, get_or-lanes}
 
-some_blocks : (count i : ℕ) → i < 8 * count → 0 < count
-some_blocks count i lt = omega arith
-
 pub rank_parts : (count i : ℕ) → i < 8 * count → (i % count < count) × (i / count < 8)
-rank_parts count i lt = grind (arith, some_blocks, mod-lt, div-lt_iff_lt-mul)
+rank_parts count i lt = grind (arith, mod-lt, div-lt_iff_lt-mul)
 
 pub place_fits : (count i : ℕ) → i < 8 * count → place_at_rank count i < 8 * count
 place_fits count i lt = let parts = rank_parts count i lt in omega (arith, parts.0, parts.1)
@@ -56,8 +53,7 @@ module _ {A : Type 0} where
         in let last = take 1 (drop (place_at_rank count n) xs)
         in let long = length-ranks n (omega arith)
         in elim (cases_lt i n) [
-          | inl before ↦ get_or_append_left front last d i (omega (arith, long, before))
-              ∙ ranks-at n (omega arith) i d before
+          | inl before ↦ grind (arith, get_or_append_left, ranks-at n (omega arith) i d before)
           | inr from ↦
               let here : i ≡ n = omega (arith, from)
               in get_or-append_right front last n i d long from
@@ -110,18 +106,8 @@ by_columns-set count xs whole p x lt =
     in let there = place_fits count i inside
     in by_columns-at count (set xs p x) written i d inside
     ∙ elim (same_or_not i r) [
-      | inl same ↦
-          let here : place_at_rank count i ≡ p = ap (place_at_rank count) same ∙ place_of_rank_of count p lt
-          in ap (λ k. get_or (set xs p x) k d) here
-          ∙ get_or-set_same xs p x d (omega (arith, whole, lt))
-          ∙ sym (get_or-set_same (by_columns count xs) r x d (omega (arith, ranked, r_lt)))
-          ∙ ap (λ k. get_or (set (by_columns count xs) r x) k d) (sym same)
-      | inr other ↦
-          let apart : place_at_rank count i ≢ p =
-          λ e. other (sym (rank_of_place count i inside) ∙ ap (rank_of count) e)
-          in get_or-set_other xs p (place_at_rank count i) x d apart
-          ∙ sym (by_columns-at count xs whole i d inside)
-          ∙ sym (get_or-set_other (by_columns count xs) r i x d other)
+      | inl same ↦ grind (arith, place_of_rank_of, get_or-set_same)
+      | inr other ↦ grind (arith, rank_of_place, get_or-set_other, by_columns-at)
     ])
   where
     same_or_not : (i r : ℕ) → (i ≡ r) ⊎ (i ≢ r)

@@ -54,8 +54,7 @@ module _ {A : Type 0} (f : A → ℕ) (none positions jobs : ℕ) where
         long = omega arith;
         behind = ap (λ l. get_or l positions 0) is ∙ first_behind positions behind 0 none (omega arith);
         padded = padding.0;
-        heads = sym (take-map f positions row)
-            ∙ (ap (take positions) is ∙ take_seen positions 0 (replicate behind none));
+        heads = grind (arith, take-map f positions row, take_seen positions 0 (replicate behind none));
         ends = padding.1;
       }
 

@@ -72,17 +72,10 @@ pub least_among : (top from above upto : ℕ) (all xs : List Lane) (head : ℕ) 
 least_among top from above upto all [] head e lt over under = absurd (omega arith)
 least_among top from above upto all (x ∷ xs) head e lt over under =
     elim (cases_lt (least_head top from xs) (later_head top from x.head)) [
-      | inl less ↦
-          let rest = least_among top from above upto all xs head (omega arith) lt over under in omega (arith, rest)
-      | inr le ↦
-          let is : head ≡ x.head = it_is x.head (omega arith)
-          in let on : (ltb above x.head && leb x.head upto) ≡ true = rw (sym is) (passes head over under)
-          in rw (on, is) (omega arith)
+      | inl less ↦ grind (arith, least_among top from above upto all xs head (omega arith) lt over under)
+      | inr le ↦ grind (arith, passes head over under, nat_tests)
     ]
   where
-    it_is : (h : ℕ) → head ≡ later_head top from h → head ≡ h
-    it_is h is = grind (arith, nat_tests)
-
     passes : (h : ℕ) → above < h → h ≤ upto → (ltb above h && leb h upto) ≡ true
     passes h a b = grind (arith, nat_tests)
 

@@ -12,9 +12,7 @@ span-later least s k [] = omega arith
 span-later least s k (x ∷ xs) = grind (arith, span-later least s (k + x.time) xs, span-later least s k xs)
 
 pub span_from_start : (least s : ℕ) (xs : List Lane) → max s (span least s xs) ≡ s + span least 0 xs
-span_from_start least s xs =
-    let e : s ≡ s + 0 = omega arith
-    in ap (λ n. max s (span least n xs)) e ∙ span-later least s 0 xs
+span_from_start least s xs = grind (arith, span-later least s 0 xs)
 
 pub clock-later : (least s : ℕ) (xs : List Lane) → clock_after least s xs ≡ s + clock_after least 0 xs
 clock-later least s [] = omega arith

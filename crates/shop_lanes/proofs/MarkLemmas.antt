@@ -21,8 +21,7 @@ half_and a b = same_from_bits (bit_and a b / 2) (bit_and (a / 2) (b / 2)) (λ i.
     ∙ sym (bit_at_and (a / 2) (b / 2) i))
 
 pub lowest_and : (a b : ℕ) → bit_and a b % 2 ≡ min (a % 2) (b % 2)
-lowest_and a b = sym (bit_at_lowest (bit_and a b)) ∙ bit_at_and a b 0
-    ∙ ap (λ x. min x (bit_at b 0)) (bit_at_lowest a) ∙ ap (λ x. min (a % 2) x) (bit_at_lowest b)
+lowest_and a b = grind (arith, bit_at_lowest (bit_and a b), bit_at_and a b 0, bit_at_lowest a, bit_at_lowest b)
 
 pub set_bits-zero : (n at : ℕ) → set_bits n at 0 ≡ []
 unfolding set_bits
@@ -84,9 +83,6 @@ set_bits-lowest (suc n) at m some small =
     odd_or_even k = elim (cases_eq (k % 2) 1) [ inl e ↦ inl e | inr e ↦ inr (omega arith) ]
 
 -- no position is left exactly where no bit is
-pub no_bits : (n at m : ℕ) → m < 2 ^ n → set_bits n at m ≡ [] → m ≡ 0
-no_bits n at m small e = grind (arith, cases_eq, set_bits-lowest)
-
 pub no_bits_exactly : (n at m : ℕ) (marks : List ℕ) → m < 2 ^ n → set_bits n at m ≡ marks
     → IsTrue (nat_eq m 0) ↔ (marks ≡ [])
-no_bits_exactly n at m marks small is = grind (arith, nat_tests, set_bits-zero, no_bits)
+no_bits_exactly n at m marks small is = grind (arith, nat_tests, set_bits-zero, cases_eq, set_bits-lowest)

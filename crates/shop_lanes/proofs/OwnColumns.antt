@@ -107,9 +107,6 @@ module _ (n : ℕ) (owns v new : List ℕ) (eight_long : length v ≡ 8) (room :
   pub stored_at : (j : ℕ) → j < 8 → get_or new (8 * n + j) 0 ≡ get_or v j 0
   stored_at j lt = grind (arith, get_or-put_chunk_at)
 
-  pub stored_behind : (k : ℕ) → 8 * (n + 1) ≤ k → get_or new k 0 ≡ get_or owns k 0
-  stored_behind k le = grind (arith, get_or-put_chunk_above)
-
 -- the way down as far as block j
 pub record IsNotedTo (count : ℕ) (all : List Lane) (j : ℕ) (clocks most owns : List ℕ) : Type 0 where
   pub long : length owns ≡ 8 * count
@@ -378,11 +375,9 @@ module _ {count : ℕ} {hs ts qs : List ℕ} {rows : List Lane} (cols : AreColum
                 within = omega (arith, j_lt);
                 long = stored_long j owns own new own_long room new_is ∙ so_far.long;
                 clocks_are = less_eight;
-                behind_long = ap length more_is ∙ length-zip2 max behind late (so_far.behind_long ∙ sym late_long)
-                    ∙ so_far.behind_long;
+                behind_long = grind (arith, length-zip2, so_far, late_long);
                 behind_are = behind_next;
-                noted = λ p lt. stored_before j owns own new own_long room new_is p lt
-                    ∙ so_far.noted p (omega (arith, lt));
+                noted = λ p lt. grind (arith, stored_before, own_long, so_far);
                 done = λ p from lt waits. elim (cases_lt p (8 * (j + 1))) [
                   | inl within ↦
                       let k : ℕ = p - 8 * j
@@ -398,8 +393,6 @@ module _ {count : ℕ} {hs ts qs : List ℕ} {rows : List Lane} (cols : AreColum
                       ∙ in_eight own_of k k_lt
                       ∙ own_here
                       ∙ ap (own_span_at count hs ts qs) is
-                  | inr past ↦
-                      stored_behind j owns own new own_long room new_is p past
-                      ∙ so_far.done p past lt waits
+                  | inr past ↦ grind (arith, own_long, so_far, get_or-put_chunk_above)
                 ];
               }

@@ -77,16 +77,12 @@ fit_numbers : (limit h t q C A R K Z : ℕ) (on : Bool) → K ≡ C + cond on t 
 fit_numbers limit h t q C A R K Z true ek ez f1 f2 f3 = (omega arith, omega arith)
 fit_numbers limit h t q C A R K Z false ek ez f1 f2 f3 = (omega arith, omega arith)
 
-own_numbers : (t C A R K Z : ℕ) → K ≡ C + t → max K Z ≡ K + R → C ≤ A → max A (Z - t) ≡ max A (C + R)
-own_numbers t C A R K Z ek ez le = omega arith
-
 module _ (hs ts qs : List ℕ) (a : length ts ≡ length hs) (b : length qs ≡ length hs) where
   abbrev all : List Lane
   all = lanes hs ts qs
 
   pub parted : (i : ℕ) → i < length hs → all ≡ take i all ++ (lane_at hs ts qs i ∷ drop (i + 1) all)
-  parted i lt =
-      sym (take-append-drop i all) ∙ ap (λ l. take i all ++ l) (lanes_more hs ts qs i a b lt)
+  parted i lt = grind (arith, take-append-drop i all, lanes_more hs ts qs i a b lt)
 
   pub work_more : (i : ℕ) → i < length hs
       → clock_after 1 0 (take (suc i) all)
@@ -141,4 +137,4 @@ module _ (hs ts qs : List ℕ) (a : length ts ≡ length hs) (b : length qs ≡ 
 
     pub own_at : 0 < get_or hs i 0
         → get_or hs i 0 + get_or ts i 0 + max before (behind - get_or ts i 0) ≡ own_in_order hs ts qs i
-    own_at waits = grind (arith, work_more, own_numbers, behind_here, work_le_load, own_is, nat_tests)
+    own_at waits = grind (arith, work_more, behind_here, work_le_load, own_is, nat_tests)

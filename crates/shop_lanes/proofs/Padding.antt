@@ -82,12 +82,9 @@ marked_alike p q same at [] = refl
 marked_alike p q same at (x ∷ xs) = grind (arith, marked_alike p q same (at + 1) xs)
 
 -- above 0 and at most one less than the limit
-below_is_between : (limit x : ℕ) → is_between 0 (limit - 1) x ≡ waits_below limit x
-below_is_between limit x = grind (arith, nat_tests)
-
 pub marks_below : (heads : List ℕ) (from to limit upto bits : ℕ) (marks : List ℕ) → 8 * to ≤ length heads
     → to ≤ from + 8 → upto ≡ limit - 1 → marks ≡ set_bits 64 (8 * from) bits
     → bits ≡ mask_l (map (is_between 0 upto) (blocks from to heads))
     → marks ≡ marked (waits_below limit) (8 * from) (blocks from to heads)
 marks_below heads from to limit upto bits marks room few below marks_are bits_are =
-    grind (arith, length-blocks, set_bits-mask, marked_alike, below_is_between)
+    grind (arith, length-blocks, set_bits-mask, marked_alike, nat_tests)

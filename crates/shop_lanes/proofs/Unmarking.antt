@@ -38,8 +38,7 @@ set_bits-without (suc n) at m c q same clear =
           in elim (odd_or_even m) [
             | inl odd ↦ set_bits-odd n at c (one ∙ odd) ∙ ap (λ ps. at ∷ ps) rest
                 ∙ sym (ap (without q) (set_bits-odd n at m odd) ∙ without-other q at _ ne)
-            | inr even ↦ set_bits-even n at c (one ∙ even) ∙ rest
-                ∙ sym (ap (without q) (set_bits-even n at m even))
+            | inr even ↦ grind (arith, set_bits-even n at c (one ∙ even), set_bits-even n at m even)
           ])
     ]
   where
