@@ -50,9 +50,7 @@ module _ (shop : Shop) (starts : Starts) (feasible : IsFeasible shop starts) whe
   -- the rest of a route fits between a start and the end
   rest_fits : (j k : ℕ) (o : Op) (os : List Op) → drop k (route_of shop j) ≡ o ∷ os
       → starts j k + o.time + sum_by (λ p. p.time) os ≤ end_of shop starts
-  rest_fits j k o [] e =
-      let f = front_of (route_of shop j) k o [] e in let a = le-end_of shop starts j k f.0
-      in let t : time_of shop j k ≡ o.time = ap (λ (p : Op). p.time) f.1 in omega arith
+  rest_fits j k o [] e = grind (arith, front_of, le-end_of)
   rest_fits j k o (p ∷ os) e =
       let f = front_of (route_of shop j) k o (p ∷ os) e
       in let g = front_of (route_of shop j) (k + 1) p os f.2
@@ -96,42 +94,26 @@ Earlier x y = (x.job < y.job) ⊎ ((x.job ≡ y.job) × (x.step < y.step))
 pub from_step : (free : ℕ → ℕ) (j k ready : ℕ) (os : List Op)
     → AllByRecursion (λ x. (x.job ≡ j) × (k ≤ x.step)) (waiting_from free j k ready os)
 from_step free j k ready [] = tt
-from_step free j k ready (o ∷ os) = (
-  (refl, omega arith),
-  all_map (λ x. (x.job ≡ j) × (k + 1 ≤ x.step)) (λ x. (x.job ≡ j) × (k ≤ x.step))
-      (λ x h. (h.0, omega arith)) _ (from_step free j (k + 1) (max ready (free o.machine) + o.time) os),
-)
+from_step free j k ready (o ∷ os) =
+    grind (arith, all_map, from_step free j (k + 1) (max ready (free o.machine) + o.time) os)
 
 waiting_from-rises : (free : ℕ → ℕ) (j k ready : ℕ) (os : List Op) → Pairwise Earlier (waiting_from free j k ready os)
 unfolding Earlier
 waiting_from-rises free j k ready [] = tt
-waiting_from-rises free j k ready (o ∷ os) = (
-  all_map (λ x. (x.job ≡ j) × (k + 1 ≤ x.step)) (λ x. (j < x.job) ⊎ ((j ≡ x.job) × (k < x.step)))
-      (λ x h. inr (sym h.0, omega arith)) _ (from_step free j (k + 1) (max ready (free o.machine) + o.time) os),
-  waiting_from-rises free j (k + 1) (max ready (free o.machine) + o.time) os,
-)
+waiting_from-rises free j k ready (o ∷ os) =
+    grind (arith, all_map, from_step, waiting_from-rises free j (k + 1) (max ready (free o.machine) + o.time) os)
 
 from_job : (shop : Shop) (p : Placing) (a n : ℕ)
     → AllByRecursion (λ x. a ≤ x.job) (flat_map (λ j. waiting_of shop p j) (range_with_len a n))
 from_job shop p a zero = tt
-from_job shop p a (suc n) =
-    all_append (λ x. a ≤ x.job) (waiting_of shop p a) (flat_map (λ j. waiting_of shop p j) (range_with_len (a + 1) n))
-    (all_map (λ x. (x.job ≡ a) × (p.steps a ≤ x.step)) (λ x. a ≤ x.job) (λ x h. omega arith) _
-    (from_step p.free a (p.steps a) (p.ready a) (drop (p.steps a) (route_of shop a))))
-    (all_map (λ x. a + 1 ≤ x.job) (λ x. a ≤ x.job) (λ x h. omega arith) _ (from_job shop p (a + 1) n))
+from_job shop p a (suc n) = grind (arith, all_append, all_map, from_step, from_job shop p (a + 1) n)
 
 waiting-rises : (shop : Shop) (p : Placing) (a n : ℕ)
     → Pairwise Earlier (flat_map (λ j. waiting_of shop p j) (range_with_len a n))
 unfolding Earlier
 waiting-rises shop p a zero = tt
 waiting-rises shop p a (suc n) =
-    pairwise_append Earlier (waiting_of shop p a) (flat_map (λ j. waiting_of shop p j) (range_with_len (a + 1) n))
-    (waiting_from-rises p.free a (p.steps a) (p.ready a) (drop (p.steps a) (route_of shop a)))
-    (waiting-rises shop p (a + 1) n)
-    (all_map (λ x. (x.job ≡ a) × (p.steps a ≤ x.step)) (λ x. AllByRecursion (Earlier x)
-    (flat_map (λ j. waiting_of shop p j) (range_with_len (a + 1) n)))
-    (λ x h. all_map (λ y. a + 1 ≤ y.job) (Earlier x) (λ y g. inl (omega arith)) _ (from_job shop p (a + 1) n))
-    _ (from_step p.free a (p.steps a) (p.ready a) (drop (p.steps a) (route_of shop a))))
+    grind (arith, pairwise_append, waiting_from-rises, all_map, from_job, from_step, waiting-rises shop p (a + 1) n)
 
 module _ (shop : Shop) (starts : Starts) (feasible : IsFeasible shop starts) where
   start_of : Waiting → ℕ

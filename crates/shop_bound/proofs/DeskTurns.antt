@@ -1,6 +1,5 @@
 -- What a desk's trail says after one more dispatch, and without the last one.
-use Rattle.std.proofs.Common.{◌≡◌, ℕ, ◌≤◌, ◌<◌, List, [], ◌∷◌, ◌++◌, length, get_or, refl, ◌∙◌, ap}
-use Rattle.std.proofs.Common.{arith, vec_capacity}
+use Rattle.std.proofs.Common.{◌≡◌, ℕ, ◌≤◌, ◌<◌, List, [], ◌∷◌, ◌++◌, length, get_or, refl, ◌∙◌, ap, arith, vec_capacity}
 use Rattle.std.specs.List.{fold}
 use Rattle.shop_model.specs.declared.ops.Op.{Op}
 use Rattle.shop_model.specs.Shop.{Shop, machine_of, no_op, route_of}
@@ -32,8 +31,7 @@ replaced_less shop p [] (s ∷ []) j r are = absurd are.1
 replaced_less shop p [] (s ∷ t ∷ rs) j r are = absurd are.1
 replaced_less shop p (i ∷ []) [] j r are = absurd are.1
 replaced_less shop p (i ∷ k ∷ js) [] j r are = absurd are.1
-replaced_less shop p (i ∷ js) (s ∷ rs) j r are =
-    let rest = replaced_less shop (place_next shop p i) js rs j r are.1 in ((are.0, rest.0), rest.1)
+replaced_less shop p (i ∷ js) (s ∷ rs) j r are = grind (arith, replaced_less shop (place_next shop p i) js rs j r are.1)
 
 -- as many of them as jobs
 pub replaced_many : (shop : Shop) (p : Placing) (js : List ℕ) (rs : List Replaced) → AreReplaced shop p js rs
@@ -41,8 +39,7 @@ pub replaced_many : (shop : Shop) (p : Placing) (js : List ℕ) (rs : List Repla
 replaced_many shop p [] [] are = refl
 replaced_many shop p [] (s ∷ rs) are = absurd are
 replaced_many shop p (i ∷ js) [] are = absurd are
-replaced_many shop p (i ∷ js) (s ∷ rs) are =
-    let a = replaced_many shop (place_next shop p i) js rs are.1 in omega arith
+replaced_many shop p (i ∷ js) (s ∷ rs) are = grind (arith, replaced_many shop (place_next shop p i) js rs are.1)
 
 -- what is dispatched, and the next step of a job that can be
 pub can_dispatch : (d : Inside) (j : ℕ) → IsDesk d → IsWord d.instance.now (d.jobs.items ++ j ∷ [])
@@ -56,16 +53,7 @@ pub replaced_is : (d : Inside) (j : ℕ) → IsDesk d → IsWord d.instance.now 
     → (ready : ℕ) → ready ≡ get_or d.placement.ready j 0
     → (free : ℕ) → free ≡ get_or d.placement.free (get_or route k no_op).machine 0
     → IsReplaced d.instance.now (placing d.instance.now d.jobs.items) j (record { ready = ready; free = free })
-replaced_is d j is fits route whole k step ready is_ready free is_free =
-    let shop = d.instance.now in let p = placing shop d.jobs.items
-    in let job = (can_dispatch d j is fits).job
-    in let here : (get_or route k no_op).machine ≡ machine_of shop j (p.steps j) =
-    ap (λ (xs : List Op). (get_or xs k no_op).machine) whole ∙ ap (machine_of shop j) (step ∙ is.placed.steps j job)
-    in let known : (get_or route k no_op).machine < shop.machines = rw here (is.limits.on_machines j (p.steps j))
-    in record {
-      ready = is_ready ∙ is.placed.ready j job;
-      free = is_free ∙ (is.placed.free (get_or route k no_op).machine known ∙ ap p.free here);
-    }
+replaced_is d j is fits route whole k step ready is_ready free is_free = grind (arith, can_dispatch)
 
 -- one more job is dispatched
 pub dispatched : (d : Inside) (j : ℕ) → IsDesk d → IsWord d.instance.now (d.jobs.items ++ j ∷ []) → (e : Inside)

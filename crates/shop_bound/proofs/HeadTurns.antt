@@ -22,13 +22,7 @@ pub record AreEndsSmall (shop : Shop) (s : PlacementState) : Type 0 where
   pub free : (m : ℕ) → m < shop.machines → get_or s.free m 0 ≤ 1000000000000000
 
 pub ends_of_word : (shop : Shop) → IsWithinLimits shop → (s : PlacementState) → IsOfWord shop s → AreEndsSmall shop s
-ends_of_word shop limits s of =
-    let few = word_length shop of.word limits of.fits
-    in let small = ready_word shop limits of.word
-    in record {
-      ready = λ j h. (let a = small.ready j in let b = of.placed.ready j h in omega arith);
-      free = λ m h. (let a = small.free m in let b = of.placed.free m h in omega arith);
-    }
+ends_of_word shop limits s of = grind (arith, word_length shop of.word limits of.fits, ready_word shop limits of.word)
 
 -- before the first step, and after one that isn't placed
 pub ready_first : (shop : Shop) (p : Placing) (j k : ℕ) → k ≤ p.steps j
@@ -42,14 +36,6 @@ ready_more shop p j k h = grind arith
 -- a head is there just where the operation is one that isn't placed
 pub head_none : (shop : Shop) (p : Placing) (j k : ℕ) → k < p.steps j → head_if_left shop p j k ≡ None
 head_none shop p j k h = rw (lt-leb (p.steps j) k h) refl
-
-pub head_some : (shop : Shop) (p : Placing) (j k : ℕ) → p.steps j ≤ k → k < length (route_of shop j)
-    → head_if_left shop p j k ≡ Some (head_of shop p j k)
-head_some shop p j k h below =
-    rw (le-leb (p.steps j) k h, lt-ltb k (length (route_of shop j)) below) refl
-
-pub head_past : (shop : Shop) (p : Placing) (j k : ℕ) → length (route_of shop j) ≤ k → head_if_left shop p j k ≡ None
-head_past shop p j k past = grind (arith, nat_tests)
 
 -- one step of the walk
 module _ (shop : Shop) (s : PlacementState) (j : ℕ) (job : j < length shop.jobs) (placed : ℕ)
@@ -68,7 +54,7 @@ module _ (shop : Shop) (s : PlacementState) (j : ℕ) (job : j < length shop.job
       → IsPlacement shop p s
       → (Some head ≡ head_if_left shop p j k) × (head + (get_or route k no_op).time
       ≡ ready_after shop p j (k + 1 - p.steps j))
-  left_turn known h limits route e below f head read greater p is = grind (arith, ready_more, head_some)
+  left_turn known h limits route e below f head read greater p is = grind (arith, ready_more, le-leb, lt-ltb)
 
 -- and its sum is small
 pub left_small : (shop : Shop) → IsWithinLimits shop → (s : PlacementState) → AreEndsSmall shop s
@@ -83,22 +69,5 @@ left_small shop limits s small j route e k ready f head read greater so_far = gr
 pub rows_tell : (shop : Shop) (p : Placing) (rows : List (List (Option ℕ)))
     → rows ≡ map (heads_of shop p) (range_with_len 0 (length shop.jobs))
     → (j k : ℕ) → heads_at rows j k ≡ head_if_left shop p j k
-rows_tell shop p rows e j k = elim (cases_lt j (length shop.jobs)) [
-  | inl h ↦ (let row : get_or rows j [] ≡ heads_of shop p j =
-      ap (λ (xs : List (List (Option ℕ))). get_or xs j []) e
-      ∙ get_or-map-range_with_len (heads_of shop p) 0 (length shop.jobs) j j [] h (omega arith)
-      in ap (λ (xs : List (Option ℕ)). get_or xs k None) row ∙ in_row j k)
-  | inr h ↦ (let row : get_or rows j [] ≡ [] = get_or_past rows j []
-      (let a : length rows ≡ length shop.jobs = ap (λ (xs : List (List (Option ℕ))). length xs) e
-      ∙ length-map-range_with_len (heads_of shop p) 0 (length shop.jobs) in omega arith)
-      in let none : length (route_of shop j) ≡ 0 =
-      ap (λ (x : ShopJob). length x.route) (get_or_past shop.jobs j no_job h)
-      in ap (λ (xs : List (Option ℕ)). get_or xs k None) row ∙ sym (head_past shop p j k (omega arith)))
-]
-  where
-    in_row : (j k : ℕ) → get_or (heads_of shop p j) k None ≡ head_if_left shop p j k
-    in_row j k = elim (cases_lt k (length (route_of shop j))) [
-      | inl h ↦ get_or-map-range_with_len (head_if_left shop p j) 0 (length (route_of shop j)) k k None h (omega arith)
-      | inr h ↦ (let long = length-map-range_with_len (head_if_left shop p j) 0 (length (route_of shop j))
-          in get_or_past (heads_of shop p j) k None (omega arith) ∙ sym (head_past shop p j k h))
-    ]
+rows_tell shop p rows e j k =
+    grind (arith, cases_lt, get_or-map-range_with_len, get_or_past, length-map-range_with_len, nat_tests)

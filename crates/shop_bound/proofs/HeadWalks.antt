@@ -15,20 +15,10 @@ use Rattle.shop_bound.proofs.BoundLaw.{front_of}
 module _ (shop : Shop) (p : Placing) (j : ℕ) where
   -- step k, if it is this operation and these follow, and what waits then
   first : ℕ → Op → List Op → Waiting
-  first k o os = record {
-    job = j;
-    step = k;
-    machine = o.machine;
-    triple = record {
-      head = max (ready_after shop p j (k - p.steps j)) (p.free o.machine);
-      time = o.time;
-      tail = sum_by (λ p. p.time) os;
-    };
-  }
+  first k o os = grind arith
 
   next : ℕ → Op → List Op → List Waiting
-  next k o os =
-      waiting_from p.free j (k + 1) (max (ready_after shop p j (k - p.steps j)) (p.free o.machine) + o.time) os
+  next k o os = grind arith
 
   -- from step k on
   walk_from : (k : ℕ) (os : List Op) → drop k (route_of shop j) ≡ os → p.steps j ≤ k
@@ -52,8 +42,7 @@ module _ (shop : Shop) (p : Placing) (j : ℕ) where
 flat_map-same : {A : Type 0} (f g : ℕ → List A) (h : (j : ℕ) → f j ≡ g j) → (js : List ℕ)
     → flat_map f js ≡ flat_map g js
 flat_map-same f g h [] = refl
-flat_map-same f g h (j ∷ js) =
-    ap (λ xs. xs ++ flat_map f js) (h j) ∙ ap (λ xs. g j ++ xs) (flat_map-same f g h js)
+flat_map-same f g h (j ∷ js) = grind (arith, flat_map-same f g h js)
 
 pub waiting_is : (shop : Shop) (p : Placing)
     → waiting shop p ≡ flat_map (λ j. map (waiting_at shop p j) (steps_left shop p j))

@@ -11,11 +11,7 @@ module _ (shop : Shop) (p : Placing) (j : ℕ) (q : Placing) (n : IsNext shop p 
   module _ (i : ℕ) where
     ready_up : (d l : ℕ) → q.steps i + d ≡ l
         → ready_after shop p i (l - p.steps i) ≤ ready_after shop q i (l - q.steps i)
-    ready_up zero l e =
-        let first = ready_first shop q i l (omega arith)
-        in let f : l - p.steps i ≡ q.steps i - p.steps i = omega arith
-        in let g = ap (ready_after shop p i) f
-        in let a = ready_first_same shop p j q n i in omega arith
+    ready_up zero l e = grind (arith, ready_first, ready_first_same)
     ready_up (suc d) l e =
         let k = q.steps i + d
         in let rises = steps_grow shop p j q n i

@@ -35,11 +35,7 @@ module _ (shop : Shop) (p : Placing) (j : ℕ) (q : Placing) (n : IsNext shop p 
   module _ (i : ℕ) where
     ready_same : (d l : ℕ) → q.steps i + d ≡ l → ((k : ℕ) → k < l → q.steps i ≤ k → IsClear i k)
         → ready_after shop q i (l - q.steps i) ≡ ready_after shop p i (l - p.steps i)
-    ready_same zero l e clear =
-        let first = ready_first shop q i l (omega arith)
-        in let f : l - p.steps i ≡ q.steps i - p.steps i = omega arith
-        in let g = ap (ready_after shop p i) f
-        in let a = ready_first_same i in omega arith
+    ready_same zero l e clear = grind (arith, ready_first, ready_first_same)
     ready_same (suc d) l e clear =
         let k = q.steps i + d
         in let rises = steps_grow shop p j q n i

@@ -41,16 +41,11 @@ module _ (us : List Triple) (x : Triple) where
 
   time_taken : (head tail : ℕ) → is_above head tail x ≡ true
       → time_above (us ++ x ∷ []) head tail ≡ time_above us head tail + x.time
-  time_taken head tail e = ap (λ (ys : List Triple). sum_by (λ t. t.time) ys) (taken head tail e)
-      ∙ sum_by_push (λ (t : Triple). t.time) (filter (is_above head tail) us) x
+  time_taken head tail e = grind (arith, taken, sum_by_push)
 
   span_taken : (head tail : ℕ) → is_above head tail x ≡ true
       → span_above (us ++ x ∷ []) head tail ≡ head + (time_above us head tail + x.time) + tail
-  span_taken head tail e =
-      let some = span_above-some (us ++ x ∷ []) head tail
-      (subst (λ (ys : List Triple). 0 < length ys) (sym (taken head tail e))
-      (omega (arith, length-append (filter (is_above head tail) us) (x ∷ []))))
-      in let time = time_taken head tail e in omega arith
+  span_taken head tail e = grind (arith, span_above-some, taken, length-append, time_taken)
 
   tails_more : greatest_of (λ t. t.tail) (us ++ x ∷ []) ≡ max (greatest_of (λ t. t.tail) us) x.tail
   tails_more = let a = greatest_of-append (λ t. t.tail) us (x ∷ []) in omega arith
@@ -61,50 +56,20 @@ module _ (us : List Triple) (x : Triple) where
   -- an operation more, which has an earlier head
   pub earlier : (from time load : ℕ) → IsLoadOf us from time load → x.head < from → IsLoadOf (us ++ x ∷ []) from time load
   earlier from time load is before =
-      let off = λ (head tail : ℕ) (h : from ≤ head). not_above head tail h
-      in record {
-        times = λ head tail h. (let a = is.times head tail h
-            in let e = ap (λ (ys : List Triple). sum_by (λ t. t.time) ys) (passed head tail (off head tail h))
-            in omega arith);
-        covers = λ head tail h. (let a = is.covers head tail h in let e = span_passed head tail (off head tail h)
-            in omega arith);
-        few = let a = is.few in let e = times_more in omega arith;
-        small = let a = is.small in let e = tails_more in omega arith;
-      }
-    where
-      not_above : (head tail : ℕ) → from ≤ head → is_above head tail x ≡ false
-      not_above head tail h = elim (cases_Bool (is_above head tail x))
-          [ inl e ↦ absurd (let a = (is_above-true head tail x e).0 in omega arith) | inr e ↦ e ]
+      grind (arith, passed, span_passed, times_more, tails_more, cases_Bool, is_above-true)
 
   -- or one with a head of at least `from`
   pub later : (from time load more : ℕ) → IsLoadOf us from time load → more ≡ max load (time + x.time + x.tail)
       → IsLoadOf (us ++ x ∷ []) from (time + x.time) more
-  later from time load more is e = record {
-    times = λ head tail h. elim (cases_Bool (is_above head tail x)) [
-      | inl y ↦ (let a = is.times head tail h in let b = time_taken head tail y in omega arith)
-      | inr n ↦ (let a = is.times head tail h
-          in let b = ap (λ (ys : List Triple). sum_by (λ t. t.time) ys) (passed head tail n) in omega arith)
-    ];
-    covers = λ head tail h. elim (cases_Bool (is_above head tail x)) [
-      | inl y ↦ (let a = is.times head tail h in let b = span_taken head tail y in let c = (is_above-true head tail x y).1
-          in omega arith)
-      | inr n ↦ (let a = is.covers head tail h in let b = span_passed head tail n in omega arith)
-    ];
-    few = let a = is.few in let b = times_more in omega arith;
-    small = let a = is.small in let b = tails_more in omega arith;
-  }
+  later from time load more is e =
+      grind (arith, cases_Bool, time_taken, passed, span_taken, is_above-true, span_passed, times_more, tails_more)
 
 -- spans that are at most a bound: those from early heads, as is known, and those from the others by a load
 pub all_settled : (ts : List Triple) (from load bound : ℕ)
     → ((head tail : ℕ) → head < from → span_above ts head tail ≤ bound)
     → ((head tail : ℕ) → from ≤ head → span_above ts head tail ≤ head + load)
     → greatest_of (λ t. t.head) ts + load ≤ bound → one ts ≤ bound
-all_settled ts from load bound early late all =
-    one-le ts bound (λ i k h l. elim (cases_lt (head_at ts i) from) [
-      | inl b ↦ early (head_at ts i) (tail_at ts k) b
-      | inr b ↦ (let a = late (head_at ts i) (tail_at ts k) (omega arith)
-          in let c = get_or-le-greatest_of (λ (t : Triple). t.head) ts i no_triple h in omega arith)
-    ])
+all_settled ts from load bound early late all = grind (arith, one-le, cases_lt, get_or-le-greatest_of)
 
 -- one leap further
 pub leap : (ts : List Triple) (from load bound next : ℕ)
@@ -112,10 +77,7 @@ pub leap : (ts : List Triple) (from load bound next : ℕ)
     → ((head tail : ℕ) → from ≤ head → span_above ts head tail ≤ head + load)
     → from + load ≤ bound → next + load ≡ bound + 1
     → (head tail : ℕ) → head < next → span_above ts head tail ≤ bound
-leap ts from load bound next early late can e head tail h = elim (cases_lt head from) [
-  | inl b ↦ early head tail b
-  | inr b ↦ (let a = late head tail (omega arith) in omega arith)
-]
+leap ts from load bound next early late can e head tail h = grind (arith, cases_lt)
 
 -- in another order the operations have the same greatest numbers and times
 module _ (xs ys : List Triple) (same : IsPermutation xs ys) where
@@ -126,10 +88,7 @@ module _ (xs ys : List Triple) (same : IsPermutation xs ys) where
       (λ k d h. get_or-le-greatest_of f xs k d h)))
 
   pub small_in_order : IsSmall xs → IsSmall ys
-  small_in_order small =
-      let a = greatest_same (λ t. t.head)
-      in let b = greatest_same (λ t. t.tail)
-      in let c = sum_by-IsPermutation (λ (t : Triple). t.time) xs ys same in omega arith
+  small_in_order small = grind (arith, greatest_same, sum_by-IsPermutation)
 
   pub one_in_order : one ys ≡ one xs
   one_in_order = same_one ys xs (permuted_sums xs ys same)

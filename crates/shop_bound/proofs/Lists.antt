@@ -30,18 +30,12 @@ module _ {A : Type 0} where
   pub all_filter : (test : A → Bool) (P Q : A → Type 0) → ((x : A) → P x → test x ≡ true → Q x) → (xs : List A)
       → AllByRecursion P xs → AllByRecursion Q (filter test xs)
   all_filter test P Q f [] h = tt
-  all_filter test P Q f (x ∷ xs) h = elim (cases_Bool (test x)) [
-    | inl e ↦ rw e (f x h.0 e, all_filter test P Q f xs h.1)
-    | inr e ↦ rw e (all_filter test P Q f xs h.1)
-  ]
+  all_filter test P Q f (x ∷ xs) h = grind (arith, cases_Bool, all_filter test P Q f xs h.1)
 
   pub pairwise_filter : (test : A → Bool) (R : A → A → Type 0) → (xs : List A) → Pairwise R xs
       → Pairwise R (filter test xs)
   pairwise_filter test R [] h = tt
-  pairwise_filter test R (x ∷ xs) h = elim (cases_Bool (test x)) [
-    | inl e ↦ rw e (all_filter test (R x) (R x) (λ y r _. r) xs h.0, pairwise_filter test R xs h.1)
-    | inr e ↦ rw e (pairwise_filter test R xs h.1)
-  ]
+  pairwise_filter test R (x ∷ xs) h = grind (arith, cases_Bool, all_filter, pairwise_filter test R xs h.1)
 
   pub pairwise_append : (R : A → A → Type 0) → (xs ys : List A) → Pairwise R xs → Pairwise R ys
       → AllByRecursion (λ x. AllByRecursion (R x) ys) xs → Pairwise R (xs ++ ys)
@@ -97,11 +91,7 @@ module _ {A : Type 0} where
   pub least_of-le : (f : A → ℕ) → (xs : List A) → AllByRecursion (λ x. least_of f xs ≤ f x) xs
   least_of-le f [] = tt
   least_of-le f (x ∷ []) = (omega arith, tt)
-  least_of-le f (x ∷ y ∷ ys) = (
-    omega arith,
-    all_map (λ z. least_of f (y ∷ ys) ≤ f z)
-        (λ z. min (f x) (least_of f (y ∷ ys)) ≤ f z) (λ z h. omega arith) (y ∷ ys) (least_of-le f (y ∷ ys)),
-  )
+  least_of-le f (x ∷ y ∷ ys) = grind (arith, all_map, least_of-le f (y ∷ ys))
 
   -- Intervals that are apart, from h on and up to b, are no longer together than that.
   pub packed : (s d : A → ℕ) (n : ℕ) (xs : List A) → length xs ≤ n → (h b : ℕ) → h ≤ b
@@ -127,8 +117,7 @@ module _ {A : Type 0} where
       (λ y w e. (
         elim w.1 [
           | inl a ↦ a
-          | inr a ↦
-              (let c = leb-false (s y + d y) (s x) (not-true (test y) e) in absurd (omega arith))
+          | inr a ↦ grind (arith, leb-false, not-true)
         ],
         w.0.1,
       )) xs

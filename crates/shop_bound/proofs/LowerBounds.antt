@@ -49,29 +49,8 @@ module _ (shop : Shop) (s : PlacementState) (n b : ℕ) (r : BoundRoom) (before 
       → free ≡ get_or s.free n 0 → given ≡ now.items → result ≡ max (max b free) (one given)
       → new.lists.items ≡ set r.lists.items n after → vec_capacity now ≤ vec_capacity after
       → new.jackson.room ≡ r.jackson.room → HasBounded shop s (n + 1) result new
-  one_bounded free result given new after is_free same is lists more room = record {
-    bound = λ p is_placement. (let so_far = before.bound p is_placement in let f = is_placement.free n known
-        in let left : given ≡ triples_on n (waiting shop p) =
-        same ∙ (sym row_of_machine ∙ before.left p is_placement n (omega arith) known)
-        in let one_is = ap (λ (ts : List Triple). one ts) left
-        in let next : greatest_below (n + 1) (bound_on shop p)
-        ≡ max (greatest_below n (bound_on shop p)) (bound_on shop p n) = rw add-one refl
-        in omega arith);
-    left = λ p is_placement m above there.
-        row_same m (omega arith) ∙ before.left p is_placement m (omega arith) there;
-    few = λ m above there. (let a = before.few m (omega arith) there
-        in let b = ap (λ (ts : List Triple). length ts) (row_same m (omega arith)) in omega arith);
-    room = record {
-      lists = keep_have_room shop r.lists.items new.lists.items before.room.lists
-          (subst (KeepRoom r.lists.items) (sym lists) (keeps_room r.lists.items n now after here read more))
-          (ap (λ (ls : List (Vec Triple Global)). length ls) lists ∙ length-set r.lists.items n after);
-      schedule = λ m there. let a = before.room.schedule m there in omega arith;
-    };
-  }
-    where
-      row_same : (m : ℕ) → n < m → get_or (rows_in new.lists.items) m [] ≡ get_or (rows_in r.lists.items) m []
-      row_same m above = ap (λ (ls : List (Vec Triple Global)). get_or (rows_in ls) m []) lists
-          ∙ row_other r.lists.items n now after here read m (λ e. absurd (omega arith))
+  one_bounded free result given new after is_free same is lists more room =
+      grind (arith, row_of_machine, add-one, keep_have_room, keeps_room, here, length-set, row_other)
 
 -- a value of a list, where the function has it at the element
 mapped_at : {A : Type 0} (f : A → ℕ) (xs : List A) (i v : ℕ) → i < length xs → ((d : A) → f (get_or xs i d) ≡ v)
@@ -85,8 +64,7 @@ module _ (shop : Shop) (limits : IsWithinLimits shop) (w : List ℕ) (word : IsW
     (is : IsPlacement shop (placing shop w) s) (lists : List (Vec Triple Global)) (room : HaveRoom shop lists)
     (unplaced : AreUnplaced shop s (rows_in lists)) where
   row_of : (m : ℕ) (d : Vec Triple Global) → m < shop.machines → (get_or lists m d).items ≡ get_or (rows_in lists) m []
-  row_of m d known =
-      sym (get_or-map (λ v. v.items) lists m d [] (let machines = room.machines in omega arith))
+  row_of m d known = grind (arith, get_or-map)
 
   left_on : (m : ℕ) (d : Vec Triple Global) → m < shop.machines
       → (get_or lists m d).items ≡ triples_on m (waiting shop (placing shop w))
@@ -95,17 +73,10 @@ module _ (shop : Shop) (limits : IsWithinLimits shop) (w : List ℕ) (word : IsW
   pub lists_few : (r : ℕ) → ((m : ℕ) → m < shop.machines → visits_in shop m ≤ r)
       → ((m : ℕ) → m < shop.machines → length (get_or (rows_in lists) m []) ≤ visits_in shop m)
       → All (λ list. length list.items ≤ r) lists
-  lists_few r schedule few m d here =
-      let known : m < shop.machines = (let machines = room.machines in omega arith)
-      in let a = schedule m known
-      in let b = few m known
-      in let c = ap (λ (ts : List Triple). length ts) (row_of m d known) in omega arith
+  lists_few r schedule few m d here = grind (arith, row_of)
 
   pub lists_small : All (λ list. IsSmall list.items) lists
-  lists_small m d here =
-      let known : m < shop.machines = (let machines = room.machines in omega arith)
-      in subst (λ (ts : List Triple). IsSmall ts) (sym (left_on m d known))
-      (let a = triples_small shop limits w word m in omega arith)
+  lists_small m d here = grind (arith, left_on, triples_small shop limits w word m)
 
   pub lists_bounds : (bounds : List ℕ) → bounds ≡ map (λ list. one list.items) lists → (m : ℕ) → m < shop.machines
       → get_or bounds m 0 ≡ one (triples_on m (waiting shop (placing shop w)))

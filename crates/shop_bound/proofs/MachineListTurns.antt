@@ -39,10 +39,8 @@ length-triples m free j k ready (o ∷ os) =
     in let rest = length-triples m free j (k + 1) (head + o.time) os
     in let more = sum_by-cons (λ (p : Op). visit m p) o os
     in elim (cases_eq o.machine m) [
-      | inl e ↦ (let a = ap (λ (ts : List Triple). length ts) (first_on m free j k ready o os head refl e)
-          in let b = visit_on m o e in omega arith)
-      | inr n ↦ (let a = ap (λ (ts : List Triple). length ts) (first_off m free j k ready o os head refl n)
-          in let b = visit_off m o n in omega arith)
+      | inl e ↦ grind (arith, first_on, visit_on)
+      | inr n ↦ grind (arith, first_off, visit_off)
     ]
 
 -- a list of vectors, at one of which another stands
@@ -63,20 +61,10 @@ module _ (lists : List (Vec Triple Global)) (i : ℕ) (now new : Vec Triple Glob
       ∙ ap (λ v. vec_capacity v) (get_or-set_same lists i new new here)
 
   pub row_other : (m : ℕ) → m ≢ i → get_or (rows_in (set lists i new)) m [] ≡ get_or (rows_in lists) m []
-  row_other m ne = ap (λ rows. get_or rows m []) (map-set (λ v. v.items) lists i new)
-      ∙ get_or-set_other (rows_in lists) i m new.items [] ne
-
-  pub room_other : (m : ℕ) → m ≢ i → get_or (rooms_in (set lists i new)) m 0 ≡ get_or (rooms_in lists) m 0
-  room_other m ne = ap (λ rooms. get_or rooms m 0) (map-set (λ v. vec_capacity v) lists i new)
-      ∙ get_or-set_other (rooms_in lists) i m (vec_capacity new) 0 ne
+  row_other m ne = grind (arith, map-set, get_or-set_other)
 
   pub keeps_room : vec_capacity now ≤ vec_capacity new → KeepRoom lists (set lists i new)
-  keeps_room more m = elim (cases_eq m i) [
-    | inl e ↦ (let a = room_read in let b = room_written
-        in let d = ap (λ k. get_or (rooms_in lists) k 0) e in let f = ap (λ k. get_or (rooms_in (set lists i new)) k 0) e
-        in omega arith)
-    | inr n ↦ (let a = room_other m n in omega arith)
-  ]
+  keeps_room more m = grind (arith, cases_eq, room_read, room_written, map-set, get_or-set_other)
 
 pub keep_room_both : (a b c : List (Vec Triple Global)) → KeepRoom a b → KeepRoom b c → KeepRoom a c
 keep_room_both a b c first second m = let x = first m in let y = second m in omega arith
@@ -98,10 +86,7 @@ module _ (rest : List Op) (k : ℕ) (below : k < length rest) where
   pub has_room : (lists : List (Vec Triple Global)) (i : ℕ) (now : Vec Triple Global) → HaveRoomFor lists (drop k rest)
       → i ≡ (get_or rest k no_op).machine → i < length lists → now ≡ get_or lists i now
       → length now.items < vec_capacity now
-  has_room lists i now room on here read =
-      let a = room i here in let b = visits_more i in let e = visit_on i (get_or rest k no_op) (sym on)
-      in let r = row_read lists i now now here read in let s = room_read lists i now now here read
-      in let l = ap (λ (ts : List Triple). length ts) r in omega arith
+  has_room lists i now room on here read = grind (arith, visits_more, visit_on, row_read, room_read)
 
   -- and it is added
   pub one_added : (old lists : List (Vec Triple Global)) (free : List ℕ) (first ready head tail i : ℕ)
@@ -130,18 +115,8 @@ module _ (rest : List Op) (k : ℕ) (below : k < length rest) where
               (get_or (rows_in old) m [] ++ unplaced_from m free first rest) head is_head (before.added m known) n
               (row_other lists i now new here read m (λ e. n (sym on ∙ sym e)))
         ];
-        room = λ m known. (let long = length-set lists i new in let a = before.room m (omega arith) in let b = visits_more m
-            in elim (cases_eq o.machine m) [
-              | inl e ↦ (let same : m ≡ i = sym (on ∙ e) in let v = visit_on m o e
-                  in let l : length (get_or (rows_in (set lists i new)) m []) ≡ length (get_or (rows_in lists) m [] ++ added) =
-                  ap (λ (ts : List Triple). length ts) (rw same row)
-                  in let c = length-append (get_or (rows_in lists) m []) added
-                  in let d = keeps_room lists i now new here read more m in omega arith)
-              | inr n ↦ (let v = visit_off m o n
-                  in let l = ap (λ (ts : List Triple). length ts)
-                  (row_other lists i now new here read m (λ e. n (sym on ∙ sym e)))
-                  in let d = keeps_room lists i now new here read more m in omega arith)
-            ]);
+        room = λ m known.
+            grind (arith, length-set, visits_more, cases_eq, visit_on, length-append, keeps_room, visit_off, row_other);
         kept = keep_room_both old lists (set lists i new) before.kept (keeps_room lists i now new here read more);
       }
 
@@ -156,10 +131,7 @@ pub one_cleared : (old lists : List (Vec Triple Global)) (k : ℕ) (now new : Ve
     → AreClearedTo (k + 1) old (set lists k new)
 one_cleared old lists k now new before here read emptied same = record {
   long = length-set lists k new ∙ before.long;
-  empty = λ m below. elim (cases_eq m k) [
-    | inl e ↦ (ap (λ n. get_or (rows_in (set lists k new)) n []) e ∙ (row_written lists k now new here read ∙ emptied))
-    | inr n ↦ (row_other lists k now new here read m n ∙ before.empty m (omega arith))
-  ];
+  empty = λ m below. grind (arith, cases_eq m k, row_written lists k now new here read, row_other);
   kept = keep_room_both old lists (set lists k new) before.kept (keeps_room lists k now new here read (omega arith));
 }
 
@@ -176,37 +148,25 @@ pub record HaveListed (shop : Shop) (s : PlacementState) (n : ℕ) (lists : List
 
 pub keep_have_room : (shop : Shop) (old new : List (Vec Triple Global)) → HaveRoom shop old → KeepRoom old new
     → length new ≡ length old → HaveRoom shop new
-keep_have_room shop old new before kept long = record {
-  machines = long ∙ before.machines;
-  room = λ m known. (let a = before.room m known in let b = kept m in omega arith);
-}
+keep_have_room shop old new before kept long = grind arith
 
 -- where the lists are empty, nothing is listed
 pub none_listed : (shop : Shop) (s : PlacementState) (old new : List (Vec Triple Global)) → HaveRoom shop old
     → ((m : ℕ) → get_or (rows_in new) m [] ≡ []) → KeepRoom old new → length new ≡ length old → HaveListed shop s 0 new
-none_listed shop s old new before empty kept long = record {
-  listed = λ p is m known. empty m;
-  few = λ m known. (let a = ap (λ (ts : List Triple). length ts) (empty m) in omega arith);
-  room = keep_have_room shop old new before kept long;
-}
+none_listed shop s old new before empty kept long = grind (arith, keep_have_room)
 
 module _ (shop : Shop) (s : PlacementState) (n : ℕ) (old : List (Vec Triple Global)) (before : HaveListed shop s n old)
     (job : n < length shop.jobs) where
   visits_of_rest : (m k : ℕ) (rest : List Op) → rest ≡ drop k (route_of shop n) → visits m rest ≤ visits m (route_of shop n)
   visits_of_rest m k rest e =
-      let parts = sum_by-take-drop (λ (o : Op). visit m o) (route_of shop n) k
-      in let same = ap (λ (os : List Op). visits m os) e in omega arith
+      grind (arith, sum_by-take-drop (λ (o : Op). visit m o) (route_of shop n) k, ap (λ (os : List Op). visits m os) e)
 
   visits_to_here : (m : ℕ) → visits_before shop m (n + 1) ≡ visits_before shop m n + visits m (route_of shop n)
   visits_to_here m = sum_by_more (λ j. visits m j.route) shop.jobs n no_job job
 
   -- there is room for one job more
   pub room_for_rest : (k : ℕ) (rest : List Op) → rest ≡ drop k (route_of shop n) → HaveRoomFor old rest
-  room_for_rest k rest e m here =
-      let machines = before.room.machines
-      in let few = before.few m (omega arith) in let room = before.room.room m (omega arith)
-      in let part = visits_of_rest m k rest e in let more = visits_to_here m
-      in let most = sum_by-take-le (λ j. visits m j.route) shop.jobs (n + 1) in omega arith
+  room_for_rest k rest e m here = grind (arith, visits_of_rest m k rest e, visits_to_here m, sum_by-take-le)
 
   -- and it is listed
   pub one_listed : (new : List (Vec Triple Global)) (free : List ℕ) (ready k : ℕ) (rest : List Op)
@@ -219,12 +179,7 @@ module _ (shop : Shop) (s : PlacementState) (n : ℕ) (old : List (Vec Triple Gl
       in record {
         listed = λ p is m known. job_listed m shop p n (get_or (rows_in old) m []) (get_or (rows_in new) m [])
             (unplaced_from m free ready rest) (before.listed p is m known) (waits m p is) (adds m (known_row m known));
-        few = λ m known. (let few = before.few m known in let part = visits_of_rest m k rest e in let more = visits_to_here m
-            in let added : length (get_or (rows_in new) m [])
-            ≡ length (get_or (rows_in old) m [] ++ unplaced_from m free ready rest) =
-            ap (λ (ts : List Triple). length ts) (adds m (known_row m known))
-            in let both = length-append (get_or (rows_in old) m []) (unplaced_from m free ready rest)
-            in let count = length-triples m (λ i. get_or free i 0) 0 0 ready rest in omega arith);
+        few = λ m known. grind (arith, visits_of_rest, visits_to_here, known_row, length-append, length-triples);
         room = keep_have_room shop old new before.room kept long;
       }
     where
@@ -233,12 +188,7 @@ module _ (shop : Shop) (s : PlacementState) (n : ℕ) (old : List (Vec Triple Gl
 
 pub visits-le : (m : ℕ) (os : List Op) → visits m os ≤ length os
 visits-le m [] = omega arith
-visits-le m (o ∷ os) =
-    let rest = visits-le m os in let more = sum_by-cons (λ (p : Op). visit m p) o os
-    in elim (cases_eq o.machine m) [
-      | inl e ↦ (let a = visit_on m o e in omega arith)
-      | inr n ↦ (let a = visit_off m o n in omega arith)
-    ]
+visits-le m (o ∷ os) = grind (arith, visits-le m os, sum_by-cons (λ (p : Op). visit m p) o os)
 
 pub visits_few : (m : ℕ) (os : List Op) (k : ℕ) → visits m (take k os) ≤ k
 visits_few m os k = let a = visits-le m (take k os) in omega (arith, length-take k os)
@@ -251,18 +201,7 @@ pub one_counted : (old counts : List ℕ) (route : List Op) (k : ℕ) → k < le
     → get_or (set counts (get_or route k no_op).machine (get_or counts (get_or route k no_op).machine 0 + 1)) m 0
     ≡ get_or old m 0 + visits m (take (k + 1) route)
 one_counted old counts route k below before here m known =
-    let o = get_or route k no_op
-    in let i = o.machine
-    in let more = sum_by_more (λ (p : Op). visit m p) route k no_op below
-    in let so_far = before m known
-    in elim (cases_eq o.machine m) [
-      | inl e ↦ (let a = visit_on m o e
-          in let b = get_or-set_same counts i (get_or counts i 0 + 1) 0 here
-          in let c = ap (λ n. get_or (set counts i (get_or counts i 0 + 1)) n 0) e in let d = ap (λ n. get_or counts n 0) e
-          in omega arith)
-      | inr n ↦ (let a = visit_off m o n
-          in let b = get_or-set_other counts i m (get_or counts i 0 + 1) 0 (λ e. n (sym e)) in omega arith)
-    ]
+    grind (arith, sum_by_more, cases_eq, visit_on, get_or-set_same, visit_off, get_or-set_other)
 
 pub visits_small : (shop : Shop) → IsWithinLimits shop → (m n : ℕ) → n ≤ length shop.jobs
     → visits_before shop m n ≤ n * 100
@@ -281,17 +220,9 @@ pub job_counted : (shop : Shop) (n : ℕ) → n < length shop.jobs → (route : 
     → ((m : ℕ) → m < shop.machines → get_or counts.items m 0 ≡ visits_before shop m n)
     → ((m : ℕ) → m < length given → get_or new m 0 ≡ get_or given m 0 + visits m route)
     → (m : ℕ) → m < shop.machines → get_or new m 0 ≡ visits_before shop m (n + 1)
-job_counted shop n job route is counts given new same long machines before adds m known =
-    let l = ap (λ (xs : List ℕ). length xs) same
-    in let added = adds m (omega arith)
-    in let old = ap (λ (xs : List ℕ). get_or xs m 0) same
-    in let more = sum_by_more (λ j. visits m j.route) shop.jobs n no_job job
-    in let here = ap (λ (os : List Op). visits m os) is
-    in let so_far = before m known in omega arith
+job_counted shop n job route is counts given new same long machines before adds m known = grind (arith, sum_by_more)
 
 -- a vector after a slice of all of it was written
 pub written_vec : {A : Type 0} (v : Vec A Global) (given new : List A) → given ≡ v.items → length new ≡ length given
     → take v.len (new ++ drop (length new) v.items) ≡ new
-written_vec v given new e long =
-    let full = v.ok.0 in let f = ap (λ xs. length xs) e
-    in grind (arith, drop_all, append-nil, take_all)
+written_vec v given new e long = grind (arith, drop_all, append-nil, take_all)

@@ -1,7 +1,6 @@
 -- One-machine bounds of operations by nonincreasing tails.
-use Rattle.std.proofs.Common.{◌≡◌, ℕ, ◌+◌, ◌^◌, ◌≤◌, ◌<◌, inl, inr, Bool, true, List, [], ◌∷◌}
-use Rattle.std.proofs.Common.{◌++◌, length, length-append}
-use Rattle.std.proofs.Common.{refl, sym, ◌∙◌, ap, subst, arith, leb}
+use Rattle.std.proofs.Common.{◌≡◌, ℕ, ◌+◌, ◌^◌, ◌≤◌, ◌<◌, inl, inr, Bool, true, List, [], ◌∷◌, ◌++◌, length}
+use Rattle.std.proofs.Common.{length-append, refl, sym, ◌∙◌, ap, subst, arith, leb}
 use Rattle.std.specs.List.{AllByRecursion, filter, sum_by}
 use Rattle.std.proofs.lemmas.Bool.{cases_Bool, leb-true, le-leb, and_parts}
 use Rattle.std.proofs.lemmas.List.{append-nil}
@@ -10,12 +9,9 @@ use Rattle.std.proofs.lemmas.List.Sums.{sum_by-cons, sum_by_push, sum_by-append}
 use Rattle.shop_bound.specs.declared.triples.Triple.{Triple}
 use Rattle.shop_bound.specs.OneMachine.{sublists, least_of, span_of, one}
 use Rattle.shop_bound.specs.inner.Thresholds.{is_above, span_above, head_at, no_triple}
-use Rattle.shop_bound.specs.inner.NonincreasingTails.{IsNonincreasing}
-use Rattle.shop_bound.specs.inner.NonincreasingTails.{begins_between, one_between}
-use Rattle.shop_bound.proofs.Lists.{IsSublist, all_map, all_both, all_filter, greatest_of-le, least_of-is}
-use Rattle.shop_bound.proofs.Lists.{least_of-le}
-use Rattle.shop_bound.proofs.ThresholdLemmas.{sublists-are, sublist_of_filter, sublist_length}
-use Rattle.shop_bound.proofs.ThresholdLemmas.{sublist_at, sublist_sum}
+use Rattle.shop_bound.specs.inner.NonincreasingTails.{IsNonincreasing, begins_between, one_between}
+use Rattle.shop_bound.proofs.Lists.{IsSublist, all_map, all_both, all_filter, greatest_of-le, least_of-is, least_of-le}
+use Rattle.shop_bound.proofs.ThresholdLemmas.{sublists-are, sublist_of_filter, sublist_length, sublist_at, sublist_sum}
 use Rattle.shop_bound.proofs.ThresholdLemmas.{span_above-some, span_above-le, is_above-from}
 
 -- the head is at least this
@@ -56,10 +52,7 @@ only_heads head tail us h = ap (λ (ys : List Triple). sum_by (λ t. t.time) ys)
   same : (us : List Triple) → AllByRecursion (λ y. tail ≤ y.tail) us
       → filter (is_above head tail) us ≡ filter (begins_from head) us
   same [] h = refl
-  same (u ∷ us) h = elim (cases_Bool (leb head u.head)) [
-    | inl e ↦ rw (e, le-leb tail u.tail h.0, same us h.1) refl
-    | inr e ↦ rw (e, same us h.1) refl
-  ]
+  same (u ∷ us) h = grind (arith, cases_Bool, le-leb, same us h.1)
 
 -- what is done up to an operation, and its tail, follow no earlier than the bound says
 pub within_in : (us : List Triple) (x : Triple) (vs : List Triple) (head : ℕ)

@@ -58,8 +58,7 @@ module _ {A : Type 0} (place : A → ℕ) where
   pub times-top : (k : ℕ) (xs : List A) (x : A) → 0 < length xs → x ≡ get_or xs 0 x → place x ≡ k
       → 0 < times place k xs
   times-top k [] x some top e = absurd (omega arith)
-  times-top k (y ∷ ys) x some top e =
-      let a = times-here k y ys (ap place (sym top) ∙ e) in omega arith
+  times-top k (y ∷ ys) x some top e = grind (arith, times-here)
 
   pub all-top : (P : A → Type 0) (xs : List A) (x : A) → 0 < length xs → x ≡ get_or xs 0 x → All P xs → P x
   all-top P xs x some top all = subst P (sym top) (all 0 x some)
@@ -75,13 +74,6 @@ pub least_from : (c : Coming) (cs : List Coming)
 least_from c [] h = λ k d l. absurd (omega arith)
 least_from c (x ∷ xs) h = grind (arith, then_less, least_from c xs h.1)
 
-pub behind_from : (w : Waiting) (hs : List Waiting)
-    → AllByRecursion (λ h. is_lt (by_tail w h) ≡ false) hs
-    → All (IsBehind w) hs
-behind_from w [] h = λ k d l. absurd (omega arith)
-behind_from w (x ∷ xs) h =
-    All-cons (IsBehind w) x xs (then_less w.0 x.0 x.1.0 w.1.0 h.0) (behind_from w xs h.1)
-
 -- how many of an operation that is done, and of one that isn't
 count_done : (w : Work) → w.done ≡ true → undone_of w ≡ 0
 count_done w d = rw d refl
@@ -91,9 +83,6 @@ count_undone w d = rw d refl
 
 undone_since : (w : Work) → 0 < undone_of w → w.done ≡ false
 undone_since w some = grind arith
-
-done_since : (w : Work) → undone_of w ≡ 0 → w.done ≡ true
-done_since w none = grind arith
 
 module _ (ws : List Work) (clock : ℕ) (cs : List Coming) (hs : List Waiting) (q : AreQueued ws clock cs hs) where
   -- one that is not done and isn't to come is in line
@@ -124,10 +113,6 @@ module _ (ws : List Work) (clock : ℕ) (cs : List Coming) (hs : List Waiting) (
   not_done : (k : ℕ) → k < length ws → clock < (work_at ws k).triple.head → (work_at ws k).done ≡ false
   not_done k here late = grind (arith, cases_Bool)
 
-  -- those to come are not done
-  coming_undone : (c : Coming) → 0 < length cs → c ≡ get_or cs 0 c → (work_at ws c.1).done ≡ false
-  coming_undone c some top = grind (arith, all-top, times-top, undone_since)
-
   module _ (later : ComeLater clock cs) where
     -- what is released isn't to come
     not_coming : (k : ℕ) → (work_at ws k).triple.head ≤ clock → times coming_place k cs ≡ 0
@@ -149,21 +134,12 @@ module _ (ws : List Work) (clock : ℕ) (cs : List Coming) (hs : List Waiting) (
         subst (λ (j : ℕ). h.0 ≡ (work_at ws j).triple.tail) e a.tail
         in record {
           seen = here;
-          undone = (let o = q.once i here in let t = times-top waiting_place i hs h f.some f.top e
-              in undone_since (work_at ws i) (omega arith));
+          undone = grind (arith, times-top, undone_since);
           released = subst (λ (j : ℕ). (work_at ws j).triple.head ≤ clock) e a.released;
-          greatest = λ k seen undone released. let w = in_line k seen undone (not_coming k released) (IsBehind h) f.behind
-              in let t = ap (λ (j : ℕ). (work_at ws j).triple.tail) w.1
-              in let s = w.2.0.tail
-              in elim w.2.1 [ inl l ↦ omega arith | inr b ↦ (let x = b.0 in omega arith) ];
+          greatest = λ k seen undone released.
+              grind (arith, in_line k seen undone (not_coming k released) (IsBehind h) f.behind);
           lowest = λ k before undone released.
-              let w = in_line k (omega arith) undone (not_coming k released) (IsBehind h) f.behind
-              in let t = ap (λ (j : ℕ). (work_at ws j).triple.tail) w.1
-              in let s = w.2.0.tail
-              in elim w.2.1 [
-                | inl l ↦ omega arith
-                | inr b ↦ absurd (let x = b.1 in let y = w.1 in omega arith)
-              ];
+              grind (arith, in_line k (omega arith) undone (not_coming k released) (IsBehind h) f.behind);
         }
 
     -- where none waits, none is released that is not done
@@ -173,9 +149,7 @@ module _ (ws : List Work) (clock : ℕ) (cs : List Coming) (hs : List Waiting) (
     -- what is ready
     pub ready_now : (r : Option ℕ) → IsFirst hs r → is_some r ≡ true → IsReady ws clock clock
     ready_now None first some = absurd (true≢false (sym some))
-    ready_now (Some i) first some =
-        let s = first_served i first
-        in inl ((i, record { here = s.seen; undone = s.undone; released = s.released }), refl)
+    ready_now (Some i) first some = grind (arith, first_served)
 
     pub ready_later : IsFirst hs None → (head : ℕ) → IsNextRelease cs (Some head) → IsReady ws clock head
     ready_later none head (c, n) = inr (inl (record {
@@ -184,28 +158,16 @@ module _ (ws : List Work) (clock : ℕ) (cs : List Coming) (hs : List Waiting) (
           n.least
           in let h = s.2.0.head in let l = s.2.1
           in let e = ap (λ (j : ℕ). (work_at ws j).triple.head) s.1 in omega arith);
-      reason = (let a = all-top coming_place (IsToCome ws) cs c n.some n.top q.coming
-          in (c.1, a.here, coming_undone c n.some n.top, sym a.head ∙ n.is));
+      reason = grind (arith, all-top, times-top, undone_since);
     }))
 
     pub ready_done : IsFirst hs None → IsNextRelease cs None → IsReady ws clock clock
-    ready_done none over = inr (inr (
-      λ k here. (let o = q.once k here in let a = times-none waiting_place k hs none
-          in let b = times-none coming_place k cs over in done_since (work_at ws k) (omega arith)),
-      refl,
-    ))
+    ready_done none over = grind (arith, times-none)
 
     -- when a turn stops
     pub stops : (r : Option ℕ) (end stop : ℕ) → IsNextRelease cs r → clock ≤ end
         → MatchOption r (stop ≡ end) (λ head. stop ≡ min head end) → IsStop (length ws) ws clock end stop
-    stops None end stop over after e = record {
-      later = omega arith;
-      by_end = omega arith;
-      by_release = λ k here late. absurd (let o = q.once k here
-          in let u = count_undone (work_at ws k) (not_done k here late)
-          in let a = not_waiting k late in let b = times-none coming_place k cs over in omega arith);
-      reason = inl e;
-    }
+    stops None end stop over after e = grind (arith, count_undone, not_done, not_waiting, times-none)
     stops (Some head) end stop (c, n) after e =
         let a = all-top coming_place (IsToCome ws) cs c n.some n.top q.coming
         in let l = all-top coming_place (λ d. clock < d.0.0) cs c n.some n.top later
@@ -217,10 +179,7 @@ module _ (ws : List Work) (clock : ℕ) (cs : List Coming) (hs : List Waiting) (
               (λ d. head ≤ d.0.0) n.least
               in let g = s.2.0.head in let m = s.2.1
               in let t = ap (λ (j : ℕ). (work_at ws j).triple.head) s.1 in omega arith);
-          reason = elim (cases_lt end head) [
-            | inl less ↦ inl (omega arith)
-            | inr more ↦ inr (c.1, a.here, omega arith, omega arith)
-          ];
+          reason = grind (arith, cases_lt end head);
         }
 
 pub first_none : (hs : List Waiting) (r : Option ℕ) → IsFirst hs r → is_some r ≡ false → IsFirst hs None
@@ -236,45 +195,20 @@ taken_here ws clock cs rest hs k q t = subst (λ (j : ℕ). j < length ws) t.3
 -- a later clock, and a work that is served
 pub queued_later : (ws : List Work) (clock later : ℕ) (cs : List Coming) (hs : List Waiting)
     → AreQueued ws clock cs hs → clock ≤ later → AreQueued ws later cs hs
-queued_later ws clock later cs hs q more = record {
-  coming = q.coming;
-  waiting = λ i d l. let a = q.waiting i d l in let r = a.released
-      in record { here = a.here; tail = a.tail; released = omega arith };
-  once = q.once;
-  passed = λ k here done. let a = q.passed k here done in omega arith;
-}
+queued_later ws clock later cs hs q more = grind arith
 
 module _ (ws : List Work) (i : ℕ) (v : Work) (lt : i < length ws) (same : v.triple ≡ (work_at ws i).triple) where
   set_coming : (c : Coming) → IsToCome ws c → IsToCome (set ws i v) c
-  set_coming c a = record {
-    here = let h = a.here in omega (arith, length-set ws i v);
-    head = a.head ∙ sym (ap (λ (t : Triple). t.head) (triple_at ws i v lt same c.1));
-  }
+  set_coming c a = grind (arith, length-set, triple_at)
 
   set_waiting : (clock : ℕ) (h : Waiting) → IsInLine ws clock h → IsInLine (set ws i v) clock h
-  set_waiting clock h a = let e = triple_at ws i v lt same h.1.0 in record {
-    here = let l = a.here in omega (arith, length-set ws i v);
-    tail = a.tail ∙ sym (ap (λ (t : Triple). t.tail) e);
-    released = let r = a.released in let f = ap (λ (t : Triple). t.head) e in omega arith;
-  }
+  set_waiting clock h a = grind (arith, triple_at, length-set)
 
   -- an operation that is held back
   pub queued_held : (clock : ℕ) (cs : List Coming) (hs : List Waiting) → AreQueued ws clock cs hs
       → v.done ≡ (work_at ws i).done → AreQueued (set ws i v) clock cs hs
-  queued_held clock cs hs q done = record {
-    coming = λ j d l. set_coming (get_or cs j d) (q.coming j d l);
-    waiting = λ j d l. set_waiting clock (get_or hs j d) (q.waiting j d l);
-    once = λ k here. let o = q.once k (omega (arith, length-set ws i v))
-        in o ∙ ap (λ (b : Bool). cond {A = ℕ} b 0 1) (sym (done_at k));
-    passed = λ k here was. let p = q.passed k (omega (arith, length-set ws i v)) (sym (done_at k) ∙ was)
-        in let f = ap (λ (t : Triple). t.head) (triple_at ws i v lt same k) in omega arith;
-  } where
-    done_at : (k : ℕ) → (work_at (set ws i v) k).done ≡ (work_at ws k).done
-    done_at k = elim (cases_eq k i) [
-      | inl e ↦ subst (λ (j : ℕ). (work_at (set ws i v) j).done ≡ (work_at ws j).done) (sym e)
-          (ap (λ (w : Work). w.done) (get_or-set_same ws i v no_work lt) ∙ done)
-      | inr ne ↦ ap (λ (w : Work). w.done) (get_or-set_other ws i k v no_work ne)
-    ]
+  queued_held clock cs hs q done =
+      grind (arith, set_coming, set_waiting, length-set, triple_at, cases_eq, get_or-set_same, get_or-set_other)
 
   -- the first, once it has ended
   pub queued_done : (clock : ℕ) (cs : List Coming) (hs rest : List Waiting) → AreQueued ws clock cs hs
@@ -292,13 +226,8 @@ module _ (ws : List Work) (i : ℕ) (v : Work) (lt : i < length ws) (same : v.tr
     once_after k here =
         let o = q.once k here in let m = times-permutation waiting_place k hs (h ∷ rest) p
         in elim (cases_eq k i) [
-          | inl e ↦ (let t = times-here waiting_place k h rest (is ∙ sym e)
-              in let w : work_at (set ws i v) k ≡ v =
-              ap (λ (j : ℕ). work_at (set ws i v) j) e ∙ get_or-set_same ws i v no_work lt
-              in let z = count_done (work_at (set ws i v) k) (ap (λ (x : Work). x.done) w ∙ done)
-              in let b = undone_of-one (work_at ws k) in omega arith)
-          | inr ne ↦ (let t = times-other waiting_place k h rest (λ f. ne (sym f ∙ is))
-              in let w = ap undone_of (get_or-set_other ws i k v no_work ne) in omega arith)
+          | inl e ↦ grind (arith, times-here, get_or-set_same, count_done, undone_of-one)
+          | inr ne ↦ grind (arith, times-other, get_or-set_other)
         ]
 
     passed_after : (k : ℕ) → k < length ws → (work_at (set ws i v) k).done ≡ true
@@ -399,14 +328,9 @@ listed_more ts n cs more c a p is head = record {
 pub queued_all : (ts : List Triple) (n : ℕ) (cs : List Coming) → n ≡ length ts → AreListed ts n cs
     → AreQueued (map fresh ts) 0 cs []
 queued_all ts n cs whole a = record {
-  coming = λ k d l. let e = a.each k d l in let b = e.0 in record {
-    here = omega (arith, length-map ts fresh);
-    head = e.1 ∙ sym (ap (λ (t : Triple). t.head) (fresh_at ts (get_or cs k d).1));
-  };
+  coming = λ k d l. grind (arith, length-map, fresh_at);
   waiting = λ k d l. absurd (omega arith);
-  once = λ k l. let o = a.once k (omega (arith, length-map ts fresh))
-      in let z = times-none waiting_place k [] refl
-      in let u = count_undone (work_at (map fresh ts) k) (fresh-undone ts k) in omega arith;
+  once = λ k l. grind (arith, length-map, times-none, count_undone, fresh-undone);
   passed = λ k l done. absurd (true≢false (sym done ∙ fresh-undone ts k));
 } where
   fresh_at : (ts : List Triple) (k : ℕ) → (work_at (map fresh ts) k).triple ≡ get_or ts k no_triple
@@ -415,6 +339,4 @@ queued_all ts n cs whole a = record {
   fresh_at (t ∷ ts) (suc k) = fresh_at ts k
 
 pub room_kept : (a b c : Queue) → KeepsRoom a b → KeepsRoom b c → KeepsRoom a c
-room_kept a b c h k =
-    let x = h.coming in let y = k.coming in let u = h.waiting in let v = k.waiting
-    in record { coming = omega arith; waiting = omega arith }
+room_kept a b c h k = grind arith

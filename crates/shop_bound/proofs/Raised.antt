@@ -1,6 +1,5 @@
 -- Lists of operations whose heads are raised, and from which one is taken.
-use Rattle.std.proofs.Common.{◌≡◌, ℕ, ◌+◌, ◌≤◌, ◌⊎◌, inl, inr, List, [], ◌∷◌, ◌++◌}
-use Rattle.std.proofs.Common.{eqb, refl, sym, ◌∙◌, ap, arith}
+use Rattle.std.proofs.Common.{◌≡◌, ℕ, ◌+◌, ◌≤◌, ◌⊎◌, inl, inr, List, [], ◌∷◌, ◌++◌, eqb, refl, sym, ◌∙◌, ap, arith}
 use Rattle.std.specs.List.{AllByRecursion, sum_by}
 use Rattle.std.proofs.lemmas.Bool.{cases_Bool}
 use Rattle.std.proofs.lemmas.List.Sums.{sum_by-cons}
@@ -56,14 +55,11 @@ raised_times (x ∷ xs) (y ∷ ys) r =
 
 -- so no span falls
 span_raised : (xs ys : List Triple) → AreRaised xs ys → span_of xs ≤ span_of ys
-span_raised xs ys r =
-    let a = raised_heads xs ys r in let b = raised_tails xs ys r in let c = raised_times xs ys r in omega arith
+span_raised xs ys r = grind (arith, raised_heads, raised_tails, raised_times)
 
 pub sublist_raised-le : {us xs : List Triple} → IsSublist us xs → (ys : List Triple) → AreRaised xs ys
     → span_of us ≤ one ys
-sublist_raised-le {us = us} s ys r =
-    let t = raised_sublist s ys r
-    in let a = span_raised us t.0 t.2 in let b = le-greatest_sublist span_of t.1 in omega arith
+sublist_raised-le {us = us} s ys r = grind (arith, raised_sublist, span_raised, le-greatest_sublist)
 
 pub one_raised : (xs ys : List Triple) → AreRaised xs ys → one xs ≤ one ys
 one_raised xs ys r = grind (arith, greatest_of-le, all_map, sublist_raised-le, sublists-are)
@@ -79,12 +75,7 @@ record HasTaken {A : Type 0} (z : A) (us xs : List A) : Type 0 where
 taken : {A : Type 0} (z : A) (fronts backs us : List A) → IsSublist us (fronts ++ z ∷ backs)
     → IsSublist us (fronts ++ backs) ⊎ HasTaken z us (fronts ++ backs)
 taken z [] backs us (skip x s) = inl s
-taken z [] backs us (keep {ys = vs} x s) = inr (record {
-  others = vs;
-  sub = s;
-  sums = λ f. (let a = sum_by-cons f z vs in omega arith);
-  all = λ f b h. h;
-})
+taken z [] backs us (keep {ys = vs} x s) = grind (arith, sum_by-cons)
 taken z (a ∷ fronts) backs us (skip x s) = elim (taken z fronts backs us s) [
   | inl t ↦ inl (skip a t)
   | inr t ↦ inr (record { others = t.others; sub = skip a t.sub; sums = t.sums; all = t.all })
@@ -164,9 +155,4 @@ pub raised_on : (m : ℕ) (xs ys : List Waiting) → WaitRaised xs ys → AreRai
 raised_on m [] [] r = tt
 raised_on m [] (y ∷ ys) r = absurd r
 raised_on m (x ∷ xs) [] r = absurd r
-raised_on m (x ∷ xs) (y ∷ ys) r =
-    let same : eqb x.machine m ≡ eqb y.machine m = ap (λ (n : ℕ). eqb n m) r.0
-    in elim (cases_Bool (eqb x.machine m)) [
-      | inl e ↦ (let f = sym same ∙ e in rw (e, f) (r.1, r.2, r.3, raised_on m xs ys r.4))
-      | inr e ↦ (let f = sym same ∙ e in rw (e, f) (raised_on m xs ys r.4))
-    ]
+raised_on m (x ∷ xs) (y ∷ ys) r = grind (arith, cases_Bool, raised_on m xs ys r.4)

@@ -10,8 +10,7 @@ use Rattle.std.proofs.lemmas.List.Elements.{filter_agree, filter_passes, recursi
 use Rattle.std.proofs.lemmas.List.Sums.{sum_by-cons}
 use Rattle.shop_model.specs.declared.ops.Op.{Op}
 use Rattle.shop_model.specs.Limits.{IsWithinLimits}
-use Rattle.shop_model.specs.Shop.{Shop, IsOperation, no_op, route_of, machine_of, time_of, finish_of}
-use Rattle.shop_model.specs.Shop.{greatest_below}
+use Rattle.shop_model.specs.Shop.{Shop, IsOperation, no_op, route_of, machine_of, time_of, finish_of, greatest_below}
 use Rattle.shop_model.specs.Word.{Placing, IsWord, placing, place_next}
 use Rattle.shop_model.proofs.Greatest.{le-greatest_below, greatest_below-le}
 use Rattle.shop_model.proofs.Placings.{IsNext, place_next-is, each_placed}
@@ -27,13 +26,6 @@ use Rattle.shop_bound.proofs.BoundLaw.{front_of}
 use Rattle.shop_bound.proofs.Lists.{all_append, all_filter, all_map}
 use Rattle.shop_bound.proofs.PlacedEnds.{le-placed_end, placed_end-le}
 use Rattle.shop_bound.proofs.UnplacedTurns.{first_on, first_off, triples_on-append}
-
--- two tests whether numbers are equal have one answer, if both pairs are equal or neither is
-eqb_same : (a b c d : ℕ) → (a ≡ b) ↔ (c ≡ d) → eqb a b ≡ eqb c d
-eqb_same a b c d h = elim (eqb_tells c d) [
-  | inl e ↦ eq-eqb a b (h.1 e.1) ∙ sym e.0
-  | inr e ↦ ne_eqb a b (λ f. e.1 (h.0 f)) ∙ sym e.0
-]
 
 -- lists that agree place by place
 zip_from : {A : Type 0} (R : A → A → Type 0) (d : A) (xs ys : List A) → length ys ≡ length xs
@@ -78,10 +70,8 @@ module _ (f g : ℕ → ℕ) (m n : ℕ) where
       in let here : head ≡ max r (g p.machine) = ap (max r) (sym h.0.1)
       in let rest = walk_same j (k + 1) (head + o.time) os ps h.1
       in elim (cases_eq o.machine m) [
-        | inl e ↦ first_on n g j k r p ps head here (h.0.2.1 e)
-            ∙ (rw (time, tail, rest) (sym (first_on m f j k r o os head refl e)))
-        | inr ne ↦ first_off n g j k r p ps head here (λ e. ne (h.0.2.0 e))
-            ∙ (rw (time, rest) (sym (first_off m f j k r o os head refl ne)))
+        | inl e ↦ grind (arith, first_on)
+        | inr ne ↦ grind (arith, first_off)
       ]
 
 -- An operation that waits is one of the instance, on its machine.
@@ -101,10 +91,7 @@ known_walk shop free j k r (o ∷ os) e =
 known_jobs : (shop : Shop) (p : Placing) (js : List ℕ)
     → AllByRecursion (IsKnown shop) (flat_map (λ j. waiting_of shop p j) js)
 known_jobs shop p [] = tt
-known_jobs shop p (j ∷ js) =
-    all_append (IsKnown shop) (waiting_of shop p j) (flat_map (λ j. waiting_of shop p j) js)
-    (known_walk shop p.free j (p.steps j) (p.ready j) (drop (p.steps j) (route_of shop j)) refl)
-    (known_jobs shop p js)
+known_jobs shop p (j ∷ js) = grind (arith, all_append, known_walk, known_jobs shop p js)
 
 -- Placings of two instances that agree on the jobs, on what is placed, and on when the machine of each operation is
 -- free.
@@ -119,55 +106,16 @@ module _ (shop other : Shop) (same : IsRenumbered shop other) where
   operation_back j k op = let a = same.steps j in omega arith
 
   pub renumbered_back : IsRenumbered other shop
-  renumbered_back = record {
-    jobs = sym same.jobs;
-    releases = λ j. sym (same.releases j);
-    steps = λ j. sym (same.steps j);
-    times = λ j k. sym (same.times j k);
-    together = λ j k i l o p.
-        let t = same.together j k i l (operation_back j k o) (operation_back i l p) in (t.1, t.0);
-  }
+  renumbered_back = grind (arith, operation_back)
 
   -- one more step of job i
   module _ (p q : Placing) (agree : Agree shop other p q) (i : ℕ) (op : IsOperation shop i (p.steps i))
       (r s : Placing) (n : IsNext shop p i r) (o : IsNext other q i s) where
-    start_same : s.begins i (p.steps i) ≡ r.begins i (p.steps i)
-    start_same =
-        let a = subst (λ (k : ℕ). s.begins i k ≡ max (q.ready i) (q.free (machine_of other i k))) (agree.steps i)
-        o.begins_here
-        in let b = n.begins_here in let c = agree.ready i in let d = agree.free i (p.steps i) op in omega arith
-
-    finish_same : finish_of other s.begins i (q.steps i) ≡ finish_of shop r.begins i (p.steps i)
-    finish_same = subst (λ (k : ℕ). finish_of other s.begins i k ≡ finish_of shop r.begins i (p.steps i))
-        (sym (agree.steps i)) (let a = start_same in let b = same.times i (p.steps i) in omega arith)
-
     its_machine : machine_of other i (q.steps i) ≡ machine_of other i (p.steps i)
     its_machine = ap (machine_of other i) (agree.steps i)
 
     agree_next : Agree shop other r s
-    agree_next = record {
-      steps = λ j. elim (cases_eq j i) [
-        | inl e ↦ subst (λ (x : ℕ). s.steps x ≡ r.steps x) (sym e)
-            (let a = n.steps_here in let b = o.steps_here in let c = agree.steps i in omega arith)
-        | inr ne ↦ o.steps_other j ne ∙ (agree.steps j ∙ sym (n.steps_other j ne))
-      ];
-      ready = λ j. elim (cases_eq j i) [
-        | inl e ↦ subst (λ (x : ℕ). s.ready x ≡ r.ready x) (sym e) (o.ready_here ∙ (finish_same ∙ sym n.ready_here))
-        | inr ne ↦ o.ready_other j ne ∙ (agree.ready j ∙ sym (n.ready_other j ne))
-      ];
-      begins = each_placed shop p i r n (λ a l. s.begins a l ≡ r.begins a l)
-          (λ a l h. o.begins_old a l (let b = agree.steps a in omega arith)
-          ∙ (agree.begins a l h ∙ sym (n.begins_old a l h)))
-          start_same;
-      free = λ j k is.
-          let t = same.together j k i (p.steps i) is op
-          in elim (cases_eq (machine_of shop j k) (machine_of shop i (p.steps i))) [
-            | inl e ↦ o.free_here (machine_of other j k) (t.1 e ∙ sym its_machine)
-                ∙ (finish_same ∙ sym (n.free_here (machine_of shop j k) e))
-            | inr ne ↦ o.free_other (machine_of other j k) (λ f. ne (t.0 (f ∙ its_machine)))
-                ∙ (agree.free j k is ∙ sym (n.free_other (machine_of shop j k) ne))
-          ];
-    }
+    agree_next = grind (arith, cases_eq, each_placed, its_machine)
 
   -- the placings of a word agree
   agree_word : (w : List ℕ) → IsWord shop w → Agree shop other (placing shop w) (placing other w)
@@ -190,10 +138,7 @@ module _ (shop other : Shop) (same : IsRenumbered shop other) where
 
   module _ (p q : Placing) (agree : Agree shop other p q) where
     ends_same : placed_end other q ≤ placed_end shop p
-    ends_same = placed_end-le other q (placed_end shop p)
-        (λ j k job step.
-        let a = agree.steps j in let b = agree.begins j k (omega arith) in let c = same.times j k
-        in let d = same.jobs in let e = le-placed_end shop p j k (omega arith) (omega arith) in omega arith)
+    ends_same = grind (arith, placed_end-le, le-placed_end)
 
     -- what waits for the machine of an operation
     module _ (a b : ℕ) (op : IsOperation shop a b) where
@@ -218,14 +163,7 @@ module _ (shop other : Shop) (same : IsRenumbered shop other) where
           → triples_on (machine_of other a b) (flat_map (λ j. waiting_of other q j) js)
           ≡ triples_on (machine_of shop a b) (flat_map (λ j. waiting_of shop p j) js)
       waiting_for_same [] = refl
-      waiting_for_same (j ∷ js) =
-          let rest = flat_map (λ j. waiting_of shop p j) js
-          in let other_rest = flat_map (λ j. waiting_of other q j) js
-          in triples_on-append (machine_of other a b) (waiting_of other q j) other_rest
-          ∙ (ap (λ (xs : List Triple). xs ++ triples_on (machine_of other a b) other_rest) (waiting_of_same j)
-          ∙ (ap (λ (xs : List Triple). triples_on (machine_of shop a b) (waiting_of shop p j) ++ xs)
-          (waiting_for_same js)
-          ∙ sym (triples_on-append (machine_of shop a b) (waiting_of shop p j) rest)))
+      waiting_for_same (j ∷ js) = grind (arith, triples_on-append, waiting_of_same, waiting_for_same js)
 
       triples_same : triples_on (machine_of other a b) (waiting other q)
           ≡ triples_on (machine_of shop a b) (waiting shop p)
@@ -245,11 +183,7 @@ module _ (shop other : Shop) (same : IsRenumbered shop other) where
             → AllByRecursion (λ x. IsOperation other x.job x.step × (machine_of other x.job x.step ≡ m)) ws
             → one (triples_on m (waiting other q)) ≤ b
         of_list [] e h = rw e (omega arith)
-        of_list (x ∷ ws) e h =
-            let op = operation_back x.job x.step h.0.0
-            in let a = each (machine_of shop x.job x.step) (limits.on_machines x.job x.step)
-            in subst (λ (m : ℕ). one (triples_on m (waiting other q)) ≤ b) h.0.1
-            (rw (triples_same x.job x.step op) a)
+        of_list (x ∷ ws) e h = grind (arith, operation_back, triples_same)
 
     bound_within : IsWithinLimits shop
         → max (placed_end other q) (greatest_below other.machines (λ m. one (triples_on m (waiting other q))))
@@ -266,47 +200,20 @@ module _ (shop other : Shop) (same : IsRenumbered shop other) where
     abbrev IsOpen : ℕ → Type 0
     IsOpen j = IsOperation shop j (p.steps j)
 
-    open_same : open_jobs other q ≡ open_jobs shop p
-    open_same = rw same.jobs
-        (filter_agree (λ j. ltb (q.steps j) (length (route_of other j)))
-        (λ j. ltb (p.steps j) (length (route_of shop j)))
-        (λ j. rw (agree.steps j, same.steps j) refl) (range_with_len 0 (length shop.jobs)))
-
     all_open : AllByRecursion IsOpen (open_jobs shop p)
-    all_open =
-        all_map (λ j. ltb (p.steps j) (length (route_of shop j)) ≡ true) IsOpen
-        (λ j h. ltb-true (p.steps j) (length (route_of shop j)) h) (open_jobs shop p)
-        (recursion_from_All (λ j. ltb (p.steps j) (length (route_of shop j)) ≡ true) (open_jobs shop p)
-        (filter_passes (λ j. ltb (p.steps j) (length (route_of shop j))) (range_with_len 0 (length shop.jobs))))
+    all_open = grind (arith, all_map, ltb-true, recursion_from_All, filter_passes)
 
     head_same : (j : ℕ) → IsOpen j → next_head other q j ≡ next_head shop p j
     head_same j left = rw (agree.steps j, agree.ready j, agree.free j (p.steps j) left) refl
-
-    end_same : (j : ℕ) → IsOpen j → next_end other q j ≡ next_end shop p j
-    end_same j left =
-        let a = head_same j left
-        in let b : time_of other j (q.steps j) ≡ time_of shop j (p.steps j) =
-        ap (time_of other j) (agree.steps j) ∙ same.times j (p.steps j)
-        in omega arith
 
     -- the job that is chosen
     chosen_same : (j : ℕ) (js : List ℕ) → IsOpen j → AllByRecursion IsOpen js
         → (chosen_of other q j js ≡ chosen_of shop p j js) × IsOpen (chosen_of shop p j js)
     chosen_same j [] left h = (refl, left)
-    chosen_same j (i ∷ js) left h = rw (end_same i h.0, end_same j left)
-        (elim (cases_Bool (ltb (next_end shop p i) (next_end shop p j))) [
-          | inl e ↦ rw e (chosen_same i js h.0 h.1)
-          | inr e ↦ rw e (chosen_same j js left h.1)
-        ])
+    chosen_same j (i ∷ js) left h = grind (arith, chosen_same i js h.0 h.1, chosen_same j js left h.1)
 
     conflicts_same : (c i : ℕ) → IsOpen c → IsOpen i → conflicts_with other q c i ≡ conflicts_with shop p c i
-    conflicts_same c i left is =
-        let machine : eqb (next_machine other q i) (next_machine other q c)
-        ≡ eqb (next_machine shop p i) (next_machine shop p c) =
-        rw (agree.steps i, agree.steps c)
-        (eqb_same (machine_of other i (p.steps i)) (machine_of other c (p.steps c)) (machine_of shop i (p.steps i))
-        (machine_of shop c (p.steps c)) (same.together i (p.steps i) c (p.steps c) is left))
-        in rw (machine, head_same i is, end_same c left) refl
+    conflicts_same c i left is = grind (arith, head_same, eqb_tells, eq-eqb, ne_eqb)
 
     conflict_same : (js : List ℕ) → AllByRecursion IsOpen js → conflict_among other q js ≡ conflict_among shop p js
     conflict_same [] h = refl
@@ -326,19 +233,13 @@ module _ (shop other : Shop) (same : IsRenumbered shop other) where
   bound-le w limits word = bound_within (placing shop w) (placing other w) (agree_word w word) limits
 
   pub conflicts_alike : (w : List ℕ) → IsWord shop w → conflict other w ≡ conflict shop w
-  conflicts_alike w word =
-      let p = placing shop w
-      in let q = placing other w
-      in let agree = agree_word w word
-      in rw (open_same p q agree) (conflict_same p q agree (open_jobs shop p) (all_open p q agree))
+  conflicts_alike w word = grind (arith, agree_word, conflict_same, all_open, filter_agree)
 
 pub numbers_alike : NumbersDontMatter
 numbers_alike shop other limits other_limits same =
     let back = renumbered_back shop other same
     in record {
       words = λ w. (word_back other shop back w, word_back shop other same w);
-      bounds = λ w word.
-          let a = bound-le shop other same w limits word
-          in let b = bound-le other shop back w other_limits (word_back other shop back w word) in omega arith;
+      bounds = λ w word. grind (arith, bound-le, word_back);
       conflicts = conflicts_alike shop other same;
     }

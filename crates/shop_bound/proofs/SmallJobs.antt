@@ -12,5 +12,4 @@ last_of P (i ∷ w) j all = last_of P w j all.1
 
 pub small_last : (shop : Shop) (w : List ℕ) (j : ℕ) → IsWithinLimits shop → IsWord shop (w ++ j ∷ []) → j < 65536
 small_last shop w j limits word =
-    let a = limits.jobs in let b = last_of (λ i. i < length shop.jobs) w j (jobs_below shop (w ++ j ∷ []) word)
-    in omega arith
+    grind (arith, limits.jobs, last_of (λ i. i < length shop.jobs) w j (jobs_below shop (w ++ j ∷ []) word))

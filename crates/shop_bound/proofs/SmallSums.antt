@@ -66,9 +66,7 @@ module _ (shop : Shop) (limits : IsWithinLimits shop) (w : List ℕ) (word : IsW
       (flat_map (λ j. waiting_of shop (placing shop w) j) js)
   unfolding AreSmall
   jobs_small [] = tt
-  jobs_small (j ∷ js) =
-      all_append (λ x. IsSmallTriple 100101000000000 100000000000 x.triple) (waiting_of shop (placing shop w) j)
-      (flat_map (λ j. waiting_of shop (placing shop w) j) js) (job_small j) (jobs_small js)
+  jobs_small (j ∷ js) = grind (arith, all_append, job_small, jobs_small js)
 
   jobs_few : (a n : ℕ) → length (flat_map (λ j. waiting_of shop (placing shop w) j) (range_with_len a n)) ≤ n * 100
   jobs_few a zero = omega arith

@@ -22,8 +22,7 @@ module _ {A : Type 0} where
   pub greatest_of-more : (f : A → ℕ) (xs : List A) (n : ℕ) (d : A) → n < length xs
       → greatest_of f (take (n + 1) xs) ≡ max (greatest_of f (take n xs)) (f (get_or xs n d))
   greatest_of-more f xs n d here =
-      let a = ap (greatest_of f) (take_more xs n d here)
-      in let b = greatest_of-append f (take n xs) (get_or xs n d ∷ []) in omega arith
+      grind (arith, take_more xs n d here, greatest_of-append f (take n xs) (get_or xs n d ∷ []))
 
   keep_all : (x : A) (xs : List A) (Xs : List (List A)) → AllByRecursion (λ ys. IsSublist ys xs) Xs
       → AllByRecursion (λ ys. IsSublist ys (x ∷ xs)) (map (λ ys. x ∷ ys) Xs)
@@ -32,18 +31,11 @@ module _ {A : Type 0} where
 
   pub sublists-are : (xs : List A) → AllByRecursion (λ ys. IsSublist ys xs) (sublists xs)
   sublists-are [] = (none, tt)
-  sublists-are (x ∷ xs) = all_append (λ ys. IsSublist ys (x ∷ xs)) (sublists xs) (map (λ ys. x ∷ ys) (sublists xs))
-      (all_map (λ ys. IsSublist ys xs) (λ ys. IsSublist ys (x ∷ xs)) (λ ys s. skip x s) (sublists xs)
-      (sublists-are xs))
-      (keep_all x xs (sublists xs) (sublists-are xs))
+  sublists-are (x ∷ xs) = grind (arith, all_append, all_map, skip, keep_all, sublists-are xs)
 
   pub sublist_filter : (test : A → Bool) (xs : List A) → IsSublist (filter test xs) xs
   sublist_filter test [] = none
-  sublist_filter test (x ∷ xs) = elim (cases_Bool (test x)) [
-    | inl e ↦ rw e (keep x (sublist_filter test xs))
-    | inr e ↦
-        rw e (skip x (sublist_filter test xs))
-  ]
+  sublist_filter test (x ∷ xs) = grind (arith, cases_Bool, keep, skip, sublist_filter test xs)
 
   -- what passes of a sublist is a sublist of what passes
   pub sublist_of_filter : (test : A → Bool) {ys xs : List A} → IsSublist ys xs → AllByRecursion (λ y. test y ≡ true) ys
@@ -56,8 +48,7 @@ module _ {A : Type 0} where
   pub sublist_sum : (f : A → ℕ) {ys xs : List A} → IsSublist ys xs → sum_by f ys ≤ sum_by f xs
   sublist_sum f none = omega arith
   sublist_sum f (skip {ys = us} {xs = vs} x s) = let a = sublist_sum f s in let b = sum_by-cons f x vs in omega arith
-  sublist_sum f (keep {ys = us} {xs = vs} x s) =
-      let a = sublist_sum f s in let b = sum_by-cons f x vs in let c = sum_by-cons f x us in omega arith
+  sublist_sum f (keep {ys = us} {xs = vs} x s) = grind (arith, sum_by-cons, sublist_sum f s)
 
   pub sublist_length : {ys xs : List A} → IsSublist ys xs → length ys ≤ length xs
   sublist_length none = omega arith
@@ -66,8 +57,7 @@ module _ {A : Type 0} where
 
   all_pass : (test : A → Bool) (xs : List A) → AllByRecursion (λ x. test x ≡ true) (filter test xs)
   all_pass test [] = tt
-  all_pass test (x ∷ xs) =
-      elim (cases_Bool (test x)) [ inl e ↦ rw e (e, all_pass test xs) | inr e ↦ rw e (all_pass test xs) ]
+  all_pass test (x ∷ xs) = grind (arith, cases_Bool, all_pass test xs)
 
   pub sublist_at : {ys xs : List A} → IsSublist ys xs → (i : ℕ) → i < length ys
       → (k : ℕ) × (k < length xs) × ((d : A) → get_or xs k d ≡ get_or ys i d)
@@ -91,8 +81,7 @@ greatest_of-map g f (x ∷ xs) = ap (max (f (g x))) (greatest_of-map g f xs)
 pub le-greatest_sublist : {A : Type 0} (f : List A → ℕ) {ys xs : List A} → IsSublist ys xs
     → f ys ≤ greatest_of f (sublists xs)
 le-greatest_sublist f none = omega arith
-le-greatest_sublist f (skip {ys = us} {xs = vs} x s) = let a = le-greatest_sublist f s in let b =
-    greatest_of-append f (sublists vs) (map (λ zs. x ∷ zs) (sublists vs)) in omega arith
+le-greatest_sublist f (skip {ys = us} {xs = vs} x s) = grind (arith, greatest_of-append, le-greatest_sublist f s)
 le-greatest_sublist f (keep {ys = us} {xs = vs} x s) =
     let a = le-greatest_sublist (λ zs. f (x ∷ zs)) s
     in let b = greatest_of-append f (sublists vs) (map (λ zs. x ∷ zs) (sublists vs))
@@ -101,12 +90,10 @@ le-greatest_sublist f (keep {ys = us} {xs = vs} x s) =
 -- where something is above the thresholds
 pub span_above-some : (ts : List Triple) (head tail : ℕ) → 0 < length (filter (is_above head tail) ts)
     → span_above ts head tail ≡ head + sum_by (λ t. t.time) (filter (is_above head tail) ts) + tail
-span_above-some ts head tail h = elim (eqb_tells (length (filter (is_above head tail) ts)) 0)
-    [ inl e ↦ absurd (let a = e.1 in omega arith) | inr e ↦ rw e.0 ]
+span_above-some ts head tail h = grind (arith, eqb_tells)
 
 pub is_above-from : (head tail : ℕ) (t : Triple) → head ≤ t.head → tail ≤ t.tail → is_above head tail t ≡ true
-is_above-from head tail t h k =
-    and_from (leb head t.head) (leb tail t.tail) (le-leb head t.head h) (le-leb tail t.tail k)
+is_above-from head tail t h k = grind (arith, and_from, le-leb)
 
 pub is_above-true : (head tail : ℕ) (t : Triple) → is_above head tail t ≡ true → (head ≤ t.head) × (tail ≤ t.tail)
 is_above-true head tail t e = grind (arith, and_parts, leb-true)
@@ -191,12 +178,5 @@ least-le-greatest f (x ∷ []) = omega arith
 least-le-greatest f (x ∷ y ∷ ys) = let a = least-le-greatest f (y ∷ ys) in omega arith
 
 pub one-le-extent : (ts : List Triple) → one ts ≤ extent ts
-one-le-extent ts = grind (
-  arith,
-  greatest_of-le,
-  all_map,
-  least-le-greatest,
-  sublist_greatest,
-  sublist_sum,
-  sublists-are,
-)
+one-le-extent ts =
+    grind (arith, greatest_of-le, all_map, least-le-greatest, sublist_greatest, sublist_sum, sublists-are)

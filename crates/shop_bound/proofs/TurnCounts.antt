@@ -5,9 +5,7 @@ use Rattle.std.proofs.Math.ListN.{set}
 use Rattle.std.proofs.lemmas.Bool.Decides.{nat_tests}
 use Rattle.std.proofs.lemmas.List.Sums.{sum_by-cons, sum_by-set}
 use Rattle.shop_bound.specs.declared.works.Work.{Work}
-use Rattle.shop_bound.specs.inner.Serving.{no_work, work_at, IsFresh}
-use Rattle.shop_bound.specs.inner.Serving.{IsReady, turns_of, turns_left, undone_of}
-use Rattle.shop_bound.specs.inner.Serving.{undone}
+use Rattle.shop_bound.specs.inner.Serving.{no_work, work_at, IsFresh, IsReady, turns_of, turns_left, undone_of, undone}
 
 -- the turns left
 turn_of-le : (a b : ℕ) (w : Work) → a ≤ b → turns_of b w ≤ turns_of a w
@@ -15,9 +13,6 @@ turn_of-le a b w h = grind (arith, nat_tests)
 
 turn_of-release : (a b : ℕ) (w : Work) → a < w.triple.head → w.triple.head ≤ b → turns_of b w + 1 ≡ turns_of a w
 turn_of-release a b w l h = grind (arith, nat_tests)
-
-turn_of-two : (a : ℕ) (w : Work) → turns_of a w ≤ 2
-turn_of-two a w = grind arith
 
 pub turns_left-le : (ws : List Work) (a b : ℕ) → a ≤ b → turns_left ws b ≤ turns_left ws a
 unfolding turns_left
@@ -40,8 +35,7 @@ turns_left-release (w ∷ ws) a b (suc i) lt l h =
 pub turns_left-two : (ws : List Work) (a : ℕ) → turns_left ws a ≤ length ws + length ws
 unfolding turns_left
 turns_left-two [] a = omega arith
-turns_left-two (w ∷ ws) a =
-    let r = turns_left-two ws a in let x = sum_by-cons (turns_of a) w ws in let z = turn_of-two a w in omega arith
+turns_left-two (w ∷ ws) a = grind (arith, turns_left-two ws a, sum_by-cons (turns_of a) w ws)
 
 pub turns_left-same : (ws : List Work) (i a : ℕ) (v : Work) → i < length ws → v.triple ≡ (work_at ws i).triple
     → v.done ≡ (work_at ws i).done → turns_left (set ws i v) a ≡ turns_left ws a
@@ -65,8 +59,7 @@ undone_of-one w = grind arith
 
 pub undone-set : (ws : List Work) (i : ℕ) (v : Work) → i < length ws → undone ws ≤ undone (set ws i v) + 1
 unfolding undone
-undone-set ws i v lt =
-    let x = sum_by-set undone_of ws i v no_work lt in let a = undone_of-one (work_at ws i) in omega arith
+undone-set ws i v lt = grind (arith, sum_by-set undone_of ws i v no_work lt, undone_of-one (work_at ws i))
 
 pub undone-none : (ws : List Work) → ((k : ℕ) → k < length ws → (work_at ws k).done ≡ true) → undone ws ≡ 0
 unfolding undone

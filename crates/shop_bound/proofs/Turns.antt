@@ -10,15 +10,13 @@ use Rattle.shop_bound.specs.declared.works.Work.{Work}
 use Rattle.shop_bound.specs.OneMachine.{one, greatest_of, IsSmall}
 use Rattle.shop_bound.specs.inner.Thresholds.{is_above, span_above}
 use Rattle.shop_bound.specs.inner.Serving.{no_work, work_at, triples_of, Waits, IsFresh, fresh, IsServed, IsStop}
-use Rattle.shop_bound.specs.inner.Serving.{IsRelease, IsReady, worked, IsBusy, IsRun, turns_left}
-use Rattle.shop_bound.specs.inner.Serving.{undone}
+use Rattle.shop_bound.specs.inner.Serving.{IsRelease, IsReady, worked, IsBusy, IsRun, turns_left, undone}
 use Rattle.shop_bound.proofs.Lists.{get_or-le-greatest_of}
 use Rattle.shop_bound.proofs.ThresholdLemmas.{one-le, span_above-some, span_above-le, is_above-from, is_above-true}
 use Rattle.shop_bound.proofs.ThresholdLemmas.{sublist_sum, sublist_filter, greatest_of-map}
 use Rattle.shop_bound.proofs.WorkSums.{triple_at, triples-set, set_all, worked-set, some_above}
 use Rattle.shop_bound.proofs.WorkSums.{worked-le, worked-all, span_above-parts, worked-none, none_above}
-use Rattle.shop_bound.proofs.TurnCounts.{turns_left-le, turns_left-release, turns_left-same}
-use Rattle.shop_bound.proofs.TurnCounts.{turns_left-done}
+use Rattle.shop_bound.proofs.TurnCounts.{turns_left-le, turns_left-release, turns_left-same, turns_left-done}
 
 -- An operation that is served until the clock and d more: v is what becomes of it.
 pub record IsServing (ws : List Work) (clock i d : ℕ) (v : Work) : Type 0 where
@@ -167,9 +165,7 @@ module _ (ws : List Work) (clock best i d : ℕ) (v : Work) (run : IsRun ws cloc
         let e = triples-set ws i v s.same in record {
           spent = spent-after;
           done = done-after;
-          within = (let a = run.within in let b = worked-more 0 0 (omega arith) (omega arith)
-              in let c : greatest_of (λ t. t.head) (triples_of (set ws i v))
-              ≡ greatest_of (λ t. t.head) (triples_of ws) = ap (greatest_of (λ t. t.head)) e in omega arith);
+          within = grind (arith, worked-more);
           busy = busy-after quiet;
           no_sooner = no_sooner-after;
           ended = ended-after;
@@ -195,37 +191,13 @@ module _ (ws : List Work) (clock best i d : ℕ) (v : Work) (run : IsRun ws cloc
                 in let t = is_above-true head tail (work_at ws i).triple e
                 in let t0 = t.0 in let t1 = t.1
                 in omega arith)
-            | inr e ↦ (let h = run.ended head tail (λ j l y. elim (cases_eq j i) [
-              | inl q ↦ absurd (true≢false (sym y ∙ ap (λ (k : ℕ). is_above head tail (work_at ws k).triple) q ∙ e))
-              | inr ne ↦ (let x = all j (omega (arith, length-set ws i v))
-                  (ap (is_above head tail) (triple_at ws i v s.chosen.seen s.same j) ∙ y)
-                  in sym (ap (λ (w : Work). w.done) (get_or-set_other ws i j v no_work ne)) ∙ x)
-            ])
-                in subst (λ (ts : List Triple). span_above ts head tail ≤ later) (sym (triples-set ws i v s.same))
-                (omega arith))
+            | inr e ↦ grind (arith, cases_eq, true≢false, length-set, triple_at, get_or-set_other, triples-set)
           ]
 
 -- a jump over idle time
 pub jumped : (ws : List Work) (clock ready best : ℕ) → IsRun ws clock best → IsRelease (length ws) ws clock ready
     → IsRun ws ready best
-jumped ws clock ready best run r = record {
-  spent = run.spent;
-  done = run.done;
-  within = (let k = r.reason in let lt = k.1 in let e = k.3
-      in let g = get_or-le-greatest_of (λ (w : Work). w.triple.head) ws k.0 no_work lt
-      in let m = greatest_of-map (λ (w : Work). w.triple) (λ (t : Triple). t.head) ws in omega arith);
-  busy = λ (tail : ℕ). record {
-    from = ready;
-    before = omega arith;
-    waiting =
-        λ (i : ℕ) (w : Waits ws ready i) (_ : tail ≤ (work_at ws i).triple.tail). r.least i w.here w.undone;
-    enough =
-        omega arith;
-  };
-  no_sooner = λ (head tail : ℕ). let a = run.no_sooner head tail in let l = r.later in omega arith;
-  ended = run.ended;
-  reached = run.reached;
-}
+jumped ws clock ready best run r = grind (arith, get_or-le-greatest_of, greatest_of-map)
 
 -- where all are done the best is the bound
 pub all_done : (ws : List Work) (clock best : ℕ) → IsRun ws clock best
@@ -233,32 +205,13 @@ pub all_done : (ws : List Work) (clock best : ℕ) → IsRun ws clock best
 all_done ws clock best run all = grind (arith, one-le)
 
 pub started : (ws : List Work) → IsFresh ws → IsRun ws 0 0
-started ws fresh = record {
-  spent = λ (i : ℕ) (lt : i < length ws). let a = fresh.spent i lt in omega arith;
-  done = λ (i : ℕ) (lt : i < length ws) (d : (work_at ws i).done ≡ true).
-      absurd (true≢false (sym d ∙ fresh.undone i lt));
-  within = omega arith;
-  busy = λ (tail : ℕ). record {
-    from = 0;
-    before = omega arith;
-    waiting =
-        λ (i : ℕ) (w : Waits ws 0 i) (_ : tail ≤ (work_at ws i).triple.tail). omega arith;
-    enough = omega arith;
-  };
-  no_sooner = λ (head tail : ℕ). let a = worked-none head tail ws fresh.spent in omega arith;
-  ended = λ (head tail : ℕ) (all : (i : ℕ) → i < length ws → is_above head tail (work_at ws i).triple ≡ true
-      → (work_at ws i).done ≡ true).
-      let z = none_above (is_above head tail) ws fresh.undone all in let e : span_above (triples_of ws) head tail ≡ 0 =
-      rw z refl in omega arith;
-  reached = omega arith;
-}
+started ws fresh = grind (arith, true≢false, worked-none, none_above)
 
 -- what is ready after a turn
 pub ready_or_done : (ws : List Work) (clock ready : ℕ) → IsReady ws clock ready
     → ((k : ℕ) × Waits ws ready k) ⊎ ((k : ℕ) → k < length ws → (work_at ws k).done ≡ true)
 ready_or_done ws clock ready (inl w) = inl (w.0.0, subst (λ (t : ℕ). Waits ws t w.0.0) (sym w.1) w.0.1)
-ready_or_done ws clock ready (inr (inl r)) =
-    inl (let k = r.reason in (k.0, record { here = k.1; undone = k.2; released = (let e = k.3 in omega arith) }))
+ready_or_done ws clock ready (inr (inl r)) = grind arith
 ready_or_done ws clock ready (inr (inr d)) = inr d.0
 
 pub ready_run : (ws : List Work) (clock ready best : ℕ) → IsRun ws clock best → IsReady ws clock ready
@@ -297,12 +250,7 @@ left_of ws i = (work_at ws i).triple.time - (work_at ws i).spent
 serving_held : (ws : List Work) (clock best i stop : ℕ) → IsRun ws clock best → IsServed (length ws) ws clock i
     → IsStop (length ws) ws clock (clock + left_of ws i) stop
     → IsServing ws clock i (stop - clock) (held ws clock i stop)
-serving_held ws clock best i stop run c h = record {
-  chosen = c;
-  same = refl;
-  more = refl;
-  within = (let a = run.spent i c.seen in let b = h.by_end in let l = h.later in omega arith);
-}
+serving_held ws clock best i stop run c h = grind arith
 
 pub held_run : (ws : List Work) (clock best i stop : ℕ) → IsRun ws clock best → IsServed (length ws) ws clock i
     → IsStop (length ws) ws clock (clock + left_of ws i) stop
@@ -313,8 +261,7 @@ held_run ws clock best i stop run c h =
     (served_to_release ws clock best i (stop - clock) (held ws clock i stop) run
     (serving_held ws clock best i stop run c h)
     (record {
-      no_release = λ (k : ℕ) (lt : k < length ws) (r : clock < (work_at ws k).triple.head). let a =
-          h.by_release k lt r in omega arith;
+      no_release = λ (k : ℕ) (lt : k < length ws) (r : clock < (work_at ws k).triple.head). grind arith;
     }) refl)
 
 pub held_fewer : (ws : List Work) (clock i stop : ℕ) → IsServed (length ws) ws clock i
@@ -324,12 +271,7 @@ held_fewer ws clock i stop c h less = grind (arith, turns_left-same, turns_left-
 
 serving_finished : (ws : List Work) (clock best i : ℕ) → IsRun ws clock best → IsServed (length ws) ws clock i
     → IsServing ws clock i (left_of ws i) (finished ws i)
-serving_finished ws clock best i run c = record {
-  chosen = c;
-  same = refl;
-  more = (let a = run.spent i c.seen in omega arith);
-  within = omega arith;
-}
+serving_finished ws clock best i run c = grind arith
 
 pub finished_run : (ws : List Work) (clock best i stop : ℕ) → IsRun ws clock best → IsServed (length ws) ws clock i
     → IsStop (length ws) ws clock (clock + left_of ws i) stop
@@ -338,8 +280,7 @@ pub finished_run : (ws : List Work) (clock best i stop : ℕ) → IsRun ws clock
 finished_run ws clock best i stop run c h more =
     served_to_end ws clock best i (left_of ws i) (finished ws i) run (serving_finished ws clock best i run c)
     (record {
-      no_release = λ (k : ℕ) (lt : k < length ws) (r : clock < (work_at ws k).triple.head). let a =
-          h.by_release k lt r in omega arith;
+      no_release = λ (k : ℕ) (lt : k < length ws) (r : clock < (work_at ws k).triple.head). grind arith;
     }) refl
 
 pub finished_fewer : (ws : List Work) (clock i : ℕ) → IsServed (length ws) ws clock i

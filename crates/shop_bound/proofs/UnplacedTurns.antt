@@ -14,8 +14,7 @@ use Rattle.shop_model.specs.Word.{Placing}
 use Rattle.shop_model.proofs.Unders.{after_word}
 use Rattle.shop_bound.specs.declared.triples.Triple.{Triple}
 use Rattle.shop_bound.specs.Bound.{Waiting, waiting_from, waiting_of, triples_on}
-use Rattle.shop_bound.specs.Heads.{tail_in}
-use Rattle.shop_bound.specs.Heads.{AreTimesSmall}
+use Rattle.shop_bound.specs.Heads.{tail_in, AreTimesSmall}
 use Rattle.shop_model.specs.Placements.{PlacementState, IsPlacement}
 use Rattle.shop_bound.specs.inner.PlacedWords.{IsOfWord}
 use Rattle.shop_bound.specs.inner.Unplaced.{unplaced_from, CanGoOn}
@@ -63,8 +62,7 @@ module _ (m : ℕ) (free : List ℕ) (ready : ℕ) (rest : List Op) (k : ℕ) (b
 
   place : triples_on m (waiting_from (λ i. get_or free i 0) 0 1 (head + (get_or rest k no_op).time) (drop (k + 1) rest))
       ≡ unplaced_from m free (head + (get_or rest k no_op).time) (drop (k + 1) rest)
-  place = unplaced-same m (λ i. get_or free i 0) (λ i. get_or free i 0) 0 0 1 0 (head + (get_or rest k no_op).time)
-      (drop (k + 1) rest) (λ n _. refl)
+  place = grind (arith, unplaced-same)
 
   pub added_on : (get_or rest k no_op).machine ≡ m → (tail : ℕ) → tail ≡ tail_in rest k
       → ys ≡ xs ++ (record { head = head; time = (get_or rest k no_op).time; tail = tail }) ∷ []
@@ -78,47 +76,22 @@ module _ (m : ℕ) (free : List ℕ) (ready : ℕ) (rest : List Op) (k : ℕ) (b
 -- as many steps are placed as the route has, or fewer
 pub steps_within : (shop : Shop) (s : PlacementState) → IsOfWord shop s → (j : ℕ) → j < length shop.jobs
     → (n : ℕ) → n ≡ get_or s.steps j 0 → (route : List Op) → route ≡ route_of shop j → n ≤ length route
-steps_within shop s of j job n is route e =
-    let steps = of.placed.steps j job
-    in let counts = (after_word shop of.word of.fits).steps j
-    in let fits = of.fits j
-    in let long : length route ≡ length (route_of shop j) = ap (λ (xs : List Op). length xs) e in omega arith
+steps_within shop s of j job n is route e = grind (arith, after_word shop of.word of.fits)
 
 pub can_go_on : (shop : Shop) → IsWithinLimits shop → (s : PlacementState) → IsOfWord shop s → (j : ℕ)
     → j < length shop.jobs
     → (free : List ℕ) → free ≡ s.free → (ready : ℕ) → ready ≡ get_or s.ready j 0
     → (rest : List Op) → rest ≡ drop (get_or s.steps j 0) (route_of shop j) → CanGoOn free ready rest
 can_go_on shop limits s of j job free is_free ready is_ready rest e =
-    let n = get_or s.steps j 0
-    in let ends = ends_of_word shop limits s of
-    in let machines = of.placed.places.free
-    in let long : length free ≡ shop.machines = ap (λ (xs : List ℕ). length xs) is_free ∙ machines
-    in let op : (k : ℕ) → get_or rest k no_op ≡ op_of shop j (n + k) =
-    (λ k. ap (λ (xs : List Op). get_or xs k no_op) e ∙ get_or-drop n (route_of shop j) k no_op)
-    in record {
-      short = (let a : length rest ≡ length (drop n (route_of shop j)) = ap (λ (xs : List Op). length xs) e
-          in let b = length-drop n (route_of shop j) in let d = limits.routes j in omega arith);
-      on_machines = λ k _. (let a = limits.on_machines j (n + k)
-          in let b : (get_or rest k no_op).machine ≡ machine_of shop j (n + k) =
-          ap (λ (o : Op). o.machine) (op k) in omega arith);
-      times = λ k. (let a = limits.times j (n + k)
-          in let b : (get_or rest k no_op).time ≡ time_of shop j (n + k) =
-          ap (λ (o : Op). o.time) (op k) in omega arith);
-      ready_small = (let a = ends.ready j job in omega arith);
-      free_small = λ m below. (let a = ends.free m (omega arith)
-          in let b : get_or free m 0 ≡ get_or s.free m 0 = ap (λ (xs : List ℕ). get_or xs m 0) is_free in omega arith);
-    }
+    grind (arith, ends_of_word shop limits s of, get_or-drop, length-drop)
 
 -- what is added of a job is what waits of it
 pub unplaced_of_job : (m : ℕ) (shop : Shop) → IsWithinLimits shop → (s : PlacementState) → (j : ℕ) → j < length shop.jobs
     → (free : List ℕ) → free ≡ s.free → (ready : ℕ) → ready ≡ get_or s.ready j 0
     → (rest : List Op) → rest ≡ drop (get_or s.steps j 0) (route_of shop j) → (p : Placing) → IsPlacement shop p s
     → unplaced_from m free ready rest ≡ triples_on m (waiting_of shop p j)
-unplaced_of_job m shop limits s j job free is_free ready is_ready rest e p is = grind (
-  arith,
-  unplaced-same,
-  get_or-drop,
-)
+unplaced_of_job m shop limits s j job free is_free ready is_ready rest e p is =
+    grind (arith, unplaced-same, get_or-drop)
 
 -- what waits of one job more
 waiting_more : (shop : Shop) (p : Placing) (j : ℕ)
@@ -133,8 +106,7 @@ length-waiting_from free j k ready (o ∷ os) =
     ap suc (length-waiting_from free j (k + 1) (max ready (free o.machine) + o.time) os)
 
 pub triples_on-append : (m : ℕ) (xs ys : List Waiting) → triples_on m (xs ++ ys) ≡ triples_on m xs ++ triples_on m ys
-triples_on-append m xs ys = ap (map (λ x. x.triple)) (filter-append (λ x. eqb x.machine m) xs ys)
-    ∙ map-append (λ x. x.triple) (filter (λ x. eqb x.machine m) xs) (filter (λ x. eqb x.machine m) ys)
+triples_on-append m xs ys = grind (arith, filter-append, map-append)
 
 -- one job more is listed
 pub job_listed : (m : ℕ) (shop : Shop) (p : Placing) (j : ℕ) (xs ys more : List Triple)

@@ -14,9 +14,6 @@ below : ℕ → List ℕ → ℕ
 below n [] = 0
 below n (x ∷ xs) = cond (ltb x n) 1 0 + below n xs
 
-one_more : (x n : ℕ) → cond (ltb x (n + 1)) 1 0 ≡ cond (ltb x n) 1 0 + cond (eqb x n) 1 0
-one_more x n = grind (arith, nat_tests)
-
 not_below_0 : (x : ℕ) → cond {A = ℕ} (ltb x 0) 1 0 ≡ 0
 not_below_0 x = grind (arith, nat_tests)
 
@@ -29,9 +26,7 @@ is_below x n h = grind (arith, nat_tests)
 below-next : (n : ℕ) (w : List ℕ) → below (n + 1) w ≡ below n w + count_of n w
 unfolding below
 below-next n [] = refl
-below-next n (x ∷ xs) =
-    let a = below-next n xs in let b =
-    one_more x n in let c = sum_by-cons (λ y. cond (eqb y n) 1 0) x xs in omega arith
+below-next n (x ∷ xs) = grind (arith, below-next n xs, sum_by-cons (λ y. cond (eqb y n) 1 0) x xs, nat_tests)
 
 below-all : (n : ℕ) (w : List ℕ) → ((x : ℕ) → 0 < count_of x w → x < n) → below n w ≡ length w
 unfolding below
@@ -50,8 +45,7 @@ below-before shop w word zero h = none w where
   none [] = omega arith
   none (x ∷ xs) = let a = none xs in let b = not_below_0 x in omega arith
 below-before shop w word (suc n) h =
-    rw (← add-one) (let a = below-before shop w word n (omega arith) in let b = below-next n w in let c = word n
-    in let d = before_more shop n (omega arith) in omega arith)
+    grind (arith, add-one, below-before shop w word n (omega arith), below-next n w, before_more shop n (omega arith))
 
 pub word_within : (shop : Shop) (w : List ℕ) → IsWord shop w → length w ≤ operation_count shop
 word_within shop w word =

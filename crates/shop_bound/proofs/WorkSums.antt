@@ -10,9 +10,7 @@ use Rattle.std.proofs.lemmas.List.Sums.{sum_by-cons, sum_by-set}
 use Rattle.shop_bound.specs.declared.triples.Triple.{Triple}
 use Rattle.shop_bound.specs.declared.works.Work.{Work}
 use Rattle.shop_bound.specs.inner.Thresholds.{is_above, span_above}
-use Rattle.shop_bound.specs.inner.Serving.{no_work, work_at, triples_of, IsFresh, fresh}
-use Rattle.shop_bound.specs.inner.Serving.{worked}
-use Rattle.shop_bound.specs.inner.Serving.{undone}
+use Rattle.shop_bound.specs.inner.Serving.{no_work, work_at, triples_of, IsFresh, fresh, worked, undone}
 use Rattle.shop_bound.proofs.ThresholdLemmas.{span_above-some}
 
 -- one operation changed
@@ -26,21 +24,13 @@ triples-set ws i v same = map-set_same (λ (w : Work). w.triple) ws i v no_work 
 
 pub set_all : (P : Work → Type 0) (ws : List Work) (i : ℕ) (v : Work) → P v
     → ((j : ℕ) → j < length ws → P (work_at ws j)) → (j : ℕ) → j < length (set ws i v) → P (work_at (set ws i v) j)
-set_all P ws i v here all j lt =
-    let lt' : j < length ws = omega (arith, length-set ws i v)
-    in grind (arith, lt', cases_eq j i, get_or-set_same, get_or-set_other)
+set_all P ws i v here all j lt = grind (arith, length-set, cases_eq, get_or-set_same, get_or-set_other)
 
 pub worked-set : (head tail : ℕ) (ws : List Work) (i d : ℕ) (v : Work) → i < length ws
     → v.triple ≡ (work_at ws i).triple → v.spent ≡ (work_at ws i).spent + d
     → worked head tail (set ws i v) ≡ worked head tail ws + cond (is_above head tail (work_at ws i).triple) d 0
 unfolding worked
-worked-set head tail ws i d v lt same more =
-    general (is_above head tail) where
-      general : (test : Triple → Bool) → sum_by (λ w. cond (test w.triple) w.spent 0) (set ws i v)
-          ≡ sum_by (λ w. cond (test w.triple) w.spent 0) ws + cond (test (work_at ws i).triple) d 0
-      general test =
-          let a = sum_by-set (λ w. cond (test w.triple) w.spent 0) ws i v no_work lt
-          in grind (arith, a, same, more)
+worked-set head tail ws i d v lt same more = grind (arith, sum_by-set)
 
 -- the time spent is at most the times, and is the times where those are done
 pub spent-le : (test : Triple → Bool) (ws : List Work)
@@ -128,8 +118,4 @@ fresh-undone (t ∷ ts) zero = refl
 fresh-undone (t ∷ ts) (suc i) = fresh-undone ts i
 
 pub fresh-is : (ts : List Triple) → IsFresh (map fresh ts)
-fresh-is ts = record {
-  spent = λ (i : ℕ) (_ : i < length (map fresh ts)). fresh-spent ts i;
-  undone =
-      λ (i : ℕ) (_ : i < length (map fresh ts)). fresh-undone ts i;
-}
+fresh-is ts = grind (arith, fresh-spent, fresh-undone)

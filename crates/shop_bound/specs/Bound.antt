@@ -1,6 +1,5 @@
 -- Heads and tails of the operations that a word leaves, and the lower bound of a word.
-use Rattle.std.specs.Prelude.{ℕ, ◌+◌, max, List, [], ◌∷◌, length, drop, map, filter, sum_by}
-use Rattle.std.specs.Prelude.{flat_map, ◌==◌}
+use Rattle.std.specs.Prelude.{ℕ, ◌+◌, max, List, [], ◌∷◌, length, drop, map, filter, sum_by, flat_map, ◌==◌}
 use Rattle.std.specs.List.{range_with_len}
 use Rattle.shop_model.specs.Shop.{Shop, route_of, finish_of, greatest_below}
 use Rattle.shop_model.specs.declared.ops.Op.{Op}

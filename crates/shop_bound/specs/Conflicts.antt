@@ -8,8 +8,7 @@
 --     conflict shop w                    the conflict set of a word
 --     SoleCandidateKeepsBound shop w     where the conflict set is one job, its next operation
 --                                        leaves the bound as it is
-use Rattle.std.specs.Prelude.{◌≡◌, ℕ, ◌+◌, max, Bool, ◌&&◌, ◌||◌, List, [], ◌∷◌, ◌++◌, length}
-use Rattle.std.specs.Prelude.{filter, ◌==◌, nat_lt}
+use Rattle.std.specs.Prelude.{◌≡◌, ℕ, ◌+◌, max, Bool, ◌&&◌, ◌||◌, List, [], ◌∷◌, ◌++◌, length, filter, ◌==◌, nat_lt}
 use Rattle.std.specs.List.{range_with_len, best_of}
 use Rattle.shop_model.specs.Shop.{Shop, route_of, machine_of, time_of}
 use Rattle.shop_model.specs.Word.{Placing, placing}

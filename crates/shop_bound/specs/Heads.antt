@@ -4,10 +4,8 @@
 --     head_if_left shop p j k        the head, if (j, k) is an operation that isn't placed
 --     WaitingIsWhatIsLeft            the operations that wait are those that aren't placed, with
 --                                    these heads and tails
-use Rattle.std.specs.Prelude.{◌≡◌, ℕ, zero, suc, ◌+◌, ◌-◌, ◌^◌, ◌<◌, max, ◌&&◌, nat_le, nat_lt}
-use Rattle.std.specs.Prelude.{if◌then◌else◌, Option}
-use Rattle.std.specs.Prelude.{Some, None, [], slice_index_or, length, drop, map, sum_by, flat_map}
-use Rattle.std.specs.Prelude.{List}
+use Rattle.std.specs.Prelude.{◌≡◌, ℕ, zero, suc, ◌+◌, ◌-◌, ◌^◌, ◌<◌, max, ◌&&◌, nat_le, nat_lt, if◌then◌else◌, Option}
+use Rattle.std.specs.Prelude.{Some, None, [], slice_index_or, length, drop, map, sum_by, flat_map, List}
 use Rattle.std.specs.List.{range_with_len}
 use Rattle.shop_model.specs.declared.ops.Op.{Op}
 use Rattle.shop_model.specs.Shop.{Shop, route_of, machine_of, time_of}

@@ -1,7 +1,7 @@
 // The one-machine bound by thresholds: tries each head as least head with each tail as least tail.
 ghost use Rattle.std.specs.Prelude.{◌≡◌, ◌+◌, ◌^◌, ◌<◌, sum_by};
 ghost use Rattle.shop_bound.specs.OneMachine.{one, IsSmall};
-ghost use Rattle.shop_bound.specs.inner.Thresholds.{span_above, greatest_span_of};
+ghost use Rattle.shop_bound.specs.inner.Thresholds.{span_above};
 
 use crate::triples::Triple;
 
@@ -22,10 +22,12 @@ fn span_of_above(triples: &[Triple], head: u64, tail: u64) -> u64
     if count == 0 { 0 } else { head + sum + tail }
 }
 
-/// Answers the greatest `span_of_above` over all pairs of a head and a tail in `triples`; 0 if `triples` is empty.
-fn greatest_span(triples: &[Triple]) -> u64
+/// Answers the one-machine bound (Carlier 1982): the greatest of least head + sum of times + least tail over all
+/// sublists of `triples`; 0 if `triples` is empty. Requires greatest head + sum of times + greatest tail below 2^50.
+/// Takes cubic time. For library callers and for tests of `Jackson`: the program doesn't use `one_machine`.
+pub fn one_machine(triples: &[Triple]) -> u64
     requires { IsSmall triples.now }
-    ensures { result ≡ greatest_span_of triples.now }
+    ensures { result ≡ one triples.now }
 {
     let mut best = 0;
     for first in triples {
@@ -36,14 +38,4 @@ fn greatest_span(triples: &[Triple]) -> u64
         best = best.max(most);
     }
     best
-}
-
-/// Answers the one-machine bound (Carlier 1982): the greatest of least head + sum of times + least tail over all
-/// sublists of `triples`; 0 if `triples` is empty. Requires greatest head + sum of times + greatest tail below 2^50.
-/// Takes cubic time. For library callers and for tests of `Jackson`: the program doesn't use `one_machine`.
-pub fn one_machine(triples: &[Triple]) -> u64
-    requires { IsSmall triples.now }
-    ensures { result ≡ one triples.now }
-{
-    greatest_span(triples)
 }

@@ -19,9 +19,7 @@ use Rattle.shop_lanes.proofs.SpanParts.{each_greatest}
 greatest_within : (f : Lane → ℕ) (m : ℕ) (xs : List Lane) → All (λ x. f x ≤ m) xs → greatest_by f xs ≤ m
 greatest_within f m [] each = omega arith
 greatest_within f m (x ∷ xs) each =
-    let here = each 0 x (omega arith)
-    in let rest = greatest_within f m xs (λ k d lt. each (suc k) d (omega arith))
-    in omega (arith, here, rest)
+    grind (arith, each 0 x (omega arith), greatest_within f m xs (λ k d lt. each (suc k) d (omega arith)))
 
 least_each : (top from : ℕ) (xs : List Lane) (i : ℕ) (d : Lane) → i < length xs
     → least_head top from xs ≤ later_head top from (get_or xs i d).head
@@ -37,9 +35,7 @@ least_within : (top from m : ℕ) (xs : List Lane) → m ≤ top → All (λ x. 
     → m ≤ least_head top from xs
 least_within top from m [] le each = le
 least_within top from m (x ∷ xs) le each =
-    let here = each 0 x (omega arith)
-    in let rest = least_within top from m xs le (λ k d lt. each (suc k) d (omega arith))
-    in omega (arith, here, rest)
+    grind (arith, each 0 x (omega arith), least_within top from m xs le (λ k d lt. each (suc k) d (omega arith)))
 
 module _ (count : ℕ) (xs : List Lane) (whole : length xs ≡ 8 * count) where
   pub greatest-by_columns : (f : Lane → ℕ) → greatest_by f (by_columns count xs) ≡ greatest_by f xs
@@ -67,31 +63,18 @@ module _ {A : Type 0} (f : A → ℕ) (rows : LaneRows A) (whole : length rows.h
   raw = lanes (map f rows.heads.now) (map f rows.times.now) (map f rows.tails.now)
 
   raw_long : length raw ≡ length rows.heads.now
-  raw_long =
-      length-lanes (map f rows.heads.now) (map f rows.times.now) (map f rows.tails.now)
-      (as_long f rows.times.now rows.heads.now rows.times_are_as_many)
-      (as_long f rows.tails.now rows.heads.now rows.tails_are_as_many)
-      ∙ length-map rows.heads.now f
+  raw_long = grind (arith, length-lanes, as_long, length-map)
 
   raw_whole : length raw ≡ 8 * (length rows.heads.now / 8)
   raw_whole = raw_long ∙ omega (arith, whole)
 
-  least_in : (top from : ℕ) → least_later top from (map f rows.heads.now) ≡ least_head top from (lanes_in f rows)
-  least_in top from =
-      least_head_is top from (map f rows.heads.now) (map f rows.times.now) (map f rows.tails.now)
-      (as_long f rows.times.now rows.heads.now rows.times_are_as_many)
-      (as_long f rows.tails.now rows.heads.now rows.tails_are_as_many)
-      ∙ sym (least-by_columns (length rows.heads.now / 8) raw raw_whole top from)
-
   pub nearest_in : (top from ahead : ℕ) → from ≤ top
       → ahead ≡ least_up_to top (map (ahead_of top from) (map f rows.heads.now))
       → min (from + ahead) top ≡ least_head top from (lanes_in f rows)
-  nearest_in top from ahead le is = ap (λ (n : ℕ). min (from + n) top) is
-      ∙ nearest_is_least top from (map f rows.heads.now) le ∙ least_in top from
+  nearest_in top from ahead le is = grind (arith, nearest_is_least, least_head_is, as_long, least-by_columns, raw_whole)
 
   -- where it isn't past some number below the greatest one, the nearest head ahead is the least
   pub next_head : (top from ahead upto : ℕ) → upto < top
       → ahead ≡ least_up_to top (map (ahead_of top from) (map f rows.heads.now)) → from + ahead ≤ upto
       → from + ahead ≡ least_head top from (lanes_in f rows)
-  next_head top from ahead upto below is under =
-      let near = nearest_in top from ahead (omega arith) is in omega arith
+  next_head top from ahead upto below is under = grind (arith, nearest_in top from ahead (omega arith) is)

@@ -18,10 +18,7 @@ use Rattle.shop_lanes.proofs.MarkLemmas.{odd_lowest, even_lowest}
 -- the elements from block b on are those of block b and those behind it
 pub drop_split : {A : Type 0} (b : ℕ) (xs : List A)
     → drop (8 * b) xs ≡ take 8 (drop (8 * b) xs) ++ drop (8 * (b + 1)) xs
-drop_split b xs =
-    let next : 8 * b + 8 ≡ 8 * (b + 1) = omega arith
-    in sym (take-append-drop 8 (drop (8 * b) xs))
-    ∙ ap (λ l. take 8 (drop (8 * b) xs) ++ l) (drop-drop 8 (8 * b) xs ∙ ap (λ n. drop n xs) next)
+drop_split b xs = grind (arith, take-append-drop 8 (drop (8 * b) xs), drop-drop 8 (8 * b) xs)
 
 pub length-block : {A : Type 0} (b : ℕ) (xs : List A) → 8 * (b + 1) ≤ length xs → length (take 8 (drop (8 * b) xs)) ≡ 8
 length-block b xs le = simp (length-take, length-drop) (omega arith)
@@ -37,30 +34,16 @@ mask-append (x ∷ xs) ys =
 -- the elements from pair b on are those of the pair and those behind it
 pair_split : {A : Type 0} (b : ℕ) (xs : List A)
     → drop (16 * b) xs ≡ take 16 (drop (16 * b) xs) ++ drop (16 * (b + 1)) xs
-pair_split b xs =
-    let next : 16 * b + 16 ≡ 16 * (b + 1) = omega arith
-    in sym (take-append-drop 16 (drop (16 * b) xs))
-    ∙ ap (λ l. take 16 (drop (16 * b) xs) ++ l) (drop-drop 16 (16 * b) xs ∙ ap (λ n. drop n xs) next)
+pair_split b xs = grind (arith, take-append-drop 16 (drop (16 * b) xs), drop-drop 16 (16 * b) xs)
 
 length-pair : {A : Type 0} (b : ℕ) (xs : List A) → 16 * (b + 1) ≤ length xs → length (take 16 (drop (16 * b) xs)) ≡ 16
 length-pair b xs le = simp (length-take, length-drop) (omega arith)
-
-mask-pair : (p : ℕ → Bool) (b : ℕ) (xs : List ℕ) → 16 * (b + 1) ≤ length xs
-    → mask_l (map p (take 16 (drop (16 * b) xs))) + 65536 * mask_l (map p (drop (16 * (b + 1)) xs))
-    ≡ mask_l (map p (drop (16 * b) xs))
-mask-pair p b xs le = grind (arith, length-map, length-pair, pair_split, map-append, mask-append)
 
 -- one pair back
 pub mask_back : (p : ℕ → Bool) (n : ℕ) (xs : List ℕ) → 0 < n → 16 * n ≤ length xs → (pair rest : ℕ)
     → pair ≡ mask_l (map p (take 16 (drop (16 * (n - 1)) xs))) → rest ≡ mask_l (map p (drop (16 * n) xs))
     → pair + 65536 * rest ≡ mask_l (map p (drop (16 * (n - 1)) xs))
-mask_back p n xs some le pair rest e f =
-    let back : n - 1 + 1 ≡ n = omega arith
-    in let fits : 16 * (n - 1 + 1) ≤ length xs = omega arith
-    in ap (λ m. m + 65536 * rest) e
-    ∙ ap (λ m. mask_l (map p (take 16 (drop (16 * (n - 1)) xs))) + 65536 * m)
-    (f ∙ ap (λ k. mask_l (map p (drop (16 * k) xs))) (sym back))
-    ∙ mask-pair p (n - 1) xs fits
+mask_back p n xs some le pair rest e f = grind (arith, length-map, length-pair, pair_split, map-append, mask-append)
 
 -- behind all pairs stands nothing, or one block
 pub no_odd : (p : ℕ → Bool) (n : ℕ) (xs : List ℕ) → length xs ≤ n → 0 ≡ mask_l (map p (drop n xs))
@@ -90,18 +73,12 @@ pub least_more : (top b : ℕ) (xs least next : List ℕ) (all : ℕ) → 8 * (b
     → next ≡ zip2 min least (take 8 (drop (8 * b) xs))
     → min (least_up_to top least) (least_up_to top (drop (8 * b) xs)) ≡ all
     → min (least_up_to top next) (least_up_to top (drop (8 * (b + 1)) xs)) ≡ all
-least_more top b xs least next all le eight is so_far = grind (
-  arith,
-  length-block,
-  least-lesser,
-  drop_split,
-  least-append,
-)
+least_more top b xs least next all le eight is so_far =
+    grind (arith, length-block, least-lesser, drop_split, least-append)
 
 pub length-lesser : (b : ℕ) (xs least next : List ℕ) → 8 * (b + 1) ≤ length xs → length least ≡ 8
     → next ≡ zip2 min least (take 8 (drop (8 * b) xs)) → length next ≡ 8
-length-lesser b xs least next le eight is =
-    ap length is ∙ length-zip2 min least (take 8 (drop (8 * b) xs)) (eight ∙ sym (length-block b xs le)) ∙ eight
+length-lesser b xs least next le eight is = grind (arith, length-zip2, length-block)
 
 pub least_ends : (top b : ℕ) (xs least : List ℕ) → length xs ≤ 8 * b
     → min (least_up_to top least) (least_up_to top (drop (8 * b) xs)) ≡ least_up_to top xs
@@ -126,26 +103,8 @@ first_passed p (suc k) (x ∷ xs) le some =
 
     by_test : (0 < m → IsFirstPassed p xs (count_trailing_zeros k m)) → (b : Bool) → p x ≡ b → 0 < cond b 1 0 + 2 * m
         → IsFirstPassed p (x ∷ xs) (count_trailing_zeros (suc k) (cond (p x) 1 0 + 2 * m))
-    by_test rest true e some_set =
-        let odd : (1 + 2 * m) % 2 ≡ 1 = omega arith
-        in let at : count_trailing_zeros (suc k) (cond (p x) 1 0 + 2 * m) ≡ 0 = rw e (odd_lowest k (1 + 2 * m) odd)
-        in rw at (record { within = omega arith; passes = e; earlier = λ i lt. absurd (omega arith) })
-    by_test rest false e some_set =
-        let even : (0 + 2 * m) % 2 ≡ 0 = omega arith
-        in let half : (0 + 2 * m) / 2 ≡ m = omega arith
-        in let at : count_trailing_zeros (suc k) (cond (p x) 1 0 + 2 * m) ≡ suc (count_trailing_zeros k m) =
-        rw e (even_lowest k (0 + 2 * m) even ∙ ap (λ n. suc (count_trailing_zeros k n)) half)
-        in let r = rest (omega arith)
-        in rw at (record {
-          within = let a = r.within in omega arith;
-          passes = r.passes;
-          earlier = earlier_one_on r e;
-        })
-      where
-        earlier_one_on : IsFirstPassed p xs (count_trailing_zeros k m) → p x ≡ false → (i : ℕ)
-            → i < suc (count_trailing_zeros k m) → p (get_or (x ∷ xs) i 0) ≡ false
-        earlier_one_on r e zero lt = e
-        earlier_one_on r e (suc i) lt = r.earlier i (omega arith)
+    by_test rest true e some_set = grind (arith, m, odd_lowest)
+    by_test rest false e some_set = grind (arith, m, even_lowest)
 
 equal_if : (number x : ℕ) → (x == number) ≡ true → x ≡ number
 equal_if number x e = grind (arith, nat_tests)
@@ -214,22 +173,7 @@ least_reached top x (y ∷ xs) small =
 pub first_of_least : (top : ℕ) (xs : List ℕ) (least i : ℕ) → 0 < length xs → ((k : ℕ) → get_or xs k 0 ≤ top)
     → least ≡ least_up_to top xs → IsFirstOf xs least i → IsFirstLeast xs i
 first_of_least top [] least i some small is h = absurd (omega arith)
-first_of_least top (x ∷ xs) least i some small is h =
-    let r = least_reached top x xs small
-    in let within : i < length (x ∷ xs) =
-    elim (cases_lt i (length (x ∷ xs))) [
-      | inl lt ↦ lt
-      | inr past ↦ absurd (h.first r.0 (let a = r.1 in omega arith) (r.2 ∙ sym is))
-    ]
-    in let here = h.found within
-    in record {
-      within = within;
-      least = λ k lt. let a = least_le top (x ∷ xs) k lt in omega arith;
-      first = λ k lt.
-          let a = least_le top (x ∷ xs) k (omega arith)
-          in let b = h.first k lt
-          in omega arith;
-    }
+first_of_least top (x ∷ xs) least i some small is h = grind (arith, least_reached, cases_lt, least_le)
 
 -- of the bits of those that are the least, the lowest
 pub least_by_mask : (top : ℕ) (xs : List ℕ) (least bits : ℕ) → 0 < length xs → length xs ≤ 64

@@ -40,13 +40,10 @@ module _ (least : ℕ) {count : ℕ} {hs ts qs : List ℕ} {all : List Lane} (co
 
   from_here : (k : ℕ) → drop (k * count) all ≡ column count all k ++ drop (suc k * count) all
   from_here k =
-      sym (take-append-drop count (drop (k * count) all))
-      ∙ ap (λ l. column count all k ++ l)
-      (drop-drop count (k * count) all ∙ ap (λ n. drop n all) (sym (next_column k count)))
+      grind (arith, take-append-drop count (drop (k * count) all), drop-drop count (k * count) all, next_column k count)
 
   pub begin_next : (k : ℕ) → begin (suc k) ≡ begin k + work k
-  begin_next k =
-      ap (clock_after least 0) (up_to_next k) ∙ work-append least (take (k * count) all) (column count all k)
+  begin_next k = grind (arith, up_to_next, work-append)
 
   before_next : (k : ℕ) → span least 0 (take (suc k * count) all)
       ≡ max (span least 0 (take (k * count) all)) (begin k + load k)
@@ -55,11 +52,6 @@ module _ (least : ℕ) {count : ℕ} {hs ts qs : List ℕ} {all : List Lane} (co
   behind_here : (k : ℕ) → span least 0 (drop (k * count) all)
       ≡ max (load k) (work k + span least 0 (drop (suc k * count) all))
   behind_here k = ap (span least 0) (from_here k) ∙ load-append least (column count all k) (drop (suc k * count) all)
-
-  work_here : (k : ℕ) → clock_after least 0 (drop (k * count) all)
-      ≡ work k + clock_after least 0 (drop (suc k * count) all)
-  work_here k =
-      ap (clock_after least 0) (from_here k) ∙ work-append least (column count all k) (drop (suc k * count) all)
 
   none_left : (k : ℕ) → k + 0 ≡ 8 → drop (k * count) all ≡ []
   none_left k e = grind (arith, drop_all)
@@ -79,7 +71,7 @@ module _ (least : ℕ) {count : ℕ} {hs ts qs : List ℕ} {all : List Lane} (co
 
   work_from : (n k : ℕ) → k + n ≡ 8 → sum_l (listed work k n) ≡ clock_after least 0 (drop (k * count) all)
   work_from zero k e = sym (ap (clock_after least 0) (none_left k e))
-  work_from (suc n) k e = grind (arith, work_from n (suc k) (omega (arith, e)), work_here)
+  work_from (suc n) k e = grind (arith, work_from n (suc k) (omega (arith, e)), from_here, work-append)
 
   first_begin : begin 0 ≡ 0
   first_begin = ap (λ n. clock_after least 0 (take n all)) (no_columns count)
@@ -91,11 +83,7 @@ module _ (least : ℕ) {count : ℕ} {hs ts qs : List ℕ} {all : List Lane} (co
   all_work = work_from 8 0 refl ∙ ap (λ n. clock_after least 0 (drop n all)) (no_columns count)
 
   pub last_end : greatest (eight finish) ≡ span least 0 all
-  last_end =
-      let a = ends_from 8 0 refl
-      in let b = first_begin
-      in let c = ap (λ n. span least 0 (drop n all)) (no_columns count)
-      in omega (arith, a, b, c)
+  last_end = grind (arith, ends_from 8 0 refl, first_begin, ap (λ n. span least 0 (drop n all)) (no_columns count))
 
   pub ends_behind : (k : ℕ) → k < 8
       → max (begin (suc k)) (greatest (drop (suc k) (eight finish)))
@@ -141,26 +129,18 @@ module _ (least : ℕ) {count : ℕ} {hs ts qs : List ℕ} {all : List Lane} (co
   -- what the scan of the columns gives
   module _ {works : List ℕ} (works_are : works ≡ eight work) where
     pub works_fit : (limit : ℕ) → FitsSpan limit 0 all → sum_l works ≤ limit
-    works_fit limit fits =
-        let a = work_le least all in let b = all_work in let e = ap sum_l works_are in omega (arith, fits, a, b, e)
+    works_fit limit fits = grind (arith, work_le, all_work)
 
     module _ {begins : List ℕ} (begins_told : begins ≡ sums_before 0 works) where
       pub begins_eight : begins ≡ eight begin
       begins_eight = begins_told ∙ ap (sums_before 0) works_are ∙ begins_are
 
       pub begins_fit : (limit : ℕ) → FitsSpan limit 0 all → AddsFit limit begins works
-      begins_fit limit fits =
-          subst (λ l. AddsFit limit l works) (sym begins_eight)
-          (subst (AddsFit limit (eight begin)) (sym works_are)
-          (eight_fit limit begin work (λ k lt. begin_fits limit fits k)))
+      begins_fit limit fits = grind (arith, begins_eight, eight_fit, begin_fits)
 
       module _ {most : List ℕ} (most_are : most ≡ eight load) where
         pub ends_fit : (limit : ℕ) → FitsSpan limit 0 all → AddsFit limit begins most
-        ends_fit limit fits =
-            subst (λ l. AddsFit limit l most) (sym begins_eight)
-            (subst (AddsFit limit (eight begin)) (sym most_are)
-            (eight_fit limit begin load (λ k lt. finish_fits limit fits k)))
+        ends_fit limit fits = grind (arith, begins_eight, eight_fit, finish_fits)
 
         pub ends_eight : {ends : List ℕ} → ends ≡ added begins most → ends ≡ eight finish
-        ends_eight told =
-            told ∙ ap (λ l. added l most) begins_eight ∙ ap (added (eight begin)) most_are
+        ends_eight told = grind (arith, begins_eight)

@@ -20,8 +20,7 @@ use Rattle.shop_lanes.proofs.SpanParts.{each_greatest, sum_part}
 
 -- eight numbers as a function of the column
 pub eight_same : (f g : ℕ → ℕ) → ((k : ℕ) → k < 8 → f k ≡ g k) → eight f ≡ eight g
-eight_same f g same = same_eight (same 0 (omega arith)) (same 1 (omega arith)) (same 2 (omega arith))
-    (same 3 (omega arith)) (same 4 (omega arith)) (same 5 (omega arith)) (same 6 (omega arith)) (same 7 (omega arith))
+eight_same f g same = grind (arith, same_eight)
 
 pub in_eight : (f : ℕ → ℕ) (k : ℕ) → k < 8 → get_or (eight f) k 0 ≡ f k
 in_eight f zero lt = refl
@@ -38,19 +37,7 @@ pub as_eight : (v : List ℕ) → length v ≡ 8 → v ≡ eight (λ k. get_or v
 as_eight = on_eight (λ v. v ≡ eight (λ k. get_or v k 0)) (λ a b c d e f g h. refl)
 
 pub eight_fit : (limit : ℕ) (f g : ℕ → ℕ) → ((k : ℕ) → k < 8 → f k + g k ≤ limit) → AddsFit limit (eight f) (eight g)
-eight_fit limit f g each = (
-  each 0 (omega arith),
-  (
-    each 1 (omega arith),
-    (
-      each 2 (omega arith),
-      (
-        each 3 (omega arith),
-        (each 4 (omega arith), (each 5 (omega arith), (each 6 (omega arith), (each 7 (omega arith), tt)))),
-      ),
-    ),
-  ),
-)
+eight_fit limit f g each = grind arith
 
 pub block_eight : (b : ℕ) (xs : List ℕ) → 8 * (b + 1) ≤ length xs
     → take 8 (drop (8 * b) xs) ≡ eight (λ k. get_or xs (8 * b + k) 0)
@@ -78,23 +65,14 @@ columns_of count hs ts qs whole a b =
       tails_long = b ∙ whole;
       are = refl;
       long = length-by_columns count (lanes hs ts qs) long;
-      at = λ k j k_lt j_lt d.
-          let below = rank_below count k j k_lt j_lt
-          in by_columns-at count (lanes hs ts qs) long (k * count + j) d below
-          ∙ ap (λ p. get_or (lanes hs ts qs) p d) (place_of_rank count k j j_lt)
-          ∙ get_or-lanes hs ts qs (8 * j + k) d a b (omega (arith, k_lt, j_lt, whole));
+      at = λ k j k_lt j_lt d. grind (arith, rank_below, by_columns-at, place_of_rank, get_or-lanes);
     }
 
 -- of rows of some width
 pub columns_in : {A : Type 0} (f : A → ℕ) (rows : LaneRows A) (count : ℕ) → length rows.heads.now ≡ count
     → length rows.heads.now % 8 ≡ 0
     → AreColumnsOf (count / 8) (map f rows.heads.now) (map f rows.times.now) (map f rows.tails.now) (lanes_in f rows)
-columns_in f rows count e whole =
-    let heads = rows.heads.now in let times = rows.times.now in let tails = rows.tails.now
-    in subst (λ n. AreColumnsOf (n / 8) (map f heads) (map f times) (map f tails) (lanes_in f rows)) e
-    (columns_of (length heads / 8) (map f heads) (map f times) (map f tails)
-    (length-map heads f ∙ omega (arith, whole)) (as_long f times heads rows.times_are_as_many)
-    (as_long f tails heads rows.tails_are_as_many))
+columns_in f rows count e whole = grind (arith, columns_of, length-map, as_long)
 
 -- the first j lanes of column k, and all lanes up to there
 abbrev pub part_of : ℕ → List Lane → ℕ → ℕ → List Lane
@@ -206,8 +184,7 @@ module _ {count : ℕ} {hs ts qs : List ℕ} {all : List Lane} (c : AreColumnsOf
       served_eight = grind (arith, least_at, heads_eight, times_eight)
 
       after_eight : added clocks served ≡ eight (λ k. work k j + added_by k j)
-      after_eight =
-          ap (λ l. added l served) so_far.clocks_are ∙ ap (added (eight (λ k. work k j))) served_eight
+      after_eight = grind (arith, served_eight)
 
       clocks_fit : (limit : ℕ) → FitsSpan limit 0 all → AddsFit limit clocks served
       clocks_fit limit fits =
@@ -242,15 +219,4 @@ module _ {count : ℕ} {hs ts qs : List ℕ} {all : List Lane} (c : AreColumnsOf
         pub served_more : {later : List ℕ}
             → later ≡ zip2 max most (waiting (get_or leasts 0 0) heads (added after tails))
             → IsServedTo least part (j + 1) after later
-        served_more {later} later_is =
-            let on : suc j ≡ j + 1 = omega arith
-            in subst (λ n. IsServedTo least part n after later) on (record {
-              clocks_are = next_eight
-                  ∙ eight_same (λ k. work k j + added_by k j) (λ k. work k (suc j))
-                  (λ k lt. sym (work_next k j lt j_lt));
-              most_are = later_is
-                  ∙ ap (λ l. zip2 max l (waiting (get_or leasts 0 0) heads (added after tails))) so_far.most_are
-                  ∙ ap (zip2 max (eight (λ k. end k j))) late_eight
-                  ∙ eight_same (λ k. max (end k j) (late k j)) (λ k. end k (suc j))
-                  (λ k lt. sym (end_next k j lt j_lt));
-            })
+        served_more {later} later_is = grind (arith, next_eight, eight_same, work_next, late_eight, end_next)

@@ -11,11 +11,8 @@ use Rattle.shop_lanes.specs.Rows.{lanes, place_at_rank, first_ranks, by_columns}
 use Rattle.shop_lanes.specs.inner.OwnSpans.{rank_of}
 use Rattle.shop_lanes.proofs.LaneLists.{length-lanes, get_or-lanes}
 
-some_blocks : (count i : ℕ) → i < 8 * count → 0 < count
-some_blocks count i lt = omega arith
-
 pub rank_parts : (count i : ℕ) → i < 8 * count → (i % count < count) × (i / count < 8)
-rank_parts count i lt = grind (arith, some_blocks, mod-lt, div-lt_iff_lt-mul)
+rank_parts count i lt = grind (arith, mod-lt, div-lt_iff_lt-mul)
 
 pub place_fits : (count i : ℕ) → i < 8 * count → place_at_rank count i < 8 * count
 place_fits count i lt = let parts = rank_parts count i lt in omega (arith, parts.0, parts.1)
@@ -34,16 +31,7 @@ pub place_of_rank_of : (count p : ℕ) → p < 8 * count → place_at_rank count
 place_of_rank_of count p lt = place_of_rank count (p % 8) (p / 8) (omega arith) ∙ omega arith
 
 pub rank_of_place : (count i : ℕ) → i < 8 * count → rank_of count (place_at_rank count i) ≡ i
-rank_of_place count i lt =
-    let parts = rank_parts count i lt
-    in let lane : (8 * (i % count) + i / count) % 8 ≡ i / count = omega (arith, parts.1)
-    in let block : (8 * (i % count) + i / count) / 8 ≡ i % count = omega (arith, parts.1)
-    in ap (λ n. n * count + (8 * (i % count) + i / count) / 8) lane
-    ∙ ap (λ n. i / count * count + n) block
-    ∙ whole (i / count) (div-add-mod i count)
-  where
-    whole : (q : ℕ) → count * q + i % count ≡ i → q * count + i % count ≡ i
-    whole q e = omega (arith, e)
+rank_of_place count i lt = grind (arith, rank_parts, div-add-mod)
 
 pub rank_of_parts : (count k j : ℕ) → k < 8 → rank_of count (8 * j + k) ≡ k * count + j
 rank_of_parts count k j lt = grind arith
@@ -55,12 +43,7 @@ module _ {A : Type 0} where
   module _ (count : ℕ) (xs : List A) (whole : length xs ≡ 8 * count) where
     length-ranks : (n : ℕ) → n ≤ 8 * count → length (first_ranks count xs n) ≡ n
     length-ranks zero le = refl
-    length-ranks (suc n) le =
-        let place = place_fits count n (omega arith)
-        in let rest = length-ranks n (omega arith)
-        in let both = length-append (first_ranks count xs n) (take 1 (drop (place_at_rank count n) xs))
-        in let one = one_long (place_at_rank count n) xs (omega (arith, place, whole))
-        in omega (arith, rest, both, one)
+    length-ranks (suc n) le = grind (arith, place_fits, length-append, one_long, whole, length-ranks n (omega arith))
 
     ranks-at : (n : ℕ) → n ≤ 8 * count → (i : ℕ) (d : A) → i < n
         → get_or (first_ranks count xs n) i d ≡ get_or xs (place_at_rank count i) d
@@ -70,8 +53,7 @@ module _ {A : Type 0} where
         in let last = take 1 (drop (place_at_rank count n) xs)
         in let long = length-ranks n (omega arith)
         in elim (cases_lt i n) [
-          | inl before ↦ get_or_append_left front last d i (omega (arith, long, before))
-              ∙ ranks-at n (omega arith) i d before
+          | inl before ↦ grind (arith, get_or_append_left, ranks-at n (omega arith) i d before)
           | inr from ↦
               let here : i ≡ n = omega (arith, from)
               in get_or-append_right front last n i d long from
@@ -94,10 +76,7 @@ module _ {A : Type 0} where
     by_columns-of p d lt = grind (arith, by_columns-at, rank_fits, place_of_rank_of)
 
     pub All-by_columns : (P : A → Type 0) → All P xs → All P (by_columns count xs)
-    All-by_columns P each i d lt =
-        let inside : i < 8 * count = omega (arith, length-by_columns)
-        in subst P (sym (by_columns-at i d inside))
-        (each (place_at_rank count i) d (let fits = place_fits count i inside in omega (arith, fits, whole)))
+    All-by_columns P each i d lt = grind (arith, length-by_columns, by_columns-at, place_fits, whole)
 
     pub All-by_places : (P : A → Type 0) → All P (by_columns count xs) → All P xs
     All-by_places P each p d lt =
@@ -108,16 +87,8 @@ module _ {A : Type 0} where
 pub lanes-by_columns : (count : ℕ) (hs ts qs : List ℕ) → length hs ≡ 8 * count → length ts ≡ length hs
     → length qs ≡ length hs
     → lanes (by_columns count hs) (by_columns count ts) (by_columns count qs) ≡ by_columns count (lanes hs ts qs)
-lanes-by_columns count hs ts qs whole a b = grind (
-  arith,
-  length-by_columns,
-  whole,
-  length-lanes,
-  same_lists,
-  place_fits,
-  get_or-lanes,
-  by_columns-at,
-)
+lanes-by_columns count hs ts qs whole a b =
+    grind (arith, length-by_columns, length-lanes, same_lists, place_fits, get_or-lanes, by_columns-at)
 
 -- a number replaced at a place is replaced at its rank
 pub by_columns-set : (count : ℕ) (xs : List ℕ) → length xs ≡ 8 * count → (p x : ℕ) → p < 8 * count
@@ -135,25 +106,9 @@ by_columns-set count xs whole p x lt =
     in let there = place_fits count i inside
     in by_columns-at count (set xs p x) written i d inside
     ∙ elim (same_or_not i r) [
-      | inl same ↦
-          let here : place_at_rank count i ≡ p = ap (place_at_rank count) same ∙ place_of_rank_of count p lt
-          in ap (λ k. get_or (set xs p x) k d) here
-          ∙ get_or-set_same xs p x d (omega (arith, whole, lt))
-          ∙ sym (get_or-set_same (by_columns count xs) r x d (omega (arith, ranked, r_lt)))
-          ∙ ap (λ k. get_or (set (by_columns count xs) r x) k d) (sym same)
-      | inr other ↦
-          let apart : place_at_rank count i ≢ p =
-          λ e. other (sym (rank_of_place count i inside) ∙ ap (rank_of count) e)
-          in get_or-set_other xs p (place_at_rank count i) x d apart
-          ∙ sym (by_columns-at count xs whole i d inside)
-          ∙ sym (get_or-set_other (by_columns count xs) r i x d other)
+      | inl same ↦ grind (arith, place_of_rank_of, get_or-set_same)
+      | inr other ↦ grind (arith, rank_of_place, get_or-set_other, by_columns-at)
     ])
   where
     same_or_not : (i r : ℕ) → (i ≡ r) ⊎ (i ≢ r)
-    same_or_not i r = elim (cases_lt i r) [
-      | inl less ↦ inr (λ e. omega (arith, e))
-      | inr le ↦ elim (cases_lt r i) [
-        | inl more ↦ inr (λ e. omega (arith, e))
-        | inr back ↦ inl (omega arith)
-      ]
-    ]
+    same_or_not i r = grind (arith, cases_lt)

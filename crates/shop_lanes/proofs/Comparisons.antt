@@ -29,21 +29,12 @@ waiting_told_is w xs heads least eight splat =
 
 -- how far numbers lie ahead of another, as a difference tells it that wraps
 ahead-wraps : (n from x : ℕ) → from < n → x < n → (x + (n - from)) % n ≡ ahead_of (n - 1) from x
-ahead-wraps n from x less small = elim (cases_lt x from) [
-  | inl before ↦ (let is : (x + (n - from)) % n ≡ x + (n - from) = mod-eq_of_lt (omega arith)
-      in grind (arith, nat_tests, is))
-  | inr past ↦ (let back : x + (n - from) ≡ (x - from) + n = omega arith
-      in let is : ((x - from) + n) % n ≡ (x - from) % n = add-mod_right (x - from) n
-      in let less : (x - from) % n ≡ x - from = mod-eq_of_lt (omega arith)
-      in rw back (grind (arith, nat_tests, is, less)))
-]
+ahead-wraps n from x less small = grind (arith, cases_lt, mod-eq_of_lt, nat_tests, add-mod_right)
 
 ahead-map : (n from : ℕ) (xs : List ℕ) → from < n → Each1 (λ x. x < n) xs
     → map (λ x. (x + (n - from)) % n) xs ≡ map (ahead_of (n - 1) from) xs
 ahead-map n from [] less small = refl
-ahead-map n from (x ∷ xs) less small =
-    ap (λ y. y ∷ map (λ x. (x + (n - from)) % n) xs) (ahead-wraps n from x less small.0)
-    ∙ ap (λ ys. ahead_of (n - 1) from x ∷ ys) (ahead-map n from xs less small.1)
+ahead-map n from (x ∷ xs) less small = grind (arith, ahead-wraps, ahead-map n from xs less small.1)
 
 pub ahead_told_is : (n : ℕ) (xs from : List ℕ) → length xs ≡ 8 → from ≡ replicate 8 (get_or from 0 0)
     → get_or from 0 0 < n → Each1 (λ x. x < n) xs
@@ -93,8 +84,7 @@ left_of (x ∷ xs) (y ∷ ys) = grind (arith, left_of xs ys)
 
 pub greater_covers : (w : Width) (xs ys : List ℕ) → length xs ≡ length ys
     → Each2 (λ a b. b ≤ a) (greater_told w xs ys) ys
-greater_covers w xs ys e =
-    subst (λ l. Each2 (λ a b. b ≤ a) l ys) (sym (greater_told_is w xs ys e)) (covered xs ys)
+greater_covers w xs ys e = grind (arith, greater_told_is, covered)
 
 pub lessened_told_is : (w : Width) (xs ys : List ℕ) → length xs ≡ length ys
     → zip2 (λ a b. a - b) (greater_told w xs ys) ys ≡ lessened xs ys

@@ -1,6 +1,5 @@
 -- Lists of eight, their sums by three shifted additions, and their greatest by three turns.
-use Rattle.std.proofs.Common.{◌≡◌, ℕ, suc, ◌+◌, ◌-◌, ◌≤◌, ◌^◌, List, [], ◌∷◌, length, refl, ap}
-use Rattle.std.proofs.Common.{◌∙◌, arith}
+use Rattle.std.proofs.Common.{◌≡◌, ℕ, suc, ◌+◌, ◌-◌, ◌≤◌, ◌^◌, List, [], ◌∷◌, length, refl, ap, ◌∙◌, arith}
 use lib.Lanes.{Each2, sum_l}
 use mir.Syntax.{Width}
 use mir.Val.{Fits, bits}
@@ -41,8 +40,7 @@ eights v = added (fours v) (up_four (fours v))
 pub lanes_fit : (w : Width) (xs ys : List ℕ) → AddsFit (2 ^ bits w - 1) xs ys → Each2 (λ a b. Fits w (a + b)) xs ys
 lanes_fit w [] ys h = tt
 lanes_fit w (x ∷ xs) [] h = tt
-lanes_fit w (x ∷ xs) (y ∷ ys) h =
-    (record { fits = let a = h.0 in omega (arith, pow_pos (bits w)) }, lanes_fit w xs ys h.1)
+lanes_fit w (x ∷ xs) (y ∷ ys) h = grind (arith, pow_pos, lanes_fit w xs ys h.1)
 
 -- the sums up to each one, moved by one
 pub sums_moved : (v : List ℕ) → length v ≡ 8 → up_one (running 0 v) ≡ sums_before 0 v
@@ -99,5 +97,4 @@ module _ (limit : ℕ) (v ones : List ℕ) (eight : length v ≡ 8) (small : sum
       four_fits = rw (are_fours, are_four) (eights_fit limit v eight small)
 
       pub sums_run : (sums : List ℕ) → sums ≡ added fs four → sums ≡ running 0 v
-      sums_run sums e =
-          e ∙ ap (λ l. added l four) are_fours ∙ ap (added (fours v)) are_four ∙ eights-running v eight
+      sums_run sums e = grind (arith, are_fours, are_four, eights-running)

@@ -1,7 +1,6 @@
 -- The row of a state in which nothing waits: heads of 0, and behind them the greatest number.
-use Rattle.std.proofs.Common.{◌≡◌, ℕ, zero, suc, ◌+◌, ◌-◌, ◌*◌, ◌/◌, ◌<◌, ◌≤◌, List, [], ◌∷◌, ◌++◌}
-use Rattle.std.proofs.Common.{length, map, take, drop, replicate, get_or, refl, ap, sym, ◌∙◌, append-nil}
-use Rattle.std.proofs.Common.{append_assoc, arith}
+use Rattle.std.proofs.Common.{◌≡◌, ℕ, zero, suc, ◌+◌, ◌-◌, ◌*◌, ◌/◌, ◌<◌, ◌≤◌, List, [], ◌∷◌, ◌++◌, length, map, take}
+use Rattle.std.proofs.Common.{drop, replicate, get_or, refl, ap, sym, ◌∙◌, append-nil, append_assoc, arith}
 use Rattle.std.proofs.lemmas.List.{drop-drop, drop-replicate, drop_at, length-append, length-map}
 use Rattle.std.proofs.lemmas.List.{length-replicate, get_or-replicate, replicate_more, take-map}
 use Rattle.shop_lanes.specs.inner.Passes.{IsPadded}
@@ -17,13 +16,10 @@ row_begun xs n y = sym (append-nil xs) ∙ ap (λ k. xs ++ replicate k y) {x = 0
 
 pub row_more : (xs : List ℕ) (n i y : ℕ) → n ≤ i
     → (xs ++ replicate (i - n) y) ++ y ∷ [] ≡ xs ++ replicate (i + 1 - n) y
-row_more xs n i y le = append_assoc xs (replicate (i - n) y) (y ∷ [])
-    ∙ ap (λ l. xs ++ l) (replicate_more (i - n) y
-    ∙ ap (λ k. replicate k y) {x = i - n + 1} {y = i + 1 - n} (omega arith))
+row_more xs n i y le = grind (arith, append_assoc, replicate_more)
 
 row_long : (n m x y : ℕ) → length (replicate n x ++ replicate m y) ≡ n + m
-row_long n m x y = length-append (replicate n x) (replicate m y)
-    ∙ (ap (λ k. k + length (replicate m y)) (length-replicate n x) ∙ ap (λ k. n + k) (length-replicate m y))
+row_long n m x y = grind (arith, length-append, length-replicate)
 
 first_behind : (n m x y : ℕ) → 0 < m → get_or (replicate n x ++ replicate m y) n 0 ≡ y
 first_behind zero m x y some = get_or-replicate m 0 y 0 some
@@ -58,8 +54,7 @@ module _ {A : Type 0} (f : A → ℕ) (none positions jobs : ℕ) where
         long = omega arith;
         behind = ap (λ l. get_or l positions 0) is ∙ first_behind positions behind 0 none (omega arith);
         padded = padding.0;
-        heads = sym (take-map f positions row)
-            ∙ (ap (take positions) is ∙ take_seen positions 0 (replicate behind none));
+        heads = grind (arith, take-map f positions row, take_seen positions 0 (replicate behind none));
         ends = padding.1;
       }
 
@@ -67,7 +62,4 @@ module _ {A : Type 0} (f : A → ℕ) (none positions jobs : ℕ) where
   pub is_cleared : (n lent : ℕ) (made rest : List A) → lent ≡ positions + 8 + 8 * (jobs / 8 + 1) → n ≡ lent
       → map f made ≡ replicate positions 0 ++ replicate (lent - positions) none
       → map f (take n (made ++ rest)) ≡ numbers
-  is_cleared n lent made rest long same is =
-      row_written f n numbers made rest
-      (is ∙ ap (λ k. replicate positions 0 ++ replicate k none) {x = lent - positions} {y = behind} (omega arith))
-      (row_long positions behind 0 none ∙ omega arith)
+  is_cleared n lent made rest long same is = grind (arith, row_written, behind, row_long)

@@ -1,6 +1,5 @@
 -- The greatest and the least of lists and of vectors.
-use Rattle.std.proofs.Common.{◌≡◌, ℕ, ◌≤◌, min, max, List, [], ◌∷◌, ◌++◌, length, get_or}
-use Rattle.std.proofs.Common.{refl, ap, sym, ◌∙◌, arith}
+use Rattle.std.proofs.Common.{◌≡◌, ℕ, ◌≤◌, min, max, List, [], ◌∷◌, ◌++◌, length, get_or, refl, ap, sym, ◌∙◌, arith}
 use Rattle.std.proofs.lemmas.Simd.{length-zip2}
 use lib.Lanes.{zip2, top}
 use Rattle.shop_lanes.specs.Eights.{halves, quarters, neighbours}
@@ -16,8 +15,7 @@ pub greatest-greater : (xs ys : List ℕ) → length xs ≡ length ys
 greatest-greater [] [] e = refl
 greatest-greater [] (y ∷ ys) e = absurd (omega arith)
 greatest-greater (x ∷ xs) [] e = absurd (omega arith)
-greatest-greater (x ∷ xs) (y ∷ ys) e =
-    let rest = greatest-greater xs ys (omega arith) in omega (arith, rest)
+greatest-greater (x ∷ xs) (y ∷ ys) e = grind (arith, greatest-greater xs ys (omega arith))
 
 pub least_le_top : (top : ℕ) (xs : List ℕ) → least_up_to top xs ≤ top
 least_le_top top [] = omega arith
@@ -33,8 +31,7 @@ pub least-lesser : (top : ℕ) (xs ys : List ℕ) → length xs ≡ length ys
 least-lesser top [] [] e = omega arith
 least-lesser top [] (y ∷ ys) e = absurd (omega arith)
 least-lesser top (x ∷ xs) [] e = absurd (omega arith)
-least-lesser top (x ∷ xs) (y ∷ ys) e =
-    let rest = least-lesser top xs ys (omega arith) in omega (arith, rest)
+least-lesser top (x ∷ xs) (y ∷ ys) e = grind (arith, least-lesser top xs ys (omega arith))
 
 abbrev pub folded : (ℕ → ℕ → ℕ) → List ℕ → ℕ
 folded f v =

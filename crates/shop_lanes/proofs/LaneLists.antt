@@ -21,16 +21,14 @@ lanes-take (suc n) [] (t ∷ ts) qs a b = absurd (omega arith)
 lanes-take (suc n) [] [] (q ∷ qs) a b = absurd (omega arith)
 lanes-take (suc n) (h ∷ hs) [] qs a b = absurd (omega arith)
 lanes-take (suc n) (h ∷ hs) (t ∷ ts) [] a b = absurd (omega arith)
-lanes-take (suc n) (h ∷ hs) (t ∷ ts) (q ∷ qs) a b =
-    ap (λ xs. record { head = h; time = t; tail = q } ∷ xs) (lanes-take n hs ts qs (omega arith) (omega arith))
+lanes-take (suc n) (h ∷ hs) (t ∷ ts) (q ∷ qs) a b = grind (arith, lanes-take n hs ts qs (omega arith) (omega arith))
 
 pub length-lanes : (hs ts qs : List ℕ) → length ts ≡ length hs → length qs ≡ length hs
     → length (lanes hs ts qs) ≡ length hs
 length-lanes [] ts qs a b = refl
 length-lanes (h ∷ hs) [] qs a b = absurd (omega arith)
 length-lanes (h ∷ hs) (t ∷ ts) [] a b = absurd (omega arith)
-length-lanes (h ∷ hs) (t ∷ ts) (q ∷ qs) a b =
-    let rest = length-lanes hs ts qs (omega arith) (omega arith) in omega (arith, rest)
+length-lanes (h ∷ hs) (t ∷ ts) (q ∷ qs) a b = grind (arith, length-lanes hs ts qs (omega arith) (omega arith))
 
 -- what stands at position i
 abbrev pub lane_at : List ℕ → List ℕ → List ℕ → ℕ → Lane
@@ -51,11 +49,8 @@ lanes_more [] ts qs i a b lt = absurd (omega arith)
 lanes_more (h ∷ hs) [] qs i a b lt = absurd (omega arith)
 lanes_more (h ∷ hs) (t ∷ ts) [] i a b lt = absurd (omega arith)
 lanes_more (h ∷ hs) (t ∷ ts) (q ∷ qs) zero a b lt = refl
-lanes_more (h ∷ hs) (t ∷ ts) (q ∷ qs) (suc i) a b lt = grind (
-  arith,
-  lanes_more hs ts qs i (omega arith) (omega
-      arith) (omega arith),
-)
+lanes_more (h ∷ hs) (t ∷ ts) (q ∷ qs) (suc i) a b lt =
+    grind (arith, lanes_more hs ts qs i (omega arith) (omega arith) (omega arith))
 
 -- the lanes of the same blocks of each row
 pub lanes-blocks : (hs ts qs : List ℕ) (from to : ℕ) → length ts ≡ length hs → length qs ≡ length hs

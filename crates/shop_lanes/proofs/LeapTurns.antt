@@ -1,7 +1,6 @@
 -- Spans from heads on, and how far one load settles them.
-use Rattle.std.proofs.Common.{◌≡◌, ℕ, ◌+◌, ◌-◌, ◌<◌, ◌≤◌, min, max, true, leb, ltb, ◌&&◌, List, []}
-use Rattle.std.proofs.Common.{◌∷◌}
-use Rattle.std.proofs.Common.{length, refl, ap, sym, ◌∙◌, arith, inl, inr}
+use Rattle.std.proofs.Common.{◌≡◌, ℕ, ◌+◌, ◌-◌, ◌<◌, ◌≤◌, min, max, true, leb, ltb, ◌&&◌, List, [], ◌∷◌, length, refl}
+use Rattle.std.proofs.Common.{ap, sym, ◌∙◌, arith, inl, inr}
 use Rattle.std.proofs.lemmas.Bool.Decides.{nat_tests}
 use Rattle.std.proofs.lemmas.Bool.{cases_lt}
 use Rattle.shop_lanes.specs.Rows.{Lane, lanes}
@@ -51,8 +50,7 @@ same_span top from head s (x ∷ xs) le least = grind (
 -- it is no earlier than asked for, and where it is below the greatest number, something waits
 pub least_head_le : (top from : ℕ) (xs : List Lane) → from ≤ top → from ≤ least_head top from xs
 least_head_le top from [] le = le
-least_head_le top from (x ∷ xs) le =
-    let rest = least_head_le top from xs le in grind (arith, nat_tests, rest)
+least_head_le top from (x ∷ xs) le = grind (arith, nat_tests, least_head_le top from xs le)
 
 pub some_waits : (top from s : ℕ) (xs : List Lane) → least_head top from xs < top → s ≤ span from s xs
 some_waits top from s [] lt = absurd (omega arith)
@@ -74,17 +72,10 @@ pub least_among : (top from above upto : ℕ) (all xs : List Lane) (head : ℕ) 
 least_among top from above upto all [] head e lt over under = absurd (omega arith)
 least_among top from above upto all (x ∷ xs) head e lt over under =
     elim (cases_lt (least_head top from xs) (later_head top from x.head)) [
-      | inl less ↦
-          let rest = least_among top from above upto all xs head (omega arith) lt over under in omega (arith, rest)
-      | inr le ↦
-          let is : head ≡ x.head = it_is x.head (omega arith)
-          in let on : (ltb above x.head && leb x.head upto) ≡ true = rw (sym is) (passes head over under)
-          in rw (on, is) (omega arith)
+      | inl less ↦ grind (arith, least_among top from above upto all xs head (omega arith) lt over under)
+      | inr le ↦ grind (arith, passes head over under, nat_tests)
     ]
   where
-    it_is : (h : ℕ) → head ≡ later_head top from h → head ≡ h
-    it_is h is = grind (arith, nat_tests)
-
     passes : (h : ℕ) → above < h → h ≤ upto → (ltb above h && leb h upto) ≡ true
     passes h a b = grind (arith, nat_tests)
 
@@ -93,33 +84,27 @@ pub settled_spans : (lower upper upto bound : ℕ) (all : List Lane)
     → ((h : ℕ) → lower < h → h ≤ upper → h ≤ upto → span h h all ≤ bound) → (xs : List Lane)
     → spans_from lower upto all xs ≤ max (spans_from upper upto all xs) bound
 settled_spans lower upper upto bound all each [] = omega arith
-settled_spans lower upper upto bound all each (x ∷ xs) =
-    let rest = settled_spans lower upper upto bound all each xs in grind (arith, nat_tests, each x.head, rest)
+settled_spans lower upper upto bound all each (x ∷ xs) = grind (arith, settled_spans lower upper upto bound all each xs)
 
 pub spans_fall : (lower upper upto : ℕ) (all xs : List Lane) → lower ≤ upper
     → spans_from upper upto all xs ≤ spans_from lower upto all xs
 spans_fall lower upper upto all [] le = omega arith
-spans_fall lower upper upto all (x ∷ xs) le =
-    let rest = spans_fall lower upper upto all xs le in grind (arith, nat_tests, rest)
+spans_fall lower upper upto all (x ∷ xs) le = grind (arith, nat_tests, spans_fall lower upper upto all xs le)
 
 pub none_between : (above upto : ℕ) (all xs : List Lane) → upto ≤ above → spans_from above upto all xs ≡ 0
 none_between above upto all [] le = refl
-none_between above upto all (x ∷ xs) le =
-    let rest = none_between above upto all xs le in grind (arith, nat_tests, rest)
+none_between above upto all (x ∷ xs) le = grind (arith, nat_tests, none_between above upto all xs le)
 
 pub none_so_early : (top above upto : ℕ) (all xs : List Lane) → upto < least_head top (above + 1) xs
     → spans_from above upto all xs ≡ 0
 none_so_early top above upto all [] lt = refl
-none_so_early top above upto all (x ∷ xs) lt =
-    let rest = none_so_early top above upto all xs (omega arith) in grind (arith, nat_tests, rest)
+none_so_early top above upto all (x ∷ xs) lt = grind (arith, none_so_early top above upto all xs (omega arith))
 
 -- a head and the load of what begins no earlier settle its span
 pub settled_by : (settled load bound : ℕ) (all : List Lane) → load ≡ span (settled + 1) 0 all
     → (h : ℕ) → settled < h → h + load ≤ bound → span h h all ≤ bound
 settled_by settled load bound all e h over within =
-    let later = span_from_start h h all
-    in let falls = span_falls (settled + 1) h 0 0 all (omega arith) (omega arith)
-    in omega (arith, e, later, falls)
+    grind (arith, span_from_start h h all, span_falls (settled + 1) h 0 0 all (omega arith) (omega arith))
 
 -- how far leaps have come: all spans from heads up to `settled` are in the bound
 pub record IsLeaped (above upto most : ℕ) (all : List Lane) (settled bound : ℕ) : Type 0 where
@@ -135,18 +120,14 @@ module _ {above upto most : ℕ} {all : List Lane} {settled bound : ℕ}
   no_greater = let a = h.reaches in omega (arith, a)
 
   pub leaps_end : upto ≤ settled → (limit : ℕ) → IsRaisedBelow limit (max most (spans_between above upto all)) bound
-  leaps_end le limit =
-      let a = h.reaches in let none = none_between settled upto all all le in exactly limit (omega (arith, a, none))
+  leaps_end le limit = grind (arith, none_between, exactly)
 
   pub leaps_reached : (limit : ℕ) → limit ≤ bound → IsRaisedBelow limit (max most (spans_between above upto all)) bound
   leaps_reached limit over = record { no_greater = no_greater; exact = λ lt. absurd (omega (arith, lt, over)) }
 
   module _ {load : ℕ} (load_is : load ≡ span (settled + 1) 0 all) where
     pub load_fits : (limit : ℕ) → FitsSpan limit upto all → upto + load ≤ limit
-    load_fits limit fits =
-        let at_most = load_le (settled + 1) all
-        in let works = work_le (settled + 1) all
-        in omega (arith, load_is, at_most, works, fits)
+    load_fits limit fits = grind (arith, load_le, work_le)
 
     pub leaps_within : upto + load ≤ bound → (limit : ℕ)
         → IsRaisedBelow limit (max most (spans_between above upto all)) bound
@@ -160,17 +141,12 @@ module _ {above upto most : ℕ} {all : List Lane} {settled bound : ℕ}
     module _ (top : ℕ) {head : ℕ} (head_is : head ≡ least_head top (settled + 1) all) where
       pub leaps_past : upto < head → (limit : ℕ)
           → IsRaisedBelow limit (max most (spans_between above upto all)) bound
-      leaps_past lt limit =
-          let a = h.reaches
-          in let none = none_so_early top settled upto all all (omega (arith, head_is))
-          in exactly limit (omega (arith, a, none))
+      leaps_past lt limit = grind (arith, none_so_early, exactly)
 
       module _ (before : settled < upto) (under : head ≤ upto) (below_top : upto < top) (next : ℕ)
           (next_is : next ≡ max bound (head + load)) where
         low : settled < head
-        low =
-            let least = least_head_le top (settled + 1) all (omega (arith, before, below_top))
-            in omega (arith, least, head_is)
+        low = grind (arith, least_head_le)
 
         pub leap_rises : settled < next - load
         leap_rises = omega (arith, low, next_is)

@@ -1,6 +1,5 @@
 -- The load of some lanes is their span from 0 on, and their work the clock afterwards: how both are put together.
-use Rattle.std.proofs.Common.{◌≡◌, ℕ, ◌+◌, ◌≤◌, max, cond, leb, List, [], ◌∷◌, ◌++◌, refl, ap}
-use Rattle.std.proofs.Common.{◌∙◌, arith, sum_by}
+use Rattle.std.proofs.Common.{◌≡◌, ℕ, ◌+◌, ◌≤◌, max, cond, leb, List, [], ◌∷◌, ◌++◌, refl, ap, ◌∙◌, arith, sum_by}
 use Rattle.std.proofs.lemmas.List.Sums.{sum_by-cons}
 use Rattle.shop_lanes.specs.Rows.{Lane}
 use Rattle.shop_lanes.specs.Spans.{span, greatest_by}
@@ -13,27 +12,18 @@ span-later least s k [] = omega arith
 span-later least s k (x ∷ xs) = grind (arith, span-later least s (k + x.time) xs, span-later least s k xs)
 
 pub span_from_start : (least s : ℕ) (xs : List Lane) → max s (span least s xs) ≡ s + span least 0 xs
-span_from_start least s xs =
-    let e : s ≡ s + 0 = omega arith
-    in ap (λ n. max s (span least n xs)) e ∙ span-later least s 0 xs
+span_from_start least s xs = grind (arith, span-later least s 0 xs)
 
 pub clock-later : (least s : ℕ) (xs : List Lane) → clock_after least s xs ≡ s + clock_after least 0 xs
 clock-later least s [] = omega arith
-clock-later least s (x ∷ xs) = grind (
-  arith,
-  clock-later least (s + x.time) xs,
-  clock-later least (0 + x.time) xs,
-  clock-later least s xs,
-)
+clock-later least s (x ∷ xs) =
+    grind (arith, clock-later least (s + x.time) xs, clock-later least (0 + x.time) xs, clock-later least s xs)
 
 pub clock_after-append : (least s : ℕ) (xs ys : List Lane)
     → clock_after least s (xs ++ ys) ≡ clock_after least (clock_after least s xs) ys
 clock_after-append least s [] ys = refl
-clock_after-append least s (x ∷ xs) ys = grind (
-  arith,
-  clock_after-append least (s + x.time) xs ys,
-  clock_after-append least s xs ys,
-)
+clock_after-append least s (x ∷ xs) ys =
+    grind (arith, clock_after-append least (s + x.time) xs ys, clock_after-append least s xs ys)
 
 pub work-append : (least : ℕ) (xs ys : List Lane)
     → clock_after least 0 (xs ++ ys) ≡ clock_after least 0 xs + clock_after least 0 ys
@@ -50,10 +40,7 @@ work_le_load least xs = let a = clock_le_span least 0 xs in omega (arith, a)
 pub load-append : (least : ℕ) (xs ys : List Lane)
     → span least 0 (xs ++ ys) ≡ max (span least 0 xs) (clock_after least 0 xs + span least 0 ys)
 load-append least xs ys =
-    let split = span-append least 0 xs ys
-    in let later = span_from_start least (clock_after least 0 xs) ys
-    in let within = work_le_load least xs
-    in omega (arith, split, later, within)
+    grind (arith, span-append least 0 xs ys, span_from_start least (clock_after least 0 xs) ys, work_le_load least xs)
 
 -- one lane more
 pub work-one : (least : ℕ) (x : Lane) → clock_after least 0 (x ∷ []) ≡ cond (leb least x.head) x.time 0
@@ -67,23 +54,16 @@ pub load_more : (least : ℕ) (xs : List Lane) (x : Lane)
     → span least 0 (xs ++ (x ∷ []))
     ≡ max (span least 0 xs)
     (cond (leb least x.head) (clock_after least 0 xs + cond (leb least x.head) x.time 0 + x.tail) 0)
-load_more least xs x =
-    load-append least xs (x ∷ []) ∙ (let le = work_le_load least xs in grind (arith, le))
+load_more least xs x = grind (arith, load-append, work_le_load)
 
 -- neither is above what all lanes together come to
 pub work_le : (least : ℕ) (xs : List Lane) → clock_after least 0 xs ≤ sum_by (λ x. x.time) xs
 work_le least [] = omega arith
 work_le least (x ∷ xs) =
-    let sum = sum_by-cons (λ y. y.time) x xs
-    in let later = clock-later least (0 + x.time) xs
-    in let rest = work_le least xs
-    in grind (arith, sum, later, rest)
+    grind (arith, sum_by-cons (λ y. y.time) x xs, clock-later least (0 + x.time) xs, work_le least xs)
 
 pub load_le : (least : ℕ) (xs : List Lane)
     → span least 0 xs ≤ clock_after least 0 xs + greatest_by (λ x. x.tail) xs
 load_le least [] = omega arith
 load_le least (x ∷ xs) =
-    let clock = clock-later least (0 + x.time) xs
-    in let later = span_from_start least (0 + x.time) xs
-    in let rest = load_le least xs
-    in grind (arith, clock, later, rest)
+    grind (arith, clock-later least (0 + x.time) xs, span_from_start least (0 + x.time) xs, load_le least xs)

@@ -21,8 +21,7 @@ half_and a b = same_from_bits (bit_and a b / 2) (bit_and (a / 2) (b / 2)) (λ i.
     ∙ sym (bit_at_and (a / 2) (b / 2) i))
 
 pub lowest_and : (a b : ℕ) → bit_and a b % 2 ≡ min (a % 2) (b % 2)
-lowest_and a b = sym (bit_at_lowest (bit_and a b)) ∙ bit_at_and a b 0
-    ∙ ap (λ x. min x (bit_at b 0)) (bit_at_lowest a) ∙ ap (λ x. min (a % 2) x) (bit_at_lowest b)
+lowest_and a b = grind (arith, bit_at_lowest (bit_and a b), bit_at_and a b 0, bit_at_lowest a, bit_at_lowest b)
 
 pub set_bits-zero : (n at : ℕ) → set_bits n at 0 ≡ []
 unfolding set_bits
@@ -42,23 +41,8 @@ pub set_bits-mask : (p : ℕ → Bool) (n at : ℕ) (xs : List ℕ) → length x
     → set_bits n at (mask_l (map p xs)) ≡ marked p at xs
 set_bits-mask p n at [] le = set_bits-zero n at
 set_bits-mask p zero at (x ∷ xs) le = absurd (omega arith)
-set_bits-mask p (suc n) at (x ∷ xs) le = by_test (set_bits-mask p n (at + 1) xs (omega arith)) (p x) refl
-  where
-    by_test : set_bits n (at + 1) (mask_l (map p xs)) ≡ marked p (at + 1) xs → (b : Bool) → p x ≡ b
-        → set_bits (suc n) at (mask_l (map p (x ∷ xs))) ≡ marked p at (x ∷ xs)
-    by_test rest true e =
-        let m = mask_l (map p xs)
-        in let h : mask_l (map p (x ∷ xs)) ≡ 1 + 2 * m = rw e refl
-        in let odd : (1 + 2 * m) % 2 ≡ 1 = omega arith
-        in let half : (1 + 2 * m) / 2 ≡ m = omega arith
-        in rw (h, e) (set_bits-odd n at (1 + 2 * m) odd ∙ ap (λ b. at ∷ set_bits n (at + 1) b) half
-        ∙ ap (λ l. at ∷ l) rest)
-    by_test rest false e =
-        let m = mask_l (map p xs)
-        in let h : mask_l (map p (x ∷ xs)) ≡ 0 + 2 * m = rw e refl
-        in let odd : (0 + 2 * m) % 2 ≡ 0 = omega arith
-        in let half : (0 + 2 * m) / 2 ≡ m = omega arith
-        in rw (h, e) (set_bits-even n at (0 + 2 * m) odd ∙ ap (λ b. set_bits n (at + 1) b) half ∙ rest)
+set_bits-mask p (suc n) at (x ∷ xs) le =
+    grind (arith, set_bits-odd, set_bits-even, set_bits-mask p n (at + 1) xs (omega arith))
 
 pub odd_lowest : (k m : ℕ) → m % 2 ≡ 1 → count_trailing_zeros (suc k) m ≡ 0
 unfolding count_trailing_zeros
@@ -99,18 +83,6 @@ set_bits-lowest (suc n) at m some small =
     odd_or_even k = elim (cases_eq (k % 2) 1) [ inl e ↦ inl e | inr e ↦ inr (omega arith) ]
 
 -- no position is left exactly where no bit is
-pub no_bits : (n at m : ℕ) → m < 2 ^ n → set_bits n at m ≡ [] → m ≡ 0
-no_bits n at m small e =
-    elim (cases_eq m 0) [
-      | inl z ↦ z
-      | inr some ↦ absurd
-          (let h : set_bits n at m ≡ (at + count_trailing_zeros n m) ∷ set_bits n at (bit_and m (m - 1)) =
-          set_bits-lowest n at m (omega arith) small in nil_cons (sym e ∙ h))
-    ]
-  where
-    nil_cons : {x : ℕ} {xs : List ℕ} → [] ≡ x ∷ xs → ⊥
-    nil_cons h = cc
-
 pub no_bits_exactly : (n at m : ℕ) (marks : List ℕ) → m < 2 ^ n → set_bits n at m ≡ marks
     → IsTrue (nat_eq m 0) ↔ (marks ≡ [])
-no_bits_exactly n at m marks small is = grind (arith, nat_tests, set_bits-zero, no_bits)
+no_bits_exactly n at m marks small is = grind (arith, nat_tests, set_bits-zero, cases_eq, set_bits-lowest)

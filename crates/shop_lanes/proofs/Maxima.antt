@@ -10,8 +10,7 @@ pub greatest_before-get : (most : ℕ) (xs : List ℕ) (k : ℕ) → k < length 
     → get_or (greatest_before most xs) k 0 ≡ max most (greatest (take k xs))
 greatest_before-get most [] k lt = absurd (omega arith)
 greatest_before-get most (x ∷ xs) zero lt = omega arith
-greatest_before-get most (x ∷ xs) (suc k) lt =
-    let rest = greatest_before-get (max most x) xs k (omega arith) in omega (arith, rest)
+greatest_before-get most (x ∷ xs) (suc k) lt = grind (arith, greatest_before-get (max most x) xs k (omega arith))
 
 pub maxima_behind-get : (most : ℕ) (xs : List ℕ) (k : ℕ) → k < length xs
     → get_or (maxima_behind most xs) k 0 ≡ max most (greatest (drop (suc k) xs))
@@ -27,13 +26,7 @@ pair : (p a b : ℕ) → max (max b a) p ≡ max (max p a) b
 pair p a b = omega arith
 
 four : (p a b c d : ℕ) → max (max (max d c) (max b a)) p ≡ max (max (max (max p a) b) c) d
-four p a b c d =
-    let assoc : max (max (max d c) (max b a)) p ≡ max (max d c) (max (max b a) p) =
-    three (max d c) (max b a) p
-    in assoc ∙ ap (max (max d c)) (pair p a b) ∙ pair (max (max p a) b) c d
-  where
-    three : (x y z : ℕ) → max (max x y) z ≡ max x (max y z)
-    three x y z = omega arith
+four p a b c d = grind (arith, pair)
 
 pub before_turned : (v : List ℕ) → length v ≡ 8
     → turned up_four (turned up_two (turned up_one (up_one v))) ≡ greatest_before 0 v
@@ -97,10 +90,4 @@ pub turns_are : (one two four : List ℕ → List ℕ) (v ones moved pairs moved
     → ones ≡ one v → moved ≡ one ones → pairs ≡ zip2 max ones moved → moved' ≡ two pairs
     → fours ≡ zip2 max pairs moved' → moved'' ≡ four fours → all ≡ zip2 max fours moved''
     → all ≡ turned four (turned two (turned one (one v)))
-turns_are one two four v ones moved pairs moved' fours moved'' all eo em ep em' ef em'' ea = grind (
-  arith,
-  one,
-  fours,
-  two,
-  four,
-)
+turns_are one two four v ones moved pairs moved' fours moved'' all eo em ep em' ef em'' ea = grind arith

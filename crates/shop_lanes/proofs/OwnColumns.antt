@@ -107,10 +107,6 @@ module _ (n : ℕ) (owns v new : List ℕ) (eight_long : length v ≡ 8) (room :
   pub stored_at : (j : ℕ) → j < 8 → get_or new (8 * n + j) 0 ≡ get_or v j 0
   stored_at j lt = grind (arith, get_or-put_chunk_at)
 
-  pub stored_behind : (k : ℕ) → 8 * (n + 1) ≤ k → get_or new k 0 ≡ get_or owns k 0
-  stored_behind k le =
-      ap (λ l. get_or l k 0) new_is ∙ get_or-put_chunk_above (8 * n) owns v k 0 (omega (arith, eight_long))
-
 -- the way down as far as block j
 pub record IsNotedTo (count : ℕ) (all : List Lane) (j : ℕ) (clocks most owns : List ℕ) : Type 0 where
   pub long : length owns ≡ 8 * count
@@ -190,10 +186,7 @@ module _ {count : ℕ} {hs ts qs : List ℕ} {rows : List Lane} (cols : AreColum
     heads_eight_long = ap length heads_eight
 
     begins_eight : begins ≡ eight (λ k. clock_after 1 0 (take (k * count) rows))
-    begins_eight =
-        begins_are
-        ∙ eight_same (λ k. clock_after 1 0 (take (k * count + 0) rows)) (λ k. clock_after 1 0 (take (k * count) rows))
-        (λ k lt. ap (λ m. clock_after 1 0 (take m rows)) (omega arith))
+    begins_eight = grind (arith, eight_same)
 
     noted_eight : noted ≡ eight (λ k. span 1 0 (part_of count rows k j))
     noted_eight =
@@ -207,16 +200,12 @@ module _ {count : ℕ} {hs ts qs : List ℕ} {rows : List Lane} (cols : AreColum
     -- the clock of the columns before, and what is served of this one
     front_work : (k : ℕ) → clock_after 1 0 (front_of count rows k j)
         ≡ clock_after 1 0 (take (k * count) rows) + clock_after 1 0 (part_of count rows k j)
-    front_work k =
-        ap (clock_after 1 0) (take-add (k * count) j rows)
-        ∙ work-append 1 (take (k * count) rows) (part_of count rows k j)
+    front_work k = grind (arith, take-add, work-append, part_of)
 
     front_load : (k : ℕ) → span 1 0 (front_of count rows k j)
         ≡ max (span 1 0 (take (k * count) rows))
         (clock_after 1 0 (take (k * count) rows) + span 1 0 (part_of count rows k j))
-    front_load k =
-        ap (span 1 0) (take-add (k * count) j rows)
-        ∙ load-append 1 (take (k * count) rows) (part_of count rows k j)
+    front_load k = grind (arith, take-add, load-append, part_of)
 
     pub noted_fit : AddsFit limit begins noted
     noted_fit =
@@ -231,9 +220,7 @@ module _ {count : ℕ} {hs ts qs : List ℕ} {rows : List Lane} (cols : AreColum
         in omega (arith, work, small, load, tail))))
 
     pub begun_long : {begun : List ℕ} → begun ≡ added begins noted → length begun ≡ 8
-    begun_long told =
-        ap length (told ∙ ap (λ l. added l noted) begins_eight
-        ∙ ap (added (eight (λ k. clock_after 1 0 (take (k * count) rows)))) noted_eight)
+    begun_long told = grind (arith, noted, begins_eight, noted_eight)
 
     module _ {begun first : List ℕ} (begun_is : begun ≡ added begins noted) (first_is : first ≡ zip2 max before begun)
       where
@@ -241,15 +228,7 @@ module _ {count : ℕ} {hs ts qs : List ℕ} {rows : List Lane} (cols : AreColum
         behind_eight = as_eight behind so_far.behind_long
 
         first_fronts : first ≡ eight (λ k. span 1 0 (front_of count rows k j))
-        first_fronts =
-            first_is
-            ∙ ap (zip2 max before) (begun_is ∙ ap (λ l. added l noted) begins_eight
-            ∙ ap (added (eight (λ k. clock_after 1 0 (take (k * count) rows)))) noted_eight)
-            ∙ ap (λ l. zip2 max l (eight (λ k. clock_after 1 0 (take (k * count) rows)
-            + span 1 0 (part_of count rows k j)))) before_are
-            ∙ eight_same (λ k. max (span 1 0 (take (k * count) rows)) (clock_after 1 0 (take (k * count) rows)
-            + span 1 0 (part_of count rows k j))) (λ k. span 1 0 (front_of count rows k j))
-            (λ k lt. sym (front_load k))
+        first_fronts = grind (arith, noted, begins_eight, noted_eight, part_of, eight_same, front_of, front_load)
 
         pub first_long : length first ≡ 8
         first_long = ap length first_fronts
@@ -278,27 +257,17 @@ module _ {count : ℕ} {hs ts qs : List ℕ} {rows : List Lane} (cols : AreColum
             (get_or first k 0) (get_or behind k 0) (first_here k lt) (behind_here k lt) limit fits
 
         pub begins_fit : AddsFit limit heads times
-        begins_fit =
-            subst (λ l. AddsFit limit l times) (sym heads_eight)
-            (subst (AddsFit limit (eight (λ k. get_or hs (8 * j + k) 0))) (sym times_eight)
-            (eight_fit limit (λ k. get_or hs (8 * j + k) 0) (λ k. get_or ts (8 * j + k) 0)
-            (λ k lt. (here_fits k lt).0)))
+        begins_fit = grind (arith, heads_eight, times_eight, eight_fit, here_fits)
 
         own_rest : zip2 max first (lessened behind times)
             ≡ eight (λ k. max (get_or first k 0) (get_or behind k 0 - get_or ts (8 * j + k) 0))
         own_rest = grind (arith, first_eight, behind_eight, times_eight)
 
         own_begins : added heads times ≡ eight (λ k. get_or hs (8 * j + k) 0 + get_or ts (8 * j + k) 0)
-        own_begins =
-            ap (λ l. added l times) heads_eight ∙ ap (added (eight (λ k. get_or hs (8 * j + k) 0))) times_eight
+        own_begins = grind (arith, heads_eight, times_eight)
 
         pub ends_fit : AddsFit limit (added heads times) (zip2 max first (lessened behind times))
-        ends_fit =
-            subst (λ l. AddsFit limit l (zip2 max first (lessened behind times))) (sym own_begins)
-            (subst (AddsFit limit (eight (λ k. get_or hs (8 * j + k) 0 + get_or ts (8 * j + k) 0))) (sym own_rest)
-            (eight_fit limit (λ k. get_or hs (8 * j + k) 0 + get_or ts (8 * j + k) 0)
-            (λ k. max (get_or first k 0) (get_or behind k 0 - get_or ts (8 * j + k) 0))
-            (λ k lt. (here_fits k lt).1)))
+        ends_fit = grind (arith, own_begins, own_rest, eight_fit, here_fits)
 
         front_next : (k : ℕ) → k < 8
             → clock_after 1 0 (front_of count rows k (suc j))
@@ -342,9 +311,7 @@ module _ {count : ℕ} {hs ts qs : List ℕ} {rows : List Lane} (cols : AreColum
         pub late_eight : {waits late : List ℕ} → waits ≡ served_tails → late ≡ added clocks waits
             → late ≡ eight (λ k. clock_after 1 0 (front_of count rows k (suc j))
             + cond (leb 1 (get_or hs (8 * j + k) 0)) (get_or qs (8 * j + k) 0) 0)
-        late_eight waits_are late_is =
-            late_is ∙ ap (added clocks) waits_are ∙ ap (λ l. added l served_tails) clocks_eight
-            ∙ ap (added (eight (λ k. clock_after 1 0 (front_of count rows k (suc j))))) served_tails_eight
+        late_eight waits_are late_is = grind (arith, clocks_eight, front_of, served_tails_eight)
 
         pub served_eight : {served : List ℕ} → served ≡ waiting (get_or one 0 0) heads times
             → served ≡ eight (λ k. cond (leb 1 (get_or hs (8 * j + k) 0)) (get_or ts (8 * j + k) 0) 0)
@@ -408,11 +375,9 @@ module _ {count : ℕ} {hs ts qs : List ℕ} {rows : List Lane} (cols : AreColum
                 within = omega (arith, j_lt);
                 long = stored_long j owns own new own_long room new_is ∙ so_far.long;
                 clocks_are = less_eight;
-                behind_long = ap length more_is ∙ length-zip2 max behind late (so_far.behind_long ∙ sym late_long)
-                    ∙ so_far.behind_long;
+                behind_long = grind (arith, length-zip2, so_far, late_long);
                 behind_are = behind_next;
-                noted = λ p lt. stored_before j owns own new own_long room new_is p lt
-                    ∙ so_far.noted p (omega (arith, lt));
+                noted = λ p lt. grind (arith, stored_before, own_long, so_far);
                 done = λ p from lt waits. elim (cases_lt p (8 * (j + 1))) [
                   | inl within ↦
                       let k : ℕ = p - 8 * j
@@ -428,8 +393,6 @@ module _ {count : ℕ} {hs ts qs : List ℕ} {rows : List Lane} (cols : AreColum
                       ∙ in_eight own_of k k_lt
                       ∙ own_here
                       ∙ ap (own_span_at count hs ts qs) is
-                  | inr past ↦
-                      stored_behind j owns own new own_long room new_is p past
-                      ∙ so_far.done p past lt waits
+                  | inr past ↦ grind (arith, own_long, so_far, get_or-put_chunk_above)
                 ];
               }

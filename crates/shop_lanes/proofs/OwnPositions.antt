@@ -61,11 +61,8 @@ taken_more [] ts qs i a b lt = absurd (omega arith)
 taken_more (h ∷ hs) [] qs i a b lt = absurd (omega arith)
 taken_more (h ∷ hs) (t ∷ ts) [] i a b lt = absurd (omega arith)
 taken_more (h ∷ hs) (t ∷ ts) (q ∷ qs) zero a b lt = refl
-taken_more (h ∷ hs) (t ∷ ts) (q ∷ qs) (suc i) a b lt = grind (
-  arith,
-  taken_more hs ts qs i (omega arith) (omega
-      arith) (omega arith),
-)
+taken_more (h ∷ hs) (t ∷ ts) (q ∷ qs) (suc i) a b lt =
+    grind (arith, taken_more hs ts qs i (omega arith) (omega arith) (omega arith))
 
 -- its end, or when the last of what else waits ends if it is served in this order from there on
 abbrev pub own_in_order : List ℕ → List ℕ → List ℕ → ℕ → ℕ
@@ -80,16 +77,12 @@ fit_numbers : (limit h t q C A R K Z : ℕ) (on : Bool) → K ≡ C + cond on t 
 fit_numbers limit h t q C A R K Z true ek ez f1 f2 f3 = (omega arith, omega arith)
 fit_numbers limit h t q C A R K Z false ek ez f1 f2 f3 = (omega arith, omega arith)
 
-own_numbers : (t C A R K Z : ℕ) → K ≡ C + t → max K Z ≡ K + R → C ≤ A → max A (Z - t) ≡ max A (C + R)
-own_numbers t C A R K Z ek ez le = omega arith
-
 module _ (hs ts qs : List ℕ) (a : length ts ≡ length hs) (b : length qs ≡ length hs) where
   abbrev all : List Lane
   all = lanes hs ts qs
 
   pub parted : (i : ℕ) → i < length hs → all ≡ take i all ++ (lane_at hs ts qs i ∷ drop (i + 1) all)
-  parted i lt =
-      sym (take-append-drop i all) ∙ ap (λ l. take i all ++ l) (lanes_more hs ts qs i a b lt)
+  parted i lt = grind (arith, take-append-drop i all, lanes_more hs ts qs i a b lt)
 
   pub work_more : (i : ℕ) → i < length hs
       → clock_after 1 0 (take (suc i) all)
@@ -127,9 +120,7 @@ module _ (hs ts qs : List ℕ) (a : length ts ≡ length hs) (b : length qs ≡ 
       (behind_is : IsLoadBehind all (suc i) behind) where
     behind_here : max (clock_after 1 0 (take (suc i) all)) behind
         ≡ clock_after 1 0 (take (suc i) all) + span 1 0 (drop (i + 1) all)
-    behind_here =
-        let on : suc i ≡ i + 1 = omega arith
-        in behind_is ∙ ap (λ k. clock_after 1 0 (take (suc i) all) + span 1 0 (drop k all)) on
+    behind_here = grind arith
 
     pub own_fits : (limit : ℕ) → FitOwnSpans limit all
         → (get_or hs i 0 + get_or ts i 0 ≤ limit)
@@ -146,18 +137,4 @@ module _ (hs ts qs : List ℕ) (a : length ts ≡ length hs) (b : length qs ≡ 
 
     pub own_at : 0 < get_or hs i 0
         → get_or hs i 0 + get_or ts i 0 + max before (behind - get_or ts i 0) ≡ own_in_order hs ts qs i
-    own_at waits =
-        let on : leb 1 (get_or hs i 0) ≡ true = is_on (get_or hs i 0) waits
-        in let served : cond (leb 1 (get_or hs i 0)) (get_or ts i 0) 0 ≡ get_or ts i 0 = rw on refl
-        in let clock : clock_after 1 0 (take (suc i) all) ≡ clock_after 1 0 (take i all) + get_or ts i 0 =
-        work_more i lt ∙ ap (λ m. clock_after 1 0 (take i all) + m) served
-        in let rest : max before (behind - get_or ts i 0)
-        ≡ max (span 1 0 (take i all)) (clock_after 1 0 (take i all) + span 1 0 (drop (i + 1) all)) =
-        ap (λ m. max m (behind - get_or ts i 0)) before_is
-        ∙ own_numbers (get_or ts i 0) (clock_after 1 0 (take i all)) (span 1 0 (take i all))
-        (span 1 0 (drop (i + 1) all)) (clock_after 1 0 (take (suc i) all)) behind clock behind_here
-        (work_le_load 1 (take i all))
-        in own_is i (max before (behind - get_or ts i 0)) lt rest
-      where
-        is_on : (k : ℕ) → 0 < k → leb 1 k ≡ true
-        is_on k waits = grind (arith, nat_tests)
+    own_at waits = grind (arith, work_more, behind_here, work_le_load, own_is, nat_tests)

@@ -1,6 +1,5 @@
 -- Where the passes for own spans begin, down the columns and back.
-use Rattle.std.proofs.Common.{◌≡◌, ℕ, ◌+◌, ◌*◌, List, length, take, get_or, refl, ap, sym}
-use Rattle.std.proofs.Common.{◌∙◌, arith, subst}
+use Rattle.std.proofs.Common.{◌≡◌, ℕ, ◌+◌, ◌*◌, List, length, take, get_or, refl, ap, sym, ◌∙◌, arith, subst}
 use Rattle.shop_lanes.specs.Eights.{added}
 use Rattle.shop_lanes.specs.Folds.{greatest_before, maxima_behind, sums_before}
 use Rattle.shop_lanes.proofs.Maxima.{greatest_before-get, maxima_behind-get}
@@ -16,10 +15,7 @@ module _ {count : ℕ} {hs ts qs : List ℕ} {all : List Lane} (cols : AreColumn
     {works begins : List ℕ} (works_are : works ≡ eight (work 1 cols)) (begins_told : begins ≡ sums_before 0 works)
   where
     pub first_clocks : begins ≡ eight (λ k. clock_after 1 0 (take (k * count + 0) all))
-    first_clocks =
-        begins_eight 1 cols works_are begins_told
-        ∙ eight_same (begin 1 cols) (λ k. clock_after 1 0 (take (k * count + 0) all))
-        (λ k lt. ap (λ n. clock_after 1 0 (take n all)) (omega arith))
+    first_clocks = grind (arith, begins_eight, eight_same, begin)
 
     pub last_clocks : {clocks : List ℕ} → clocks ≡ added begins works
         → clocks ≡ eight (λ k. clock_after 1 0 (take (k * count + count) all))

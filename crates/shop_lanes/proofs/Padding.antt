@@ -1,7 +1,6 @@
 -- Rows that are filled up to whole blocks, and what of them is seen.
-use Rattle.std.proofs.Common.{◌≡◌, ℕ, zero, suc, ◌+◌, ◌-◌, ◌*◌, ◌/◌, ◌<◌, ◌≤◌, Bool}
-use Rattle.std.proofs.Common.{inl, inr, List, [], ◌∷◌, length, map, take, set, replicate, get_or, refl, ap, sym}
-use Rattle.std.proofs.Common.{◌∙◌, arith, length-set}
+use Rattle.std.proofs.Common.{◌≡◌, ℕ, zero, suc, ◌+◌, ◌-◌, ◌*◌, ◌/◌, ◌<◌, ◌≤◌, Bool, inl, inr, List, [], ◌∷◌, length}
+use Rattle.std.proofs.Common.{map, take, set, replicate, get_or, refl, ap, sym, ◌∙◌, arith, length-set}
 use Rattle.std.proofs.lemmas.Bool.{cases_lt}
 use Rattle.std.proofs.lemmas.Bool.Decides.{nat_tests}
 use Rattle.std.proofs.lemmas.List.{length-replicate, length-take, get_or-replicate, get_or-take, get_or-drop}
@@ -37,26 +36,11 @@ set_le top (y ∷ xs) (suc i) x small le (suc k) = set_le top xs i x (λ n. smal
 
 pub padded_none : (none jobs : ℕ) (ends : List ℕ) → ends ≡ replicate (8 * (jobs / 8 + 1)) none
     → IsPadded none jobs ends × (take jobs ends ≡ replicate jobs none)
-padded_none none jobs ends e = grind (
-  arith,
-  length-replicate,
-  drop-replicate,
-  replicate,
-  replicate_le,
-  take-replicate,
-)
+padded_none none jobs ends e = grind (arith, length-replicate, drop-replicate, replicate_le, take-replicate)
 
 pub padded_set : (none jobs : ℕ) (ends : List ℕ) (job end : ℕ) → IsPadded none jobs ends → job < length (take jobs ends)
     → end ≤ none → IsPadded none jobs (set ends job end)
-padded_set none jobs ends job end h lt le =
-    let before : job < jobs = let a = h.within in omega (arith, length-take jobs ends)
-    in record {
-      whole_blocks = rw (length-set ends job end) h.whole_blocks;
-      within = let a = h.within in omega (arith, length-set ends job end);
-      rest = drop-set-lt jobs ends job end before ∙ h.rest
-          ∙ ap (λ n. replicate (n - jobs) none) (sym (length-set ends job end));
-      least = set_le none ends job end h.least le;
-    }
+padded_set none jobs ends job end h lt le = grind (arith, length-take, length-set, drop-set-lt, set_le)
 
 -- the first least of a padded row is one of the jobs' ends
 pub first_least_seen : (none jobs : ℕ) (ends : List ℕ) (i : ℕ) → IsPadded none jobs ends → 0 < length (take jobs ends)
@@ -98,17 +82,9 @@ marked_alike p q same at [] = refl
 marked_alike p q same at (x ∷ xs) = grind (arith, marked_alike p q same (at + 1) xs)
 
 -- above 0 and at most one less than the limit
-below_is_between : (limit x : ℕ) → is_between 0 (limit - 1) x ≡ waits_below limit x
-below_is_between limit x = grind (arith, nat_tests)
-
 pub marks_below : (heads : List ℕ) (from to limit upto bits : ℕ) (marks : List ℕ) → 8 * to ≤ length heads
     → to ≤ from + 8 → upto ≡ limit - 1 → marks ≡ set_bits 64 (8 * from) bits
     → bits ≡ mask_l (map (is_between 0 upto) (blocks from to heads))
     → marks ≡ marked (waits_below limit) (8 * from) (blocks from to heads)
-marks_below heads from to limit upto bits marks room few below marks_are bits_are = grind (
-  arith,
-  length-blocks,
-  set_bits-mask,
-  marked_alike,
-  below_is_between,
-)
+marks_below heads from to limit upto bits marks room few below marks_are bits_are =
+    grind (arith, length-blocks, set_bits-mask, marked_alike, nat_tests)

@@ -39,6 +39,4 @@ module _ {A : Type 0} (f : A → ℕ) where
     count_cut = omega (arith, long_cut)
 
     pub lanes_of_cut : lanes_in f cut ≡ lanes_of heads times tails from to
-    lanes_of_cut = rw (count_cut, heads_cut, times_cut, tails_cut)
-        (ap (λ (xs : List Lane). by_columns (to - from) xs)
-        (lanes-blocks heads times tails from to of.times_are_as_many of.tails_are_as_many))
+    lanes_of_cut = grind (arith, count_cut, heads_cut, times_cut, tails_cut, lanes-blocks)

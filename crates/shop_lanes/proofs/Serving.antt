@@ -8,8 +8,7 @@ pub length-waiting : (least : ℕ) (hs ts : List ℕ) → length ts ≡ length h
 length-waiting least [] [] e = refl
 length-waiting least [] (t ∷ ts) e = absurd (omega arith)
 length-waiting least (h ∷ hs) [] e = absurd (omega arith)
-length-waiting least (h ∷ hs) (t ∷ ts) e =
-    let rest = length-waiting least hs ts (omega arith) in omega (arith, rest)
+length-waiting least (h ∷ hs) (t ∷ ts) e = grind (arith, length-waiting least hs ts (omega arith))
 
 pub added_long : (xs ys zs : List ℕ) → length xs ≡ 8 → length ys ≡ 8 → zs ≡ added xs ys → length zs ≡ 8
 added_long xs ys zs a b e = ap length e ∙ length-zip2 (λ x y. x + y) xs ys (a ∙ sym b) ∙ a

@@ -10,12 +10,8 @@ use Rattle.shop_lanes.specs.inner.Passes.{clock_after}
 pub span-append : (least start : ℕ) (xs ys : List Lane)
     → span least start (xs ++ ys) ≡ max (span least start xs) (span least (clock_after least start xs) ys)
 span-append least start [] ys = omega arith
-span-append least start (x ∷ xs) ys = grind (
-  arith,
-  span-append least (start + x.time) xs ys,
-  span-append least
-      start xs ys,
-)
+span-append least start (x ∷ xs) ys =
+    grind (arith, span-append least (start + x.time) xs ys, span-append least start xs ys)
 
 pub greatest_by-append : (f : Lane → ℕ) (xs ys : List Lane)
     → greatest_by f (xs ++ ys) ≡ max (greatest_by f xs) (greatest_by f ys)

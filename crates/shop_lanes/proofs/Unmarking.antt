@@ -38,8 +38,7 @@ set_bits-without (suc n) at m c q same clear =
           in elim (odd_or_even m) [
             | inl odd ↦ set_bits-odd n at c (one ∙ odd) ∙ ap (λ ps. at ∷ ps) rest
                 ∙ sym (ap (without q) (set_bits-odd n at m odd) ∙ without-other q at _ ne)
-            | inr even ↦ set_bits-even n at c (one ∙ even) ∙ rest
-                ∙ sym (ap (without q) (set_bits-even n at m even))
+            | inr even ↦ grind (arith, set_bits-even n at c (one ∙ even), set_bits-even n at m even)
           ])
     ]
   where
@@ -86,13 +85,7 @@ positions_among-set heads from to limit q =
 
     there : (hs : List ℕ) (i : ℕ) → i < length (blocks from to hs)
         → get_or (blocks from to hs) i 0 ≡ get_or hs (8 * from + i) 0
-    there hs i here =
-        get_or-take (8 * to - 8 * from) (drop (8 * from) hs) i 0
-        (omega (arith, length-take (8 * to - 8 * from) (drop (8 * from) hs)))
-        ∙ get_or-drop (8 * from) hs i 0
+    there hs i here = grind (arith, get_or-take, length-take, get_or-drop)
 
     emptied : (k : ℕ) → k ≡ q → get_or (set heads q 0) k 0 ≡ 0
-    emptied k e = elim (cases_lt q (length heads)) [
-      | inl known ↦ get_or-set_at heads q k 0 0 e known
-      | inr past ↦ get_or_past (set heads q 0) k 0 (omega (arith, length-set heads q 0))
-    ]
+    emptied k e = grind (arith, cases_lt, get_or-set_at, get_or_past, length-set)

@@ -35,12 +35,7 @@ between_told_is : (w : Width) (n above upto : ℕ) (v : List ℕ) → length v �
 between_told_is w zero above upto [] e = refl
 between_told_is w zero above upto (x ∷ v) e = absurd (omega arith)
 between_told_is w (suc n) above upto [] e = absurd (omega arith)
-between_told_is w (suc n) above upto (x ∷ v) e = grind (
-  arith,
-  top_both,
-  between_told_is w n above upto v (omega
-      arith),
-)
+between_told_is w (suc n) above upto (x ∷ v) e = grind (arith, top_both, between_told_is w n above upto v (omega arith))
 
 pub bits_between_are : (w : Width) (n above upto : ℕ) (v : List ℕ) → length v ≡ n → n ≤ 64
     → mask_l (between_told w n above upto v) % 2 ^ 64 ≡ mask_l (map (is_between above upto) v)

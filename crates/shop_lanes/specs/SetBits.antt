@@ -1,6 +1,5 @@
 -- The bits of a number as positions.
-use Rattle.std.specs.Prelude.{ℕ, zero, suc, ◌+◌, ◌/◌, ◌%◌, List, [], ◌∷◌, if◌then◌else◌}
-use Rattle.std.specs.Prelude.{nat_eq}
+use Rattle.std.specs.Prelude.{ℕ, zero, suc, ◌+◌, ◌/◌, ◌%◌, List, [], ◌∷◌, if◌then◌else◌, nat_eq}
 
 -- which of the lowest n bits are set, the lowest counted as `at`
 unfoldable pub set_bits : ℕ → ℕ → ℕ → List ℕ

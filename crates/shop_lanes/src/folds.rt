@@ -1,8 +1,7 @@
 // Running sums, running maxima, and the greatest and least of the eight numbers of a block.
 ghost use Rattle.std.specs.Prelude.{◌≡◌, ◌≤◌, length};
 ghost use Rattle.std.specs.Simd.Lanes.{sum_l};
-ghost use Rattle.shop_lanes.specs.Folds.{running, sums_before, greatest, least_up_to};
-ghost use Rattle.shop_lanes.specs.Folds.{greatest_before, maxima_behind};
+ghost use Rattle.shop_lanes.specs.Folds.{running, sums_before, greatest, least_up_to, greatest_before, maxima_behind};
 
 use crate::blocks::Block;
 

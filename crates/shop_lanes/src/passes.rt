@@ -1,7 +1,6 @@
 // Passes over rows of numbers, eight at a time: find the load of a machine, the least number of a row, and (as bits of
 // a mask) which numbers lie in a range or equal a number.
-ghost use Rattle.std.specs.Prelude.{◌≡◌, ℕ, ◌+◌, ◌*◌, ◌/◌, ◌%◌, ◌^◌, ◌<◌, ◌≤◌, ◌==◌, length, map};
-ghost use Rattle.std.specs.Prelude.{drop, slice_index};
+ghost use Rattle.std.specs.Prelude.{◌≡◌, ℕ, ◌+◌, ◌*◌, ◌/◌, ◌%◌, ◌^◌, ◌<◌, ◌≤◌, ◌==◌, length, map, drop, slice_index};
 ghost use Rattle.std.specs.Simd.Lanes.{mask_l};
 ghost use Rattle.shop_lanes.specs.Rows.{lanes_in};
 ghost use Rattle.shop_lanes.specs.Spans.{span, FitsSpan};

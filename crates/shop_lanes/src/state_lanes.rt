@@ -2,8 +2,7 @@
 ghost use Rattle.std.specs.Prelude.{◌≡◌, ℕ, ◌+◌, ◌-◌, ◌*◌, ◌%◌, ◌<◌, ◌≤◌, max, List, All, IfOk};
 ghost use Rattle.std.specs.Prelude.{length, map, replicate, slice_index, slice_index_or, slice_set};
 ghost use Rattle.shop_lanes.specs.Rows.{lanes_in, lanes_of, AreBlocksOf};
-ghost use Rattle.shop_lanes.specs.Spans.{spans_between, FitsSpan, FitOwnSpans, AreOwnSpans};
-ghost use Rattle.shop_lanes.specs.Spans.{IsRaisedBelow};
+ghost use Rattle.shop_lanes.specs.Spans.{spans_between, FitsSpan, FitOwnSpans, AreOwnSpans, IsRaisedBelow};
 ghost use Rattle.shop_lanes.specs.Marks.{positions_among};
 ghost use Rattle.shop_lanes.specs.Ends.{IsFirstLeast};
 

@@ -4,8 +4,7 @@ use Rattle.std.proofs.Common.{length, get_or, sym, ◌∙◌, ap, subst, arith}
 use Rattle.std.specs.Int.{div_ceil}
 use Rattle.std.proofs.lemmas.Bool.{cases_eq}
 use Rattle.std.proofs.lemmas.Grind.{div_ceil_times}
-use Rattle.std.proofs.lemmas.List.{get_or_append_left, get_or_default, get_or_past}
-use Rattle.std.proofs.lemmas.List.{length-append}
+use Rattle.std.proofs.lemmas.List.{get_or_append_left, get_or_default, get_or_past, length-append}
 use Rattle.std.proofs.Math.Seq.{get_or-append_seam}
 use Rattle.shop_lanes.specs.Rows.{place_at_rank}
 use Rattle.shop_lanes.proofs.Columns.{place_fits, rank_of_place}
@@ -47,36 +46,7 @@ cells_more lists n cells blocks before short slots are count low high more added
       machines = (let a = ap length noted in omega (arith, a, many, length-append blocks (last ∷ [])));
       from_0 = old 0 (omega arith) ∙ before.from_0;
       whole = (let a = new in omega arith);
-      each = λ m below. elim (cases_eq m n) [
-        | inl e ↦ subst (λ (k : ℕ). IsListIn more after k (get_or lists k [])) (sym e)
-            (subst (λ (xs : List Slot). IsListIn more after n xs) are (record {
-              room = (let a = old n (omega arith) in let b = new in omega arith);
-              at = λ i d here. stands i (omega arith) ∙ get_or_default slots i no_slot d here;
-              padding = λ i from to. (let a = old n (omega arith) in let b = new
-                  in stands i (omega arith) ∙ get_or_past slots i no_slot from);
-              within = (let b = new in omega arith);
-            }))
-        | inr ne ↦ (let l = before.each m (omega arith)
-            in let a = old m (omega arith) in let b = old (m + 1) (omega arith)
-            in let within = l.within in let room = l.room
-            in let its : get_or after (m + 1) 0 - get_or after m 0 ≡ get_or blocks (m + 1) 0 - get_or blocks m 0 =
-            omega arith
-            in let first : 8 * get_or after m 0 ≡ 8 * get_or blocks m 0 = omega arith
-            in let same : (i : ℕ) → 8 * get_or blocks m 0 + i < 8 * get_or blocks (m + 1) 0
-            → get_or more (position_at_rank after m i) no_slot ≡ get_or cells (position_at_rank blocks m i) no_slot =
-            (λ i here. let inside = position_within blocks m i here
-            in let there : position_at_rank after m i ≡ position_at_rank blocks m i =
-            ap (λ (k : ℕ). 8 * get_or after m 0 + place_at_rank k i) its
-            ∙ ap (λ (k : ℕ). k + place_at_rank (get_or blocks (m + 1) 0 - get_or blocks m 0) i) first
-            in ap (λ (q : ℕ). get_or more q no_slot) there
-            ∙ added.before (position_at_rank blocks m i) (omega (arith, inside, within)))
-            in record {
-              room = omega arith;
-              at = λ i d here. same i (omega arith) ∙ l.at i d here;
-              padding = λ i from to. same i (omega arith) ∙ l.padding i from (omega arith);
-              within = omega arith;
-            })
-      ];
+      each = λ m below. grind (arith, cases_eq, get_or_default, get_or_past, position_within);
       few = (let a = before.few in let b = short n in let d = ap length are in omega arith);
       some = λ any. elim (cases_eq (length cells) 0) [
         | inl none ↦ (n, omega arith, (let d = ap length are in omega arith))
@@ -94,9 +64,7 @@ module _ (lists : List (List Slot)) (n : ℕ) (cells : List Slot) (blocks : List
     (whole : count ≡ div_ceil (length slots) 8)
   where
     pub count_small : 8 * count < 2 ^ 32
-    count_small =
-        let bounds = count_bounds (length slots) count whole in let high = bounds.1
-        in let d = short n in let e = ap length are in omega arith
+    count_small = grind (arith, count_bounds)
 
     module _ (more : List Slot) (added : AreAdded slots count (8 * count) cells more) (last : ℕ)
         (last_is : last ≡ length more / 8) where

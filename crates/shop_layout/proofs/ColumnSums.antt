@@ -15,8 +15,7 @@ sum_to g (suc n) = sum_to g n + g n
 sum_to-same : (g h : ℕ → ℕ) (n : ℕ) → ((i : ℕ) → i < n → g i ≡ h i) → sum_to g n ≡ sum_to h n
 unfolding sum_to
 sum_to-same g h zero each = refl
-sum_to-same g h (suc n) each =
-    let a = sum_to-same g h n (λ i below. each i (omega arith)) in let b = each n (omega arith) in omega (arith, a, b)
+sum_to-same g h (suc n) each = grind (arith, sum_to-same g h n (λ i below. each i (omega arith)), each n (omega arith))
 
 sum_to-add : (g : ℕ → ℕ) (a b : ℕ) → sum_to g (a + b) ≡ sum_to g a + sum_to (λ i. g (a + i)) b
 unfolding sum_to
@@ -36,11 +35,7 @@ module _ (g : ℕ → ℕ) where
   by_blocks : (n : ℕ) → sum_to g (8 * n) ≡ columns n
   unfolding sum_to column columns
   by_blocks zero = refl
-  by_blocks (suc n) =
-      let e : 8 * suc n ≡ 8 * n + 8 = omega arith
-      in let rest = by_blocks n
-      in let more = sum_to-add g (8 * n) 8
-      in ap (sum_to g) e ∙ omega (arith, rest, more)
+  by_blocks (suc n) = grind (arith, by_blocks n, sum_to-add g (8 * n) 8, sum_to g)
 
   module _ (count : ℕ) where
     abbrev at_rank : ℕ → ℕ
@@ -70,8 +65,7 @@ module _ {A : Type 0} (f : A → ℕ) (d : A) where
       in let rest = of_first xs n (omega arith) in omega (arith, more, last, rest)
 
   of_all : (xs : List A) (n : ℕ) → length xs ≡ n → sum_by f xs ≡ sum_to (λ i. f (get_or xs i d)) n
-  of_all xs n long =
-      sym (ap (λ (ys : List A). sum_by f ys) (take_all n xs (omega arith))) ∙ of_first xs n (omega arith)
+  of_all xs n long = grind (arith, take_all n xs (omega arith), of_first xs n (omega arith))
 
   sum_same : (count : ℕ) (xs : List A) → length xs ≡ 8 * count → sum_by f (by_columns count xs) ≡ sum_by f xs
   sum_same count xs whole =
@@ -84,6 +78,5 @@ module _ {A : Type 0} (f : A → ℕ) (d : A) where
 -- read by columns or not, blocks add up to the same
 pub sum_by_columns : {A : Type 0} (f : A → ℕ) (count : ℕ) (xs : List A) → length xs ≡ 8 * count
     → sum_by f (by_columns count xs) ≡ sum_by f xs
-sum_by_columns f count [] whole =
-    let none : count ≡ 0 = omega arith in ap (λ (n : ℕ). sum_by f (by_columns n [])) none
+sum_by_columns f count [] whole = grind arith
 sum_by_columns f count (x ∷ xs) whole = sum_same f x count (x ∷ xs) whole

@@ -15,9 +15,4 @@ all_flat P f (j ∷ js) h = all_append P (f j) (flat_map f js) h.0 (all_flat P f
 
 pub range_within : (a n : ℕ) → AllByRecursion (λ k. (a ≤ k) × (k < a + n)) (range_with_len a n)
 range_within a zero = tt
-range_within a (suc n) = (
-  (omega arith, omega arith),
-  all_map (λ k. (a + 1 ≤ k) × (k < a + 1 + n)) (λ k. (a ≤ k) × (k < a + suc n))
-      (λ k h. (let b = h.0 in let c = h.1 in (omega arith, omega arith))) (range_with_len (a + 1) n)
-      (range_within (a + 1) n),
-)
+range_within a (suc n) = grind (arith, all_map, range_within (a + 1) n)

@@ -10,26 +10,18 @@ use Rattle.shop_layout.specs.declared.slots.Slot.{Slot}
 use Rattle.shop_layout.specs.Slots.{AreMachineSlots, AreSlotsOf}
 use Rattle.shop_layout.specs.inner.Layings.{AreCells, AreNoted, ArePlaces, AreShorter, HasRoutes}
 use Rattle.shop_layout.specs.inner.Layings.{IsInRows, no_slot, place_after}
-use Rattle.shop_layout.specs.Positions.{AreMachinesOf, place_in, place_or, IsLaidOut, LayoutState}
-use Rattle.shop_layout.specs.Positions.{position_at_rank}
+use Rattle.shop_layout.specs.Positions.{AreMachinesOf, place_in, place_or, IsLaidOut, LayoutState, position_at_rank}
 use Rattle.shop_layout.proofs.ApartSlots.{slots_few}
 use Rattle.shop_layout.proofs.Ranks.{rank_at}
 use Rattle.shop_layout.proofs.SlotFacts.{slots_are_operations}
 
 pub machine_few : (shop : Shop) → IsWithinLimits shop → (lists : List (List Slot)) → AreMachineSlots shop lists
     → AreShorter 100000 lists
-machine_few shop limits lists are m = elim (cases_lt m shop.machines) [
-  | inl known ↦ slots_few shop limits m (get_or lists m []) (are.slots m known)
-  | inr none ↦ (let a = are.machines
-      in let e = ap length (get_or_past lists m [] (omega arith)) in omega arith)
-]
+machine_few shop limits lists are m = grind (arith, cases_lt, slots_few, get_or_past)
 
 pub rows_in : (shop : Shop) (rows : List (List ℕ)) → HasRoutes shop rows → (m : ℕ) (slots : List Slot)
     → AreSlotsOf shop m slots → All (IsInRows rows) slots
-rows_in shop rows shape m slots are k d here =
-    let op = slots_are_operations shop m slots are k d here
-    in let a = op.job in let b = op.step in let j = shape.jobs in let r = shape.routes (get_or slots k d).job
-    in record { job = omega arith; step = omega arith }
+rows_in shop rows shape m slots are k d here = grind (arith, slots_are_operations shop m slots are k d here)
 
 -- the places of one more machine
 pub places_turn : (shop : Shop) (lists : List (List Slot)) (blocks : List ℕ) (n : ℕ) (old new : List (List ℕ))
@@ -37,27 +29,7 @@ pub places_turn : (shop : Shop) (lists : List (List Slot)) (blocks : List ℕ) (
     → (slots : List Slot) → slots ≡ get_or lists n []
     → AreNoted (length slots) (8 * get_or blocks n 0) (get_or blocks (n + 1) 0 - get_or blocks n 0) slots old new
     → ArePlaces shop lists blocks (n + 1) new
-places_turn shop lists blocks n old new are known before slots is noted = record {
-  shape = record {
-    jobs = noted.long ∙ before.shape.jobs;
-    routes = λ j. noted.rows j ∙ before.shape.routes j;
-  };
-  each = λ m i d below here. elim (cases_eq m n) [
-    | inl e ↦ (let same : get_or lists m [] ≡ slots = ap (λ (k : ℕ). get_or lists k []) e ∙ sym is
-        in let a = noted.noted i d (let b = ap length same in omega arith)
-        in ap (λ (xs : List Slot). place_in new (get_or xs i d).job (get_or xs i d).step) same
-        ∙ (a ∙ ap (λ (k : ℕ). position_at_rank blocks k i) (sym e)))
-    | inr ne ↦ (let s = get_or (get_or lists m []) i d
-        in noted.others s.job s.step (λ p q l e f. ne (
-        let x = get_or slots p q
-        in let mine = (slots_are_operations shop m (get_or lists m []) (are.slots m (omega arith)) i d here).machine
-        in let its = (slots_are_operations shop n slots
-        (subst (AreSlotsOf shop n) (sym is) (are.slots n known)) p q l).machine
-        in let j = ap (λ (k : ℕ). machine_of shop k x.step) e
-        in let k = ap (λ (k : ℕ). machine_of shop s.job k) f in omega arith))
-        ∙ before.each m i d (omega arith) here)
-  ];
-}
+places_turn shop lists blocks n old new are known before slots is noted = grind (arith, cases_eq, slots_are_operations)
 
 -- the positions of one more machine
 pub machines_turn : (blocks : List ℕ) (n : ℕ) (old new : List ℕ) (to : ℕ) → AreMachinesOf blocks n old
@@ -126,18 +98,8 @@ module _ (shop : Shop) (limits : IsWithinLimits shop) (lists : List (List Slot))
       in let r = rank_at blocks at.0 q low high
       in let i = r.rank
       in elim (cases_lt i (length slots)) [
-        | inl l ↦ (let is : get_or cells q d ≡ get_or slots i no_slot =
-            same ∙ (ap (λ (n : ℕ). get_or cells n no_slot) (sym r.at) ∙ list.at i no_slot l)
-            in let op = slots_are_operations shop at.0 slots (are.slots at.0 at.1) i no_slot l
-            in let job = op.job in let step = op.step in let jobs = limits.jobs
-            in let routes = limits.routes (get_or slots i no_slot).job
-            in let a = ap (λ (s : Slot). s.job) is in let b = ap (λ (s : Slot). s.step) is
-            in (omega arith, omega arith))
-        | inr l ↦ (let is : get_or cells q d ≡ no_slot =
-            same ∙ (ap (λ (n : ℕ). get_or cells n no_slot) (sym r.at) ∙ list.padding i l r.within)
-            in let a = ap (λ (s : Slot). s.job) is in let b = ap (λ (s : Slot). s.step) is
-            in let some = jobs_known (omega arith)
-            in (omega arith, omega arith))
+        | inl l ↦ grind (arith, slots_are_operations shop at.0 slots (are.slots at.0 at.1) i no_slot l)
+        | inr l ↦ grind (arith, jobs_known (omega arith))
       ]
 
   -- the blocks of the machines stand one after another
@@ -145,17 +107,7 @@ module _ (shop : Shop) (limits : IsWithinLimits shop) (lists : List (List Slot))
   blocks_rise m known = let room = (laid.each m known).room in omega arith
 
   pub blocks_few : All (λ b. b ≤ 10000800) blocks
-  blocks_few k d here =
-      let few = laid.few in let machines = limits.machines in let long = laid.machines
-      in let same = get_or_default blocks k d 0 here
-      in of k (omega arith) same where
-        of : (k : ℕ) → k ≤ shop.machines → get_or blocks k d ≡ get_or blocks k 0 → get_or blocks k d ≤ 10000800
-        of zero known same = let a = laid.from_0 in omega arith
-        of (suc k) known same =
-            let few = laid.few in let machines = limits.machines
-            in let within = (laid.each k (omega arith)).within
-            in let e : suc k ≡ k + 1 = omega arith
-            in let f = ap (λ (n : ℕ). get_or blocks n 0) e in omega arith
+  blocks_few k d here = grind (arith, get_or_default blocks k d 0 here)
 
   column : (f : Slot → ℕ) → f no_slot ≡ 0 → (q : ℕ) → get_or (map f cells) q 0 ≡ f (get_or cells q no_slot)
   column f nil q = grind (arith, cases_lt, get_or-map, get_or_past, length-map)
@@ -166,65 +118,4 @@ module _ (shop : Shop) (limits : IsWithinLimits shop) (lists : List (List Slot))
       → AreMachinesOf blocks shop.machines l.machines → l.following ≡ map (place_after (length cells) rows) cells
       → IsLaidOut shop l
   laid_out rows placed l jobs steps times tails places is machines following =
-      let block : (m : ℕ) → 8 * get_or l.blocks m 0 ≡ 8 * get_or blocks m 0 =
-      (λ m. ap (λ (xs : List ℕ). 8 * get_or xs m 0) is)
-      in let whole = laid.whole
-      in let many : length cells ≡ 8 * get_or l.blocks shop.machines 0 =
-      (let a = block shop.machines in omega arith)
-      in let job = λ (q : ℕ). ap (λ (xs : List ℕ). get_or xs q 0) jobs ∙ column (λ s. s.job) refl q
-      in let step = λ (q : ℕ). ap (λ (xs : List ℕ). get_or xs q 0) steps ∙ column (λ s. s.step) refl q
-      in let time = λ (q : ℕ). ap (λ (xs : List ℕ). get_or xs q 0) times ∙ column (λ s. s.time) refl q
-      in let tail = λ (q : ℕ). ap (λ (xs : List ℕ). get_or xs q 0) tails ∙ column (λ s. s.tail) refl q
-      in record {
-        slots = lists;
-        are = are;
-        machines = ap length is ∙ laid.machines;
-        from_0 = ap (λ (xs : List ℕ). get_or xs 0 0) is ∙ laid.from_0;
-        positions = record {
-          jobs = ap length jobs ∙ (length-map cells (λ s. s.job) ∙ many);
-          steps = ap length steps ∙ (length-map cells (λ s. s.step) ∙ many);
-          times = ap length times ∙ (length-map cells (λ s. s.time) ∙ many);
-          tails = ap length tails ∙ (length-map cells (λ s. s.tail) ∙ many);
-          following = ap length following ∙ (length-map cells (place_after (length cells) rows) ∙ many);
-        };
-        each = λ m known. (let list = laid.each m known
-            in let a = block m in let b = block (m + 1) in let room = list.room
-            in let there : (i : ℕ) → position_at_rank l.blocks m i ≡ position_at_rank blocks m i =
-            (λ i. ap (λ (bs : List ℕ). position_at_rank bs m i) is)
-            in record {
-              room = omega arith;
-              at = λ i d here. (let q = position_at_rank l.blocks m i
-                  in let e = there i
-                  in let stands : get_or cells q no_slot ≡ get_or (get_or lists m []) i d =
-                  ap (λ (n : ℕ). get_or cells n no_slot) e ∙ list.at i d here
-                  in record {
-                    job = job q ∙ ap (λ (s : Slot). s.job) stands;
-                    step = step q ∙ ap (λ (s : Slot). s.step) stands;
-                    time = time q ∙ ap (λ (s : Slot). s.time) stands;
-                    tail = tail q ∙ ap (λ (s : Slot). s.tail) stands;
-                    place = ap (λ (xs : List (List ℕ)). place_in xs (get_or (get_or lists m []) i d).job
-                        (get_or (get_or lists m []) i d).step) places
-                        ∙ (placed.each m i d known here ∙ sym e);
-                  });
-              padding = λ i from to. (let q = position_at_rank l.blocks m i
-                  in let stands : get_or cells q no_slot ≡ no_slot =
-                  ap (λ (n : ℕ). get_or cells n no_slot) (there i) ∙ list.padding i from (omega arith)
-                  in record {
-                    time = time q ∙ ap (λ (s : Slot). s.time) stands;
-                    tail = tail q ∙ ap (λ (s : Slot). s.tail) stands;
-                  });
-            });
-        jobs = ap length places ∙ placed.shape.jobs;
-        routes = λ j. ap (λ (xs : List (List ℕ)). length (get_or xs j [])) places ∙ placed.shape.routes j;
-        machines_at = subst (λ (bs : List ℕ). AreMachinesOf bs shop.machines l.machines) (sym is) machines;
-        known = λ q here. (let a = job q in let b = cells_known q no_slot (omega arith) in let d = b.0 in omega arith);
-        follows = λ q here. ap (λ (xs : List ℕ). get_or xs q 0) following
-            ∙ (get_or-map (place_after (length cells) rows) cells q no_slot 0 (omega arith)
-            ∙ (ap (λ (n : ℕ). place_after n rows (get_or cells q no_slot)) many
-            ∙ (ap (λ (xs : List (List ℕ)). place_after (8 * get_or l.blocks shop.machines 0) xs
-            (get_or cells q no_slot)) (sym places)
-            ∙ (ap (λ (j : ℕ). place_or (8 * get_or l.blocks shop.machines 0) l.places j
-            ((get_or cells q no_slot).step + 1)) (sym (job q))
-            ∙ ap (λ (k : ℕ). place_or (8 * get_or l.blocks shop.machines 0) l.places (get_or l.jobs q 0) (k + 1))
-            (sym (step q))))));
-      }
+      grind (arith, column, length-map, cells_known, get_or-map)

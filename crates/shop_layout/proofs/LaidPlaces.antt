@@ -31,14 +31,8 @@ pub record IsOperationAt (shop : Shop) (l : LayoutState) (q : ℕ) : Type 0 wher
 module _ (shop : Shop) (limits : IsWithinLimits shop) (l : LayoutState) (laid : IsLaidOut shop l) where
   -- machines stand one after another
   pub later_machine : (d m k : ℕ) → m + d ≡ k → k ≤ shop.machines → first_position l m ≤ first_position l k
-  later_machine zero m k e known =
-      let same : first_position l m ≡ first_position l k = ap (first_position l) (let f = e in omega arith) in omega
-      arith
-  later_machine (suc d) m k e known =
-      let before = later_machine d m (m + d) refl (omega arith)
-      in let room = (laid.each (m + d) (omega arith)).room
-      in let same : first_position l k ≡ first_position l (m + d + 1) = ap (first_position l) (omega arith)
-      in omega arith
+  later_machine zero m k e known = grind arith
+  later_machine (suc d) m k e known = grind (arith, later_machine d m (m + d) refl (omega arith))
 
   pub machines_rise : (m k : ℕ) → m ≤ k → k ≤ shop.machines → first_position l m ≤ first_position l k
   machines_rise m k le known = later_machine (k - m) m k (omega arith) known
@@ -98,11 +92,9 @@ module _ (shop : Shop) (limits : IsWithinLimits shop) (l : LayoutState) (laid : 
       in let from = a.from in let to = a.to
       in let its = limits.on_machines j k
       in elim (cases_lt (machine_of shop j k) m) [
-        | inl below ↦ (let r = machines_rise (machine_of shop j k + 1) m (omega arith) (omega arith)
-            in absurd (omega arith))
+        | inl below ↦ grind (arith, machines_rise (machine_of shop j k + 1) m (omega arith) (omega arith))
         | inr above ↦ elim (cases_lt m (machine_of shop j k)) [
-          | inl more ↦ (let r = machines_rise (m + 1) (machine_of shop j k) (omega arith) (omega arith)
-              in absurd (omega arith))
+          | inl more ↦ grind (arith, machines_rise (m + 1) (machine_of shop j k) (omega arith) (omega arith))
           | inr less ↦ omega arith
         ]
       ]

@@ -2,8 +2,7 @@
 use Rattle.std.proofs.Common.{◌≡◌, ℕ, ◌+◌, ◌-◌, ◌*◌, ◌≤◌, inl, inr, List, [], length, take}
 use Rattle.std.proofs.Common.{drop, get_or, sym, ◌∙◌, ap, arith}
 use Rattle.std.specs.List.{All}
-use Rattle.std.proofs.lemmas.List.{get_or_default, get_or-take, get_or-drop, length-drop}
-use Rattle.std.proofs.lemmas.List.{length-take-le}
+use Rattle.std.proofs.lemmas.List.{get_or_default, get_or-take, get_or-drop, length-drop, length-take-le}
 use Rattle.shop_model.specs.Limits.{IsWithinLimits}
 use Rattle.shop_model.specs.Shop.{Shop}
 use Rattle.shop_model.specs.Word.{IsWord}
@@ -19,8 +18,7 @@ no_word shop j = omega arith
 pub blocks_within : (shop : Shop) → IsWithinLimits shop → (l : LayoutState) → IsLaidOut shop l → (m : ℕ)
     → m ≤ shop.machines → 8 * get_or l.blocks m 0 ≤ length l.times
 blocks_within shop limits l laid m known =
-    let a = machines_rise shop limits l laid m shop.machines known (omega arith) in let b = laid.positions.times
-    in omega arith
+    grind (arith, machines_rise shop limits l laid m shop.machines known (omega arith))
 
 module _ (greatest : ℕ) (shop : Shop) (limits : IsWithinLimits shop) (l : LayoutState) (laid : IsLaidOut shop l)
     (holds : FitsLanes greatest shop l) where

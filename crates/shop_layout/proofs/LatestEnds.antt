@@ -6,8 +6,7 @@ use Rattle.std.proofs.lemmas.Bool.{cases_eq}
 use Rattle.std.proofs.lemmas.List.{take_more}
 use Rattle.std.proofs.lemmas.List.Sums.{sum_by_push, sum_by-take-le}
 use Rattle.shop_model.specs.declared.ops.Op.{Op}
-use Rattle.shop_model.specs.Shop.{Shop, no_op, route_of, release_of, machine_of, time_of}
-use Rattle.shop_model.specs.Shop.{IsOperation}
+use Rattle.shop_model.specs.Shop.{Shop, no_op, route_of, release_of, machine_of, time_of, IsOperation}
 use Rattle.shop_model.specs.Word.{Placing, IsWord, placing, place_next}
 use Rattle.shop_model.proofs.Ends.{IsOperation-job}
 use Rattle.shop_model.proofs.Greatest.{le-greatest_below}
@@ -23,8 +22,7 @@ abbrev begun : Shop → ℕ → ℕ → ℕ
 begun shop i k = sum_by (λ o. o.time) (take k (route_of shop i))
 
 begun_more : (shop : Shop) (i k : ℕ) → IsOperation shop i k → begun shop i (k + 1) ≡ begun shop i k + time_of shop i k
-begun_more shop i k op = ap (λ (os : List Op). sum_by (λ o. o.time) os) (take_more (route_of shop i) k no_op op)
-    ∙ sum_by_push (λ (o : Op). o.time) (take k (route_of shop i)) (get_or (route_of shop i) k no_op)
+begun_more shop i k op = grind (arith, take_more (route_of shop i) k no_op op, sum_by_push)
 
 begun-le : (shop : Shop) (i k : ℕ) → begun shop i k ≤ sum_by (λ o. o.time) (route_of shop i)
 begun-le shop i k = sum_by-take-le (λ (o : Op). o.time) (route_of shop i) k
@@ -39,21 +37,14 @@ module _ (shop : Shop) (p : Placing) (j : ℕ) (q : Placing) (n : IsNext shop p 
     placed_below : (i : ℕ) → i ≤ j → placed_before shop q i ≡ placed_before shop p i
     unfolding placed_before
     placed_below zero h = refl
-    placed_below (suc i) h =
-        let a = placed_below i (omega arith)
-        in let e = ap (begun shop i) (n.steps_other i (λ same. omega arith)) in omega arith
+    placed_below (suc i) h = grind (arith, placed_below i (omega arith))
 
     placed_past : (i : ℕ) → j < i → placed_before shop q i ≡ placed_before shop p i + time_of shop j (p.steps j)
     unfolding placed_before
     placed_past zero h = absurd (omega arith)
     placed_past (suc i) h = elim (cases_eq i j) [
-      | inl e ↦ (let a = placed_below i (omega arith)
-          in let b : begun shop i (q.steps i) ≡ begun shop j (q.steps j) = ap (λ (x : ℕ). begun shop x (q.steps x)) e
-          in let d : begun shop i (p.steps i) ≡ begun shop j (p.steps j) = ap (λ (x : ℕ). begun shop x (p.steps x)) e
-          in let f = ap (begun shop j) n.steps_here
-          in let g = begun_more shop j (p.steps j) op in omega arith)
-      | inr ne ↦ (let a = placed_past i (omega arith)
-          in let b = ap (begun shop i) (n.steps_other i ne) in omega arith)
+      | inl e ↦ grind (arith, placed_below i (omega arith), begun_more shop j (p.steps j) op)
+      | inr ne ↦ grind (arith, placed_past i (omega arith))
     ]
 
 -- what is placed of the first jobs, and the times of further steps of one of them, are no more than all
@@ -67,10 +58,7 @@ placed_and_more : (shop : Shop) (p : Placing) (j k n : ℕ) → j < n
 unfolding placed_before
 placed_and_more shop p j k zero h = absurd (omega arith)
 placed_and_more shop p j k (suc n) h = elim (cases_eq n j) [
-  | inl e ↦ (let a = placed-le shop p n in let b = begun-le shop j k
-      in let d : begun shop n (p.steps n) ≡ begun shop j (p.steps j) = ap (λ (x : ℕ). begun shop x (p.steps x)) e
-      in let f : sum_by (λ (o : Op). o.time) (route_of shop n) ≡ sum_by (λ (o : Op). o.time) (route_of shop j) =
-      ap (λ (x : ℕ). sum_by (λ (o : Op). o.time) (route_of shop x)) e in omega arith)
+  | inl e ↦ grind (arith, placed-le shop p n, begun-le shop j k)
   | inr ne ↦ (let a = placed_and_more shop p j k n (omega arith) in let b = begun-le shop n (p.steps n) in omega arith)
 ]
 
@@ -108,8 +96,7 @@ in_time shop = snoc_induct (λ w. IsWord shop w → AreInTime shop (placing shop
     (before (IsWord-init shop w j word))))
 
 begun_rises : (shop : Shop) (i a d k : ℕ) → a + d ≡ k → k ≤ length (route_of shop i) → begun shop i a ≤ begun shop i k
-begun_rises shop i a zero k e within =
-    let f : begun shop i k ≡ begun shop i a = ap (begun shop i) (omega arith) in omega arith
+begun_rises shop i a zero k e within = grind arith
 begun_rises shop i a (suc d) k e within =
     let l = a + d
     in let before = begun_rises shop i a d l refl (omega arith)
@@ -121,9 +108,7 @@ module _ (shop : Shop) (p : Placing) (t : AreInTime shop p) (j : ℕ) (job : j <
   ready_in_time : (d k : ℕ) → p.steps j + d ≡ k → k ≤ length (route_of shop j)
       → ready_after shop p j (k - p.steps j) + begun shop j (p.steps j)
       ≤ latest_release shop + placed_before shop p (length shop.jobs) + begun shop j k
-  ready_in_time zero k e within =
-      let a = t.ready j job in let b = ready_first shop p j k (omega arith)
-      in let f : begun shop j k ≡ begun shop j (p.steps j) = ap (begun shop j) (omega arith) in omega arith
+  ready_in_time zero k e within = grind (arith, ready_first)
   ready_in_time (suc d) k e within =
       let l = p.steps j + d
       in let f : k ≡ l + 1 = omega arith

@@ -46,13 +46,11 @@ greatest_each b (x ∷ xs) each = let a = greatest_each b xs (λ i. each (suc i)
 -- what stands at a place of some blocks
 pub block_at : (xs : List ℕ) (from to i : ℕ) → i < 8 * to - 8 * from
     → get_or (blocks from to xs) i 0 ≡ get_or xs (8 * from + i) 0
-block_at xs from to i here =
-    get_or-take (8 * to - 8 * from) (drop (8 * from) xs) i 0 here ∙ get_or-drop (8 * from) xs i 0
+block_at xs from to i here = grind (arith, get_or-take, get_or-drop)
 
 block_past : (xs : List ℕ) (from to i : ℕ) → 8 * to ≤ length xs → 8 * to - 8 * from ≤ i
     → get_or (blocks from to xs) i 0 ≡ 0
-block_past xs from to i within here =
-    let long = length-blocks from to xs within in get_or_past (blocks from to xs) i 0 (omega arith)
+block_past xs from to i within here = grind (arith, length-blocks, get_or_past)
 
 module _ (shop : Shop) (limits : IsWithinLimits shop) (l : LayoutState) (laid : IsLaidOut shop l) where
   module _ (m : ℕ) (known : m < shop.machines) where
@@ -62,8 +60,7 @@ module _ (shop : Shop) (limits : IsWithinLimits shop) (l : LayoutState) (laid : 
     -- its positions are among all
     pub machine_in : (first_position l m ≤ first_position l (m + 1)) × (first_position l (m + 1) ≤ length l.times)
         × (first_position l (m + 1) ≤ length l.tails)
-    machine_in = (let a = within in let b = (laid.each m known).room in let c = laid.positions.times
-        in let d = laid.positions.tails in (omega arith, omega arith, omega arith))
+    machine_in = grind (arith, within)
 
     slots : List Slot
     slots = get_or laid.slots m []

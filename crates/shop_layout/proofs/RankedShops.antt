@@ -23,9 +23,7 @@ get_or_mapped f (x ∷ xs) (suc i) d = get_or_mapped f xs i d
 sum_mapped : {A B : Type 0} (f : A → B) (g : B → ℕ) (h : A → ℕ) → ((x : A) → g (f x) ≡ h x) → (xs : List A)
     → sum_by g (map f xs) ≡ sum_by h xs
 sum_mapped f g h e [] = refl
-sum_mapped f g h e (x ∷ xs) =
-    let a = sum_by-cons g (f x) (map f xs) in let b = sum_by-cons h x xs in let c = e x
-    in let d = sum_mapped f g h e xs in omega arith
+sum_mapped f g h e (x ∷ xs) = grind (arith, sum_by-cons, sum_mapped f g h e xs)
 
 module _ (ranks : List ℕ) where
   pub times_ranked : (route : List Op)
@@ -33,8 +31,7 @@ module _ (ranks : List ℕ) where
   times_ranked route = sum_mapped (ranked_op ranks) (λ (o : Op). o.time) (λ (o : Op). o.time) (λ o. refl) route
 
   pub tail_ranked : (route : List Op) (k : ℕ) → tail_in (map (ranked_op ranks) route) k ≡ tail_in route k
-  tail_ranked route k = ap (λ (os : List Op). sum_by (λ (o : Op). o.time) os) (drop-map (ranked_op ranks) (k + 1) route)
-      ∙ times_ranked (drop (k + 1) route)
+  tail_ranked route k = grind (arith, drop-map, times_ranked)
 
   pub op_ranked : (route : List Op) (k : ℕ) → k < length route
       → get_or (map (ranked_op ranks) route) k no_op ≡ ranked_op ranks (get_or route k no_op)
@@ -59,78 +56,39 @@ module _ (ranks : List ℕ) (shop : Shop) where
 
   step_ranked : (j k : ℕ) → IsOperation shop j k
       → get_or (route_of (ranked ranks shop) j) k no_op ≡ ranked_op ranks (get_or (route_of shop j) k no_op)
-  step_ranked j k op =
-      ap (λ (os : List Op). get_or os k no_op) (route_ranked j) ∙ op_ranked ranks (route_of shop j) k op
+  step_ranked j k op = grind (arith, route_ranked, op_ranked)
 
   step_past : (j k : ℕ) → length (route_of shop j) ≤ k → get_or (route_of (ranked ranks shop) j) k no_op ≡ no_op
-  step_past j k past =
-      let e = steps_ranked j in get_or_past (route_of (ranked ranks shop) j) k no_op (omega arith)
+  step_past j k past = grind (arith, steps_ranked, get_or_past)
 
   pub machine_ranked : (j k : ℕ) → IsOperation shop j k
       → machine_of (ranked ranks shop) j k ≡ get_or ranks (machine_of shop j k) 0
   machine_ranked j k op = ap (λ (o : Op). o.machine) (step_ranked j k op)
 
   pub time_ranked : (j k : ℕ) → time_of (ranked ranks shop) j k ≡ time_of shop j k
-  time_ranked j k = elim (cases_lt k (length (route_of shop j))) [
-    | inl op ↦ ap (λ (o : Op). o.time) (step_ranked j k op)
-    | inr past ↦ ap (λ (o : Op). o.time) (step_past j k past)
-        ∙ ap (λ (o : Op). o.time) (sym (get_or_past (route_of shop j) k no_op past))
-  ]
+  time_ranked j k = grind (arith, cases_lt, step_ranked, step_past, get_or_past)
 
   -- as many operations, and the same latest end
   pub operations_ranked : operation_count (ranked ranks shop) ≡ operation_count shop
-  operations_ranked = sum_mapped (ranked_job ranks) (λ (job : ShopJob). length job.route)
-      (λ (job : ShopJob). length job.route) (λ job. length-map job.route (ranked_op ranks)) shop.jobs
+  operations_ranked = grind (arith, sum_mapped, length-map)
 
   total_ranked : (n : ℕ) → total_before (ranked ranks shop) n ≡ total_before shop n
   total_ranked zero = refl
-  total_ranked (suc n) =
-      let a = total_ranked n
-      in let b = ap (λ (os : List Op). sum_by (λ (o : Op). o.time) os) (route_ranked n)
-      ∙ times_ranked ranks (route_of shop n) in omega arith
+  total_ranked (suc n) = grind (arith, route_ranked, times_ranked, total_ranked n)
 
   greatest_ranked : (n : ℕ) → greatest_below n (release_of (ranked ranks shop)) ≡ greatest_below n (release_of shop)
   greatest_ranked zero = refl
   greatest_ranked (suc n) = let a = greatest_ranked n in let b = release_ranked n in omega arith
 
   pub latest_end_ranked : latest_end (ranked ranks shop) ≡ latest_end shop
-  latest_end_ranked =
-      let a = ap (λ (n : ℕ). greatest_below n (release_of (ranked ranks shop))) jobs_ranked
-      ∙ greatest_ranked (length shop.jobs)
-      in let b = ap (total_before (ranked ranks shop)) jobs_ranked ∙ total_ranked (length shop.jobs) in omega arith
+  latest_end_ranked = grind (arith, jobs_ranked, greatest_ranked, total_ranked)
 
   module _ (limits : IsWithinLimits shop) (are : AreRanks shop.machines ranks) where
     machine_within : (j k : ℕ) → machine_of (ranked ranks shop) j k < shop.machines
-    machine_within j k = elim (cases_lt k (length (route_of shop j))) [
-      | inl op ↦ (let a = machine_ranked j k op
-          in let b = are.known (machine_of shop j k) (limits.on_machines j k) in omega arith)
-      | inr past ↦ (let a = ap (λ (o : Op). o.machine) (step_past j k past)
-          in let b = limits.some_machine in omega arith)
-    ]
+    machine_within j k = grind (arith, cases_lt, machine_ranked, step_past)
 
     pub limits_ranked : IsWithinLimits (ranked ranks shop)
-    limits_ranked = record {
-      some_machine = limits.some_machine;
-      machines = limits.machines;
-      some_job = (let a = jobs_ranked in let b = limits.some_job in omega arith);
-      jobs = (let a = jobs_ranked in let b = limits.jobs in omega arith);
-      releases = λ j. (let a = release_ranked j in let b = limits.releases j in omega arith);
-      routes = λ j. (let a = steps_ranked j in let b = limits.routes j in omega arith);
-      on_machines = machine_within;
-      times = λ j k. (let a = time_ranked j k in let b = limits.times j k in omega arith);
-    }
+    limits_ranked = grind (arith, jobs_ranked, release_ranked, steps_ranked, machine_within, time_ranked)
 
     pub is_renumbered : IsRenumbered shop (ranked ranks shop)
-    is_renumbered = record {
-      jobs = jobs_ranked;
-      releases = release_ranked;
-      steps = steps_ranked;
-      times = time_ranked;
-      together = λ j k i l op other.
-          (let a = machine_ranked j k op in let b = machine_ranked i l other
-          in (
-            (λ same. are.apart (machine_of shop j k) (machine_of shop i l) (limits.on_machines j k)
-                (limits.on_machines i l) (sym a ∙ same ∙ b)),
-            (λ same. a ∙ ap (λ (m : ℕ). get_or ranks m 0) same ∙ sym b),
-          ));
-    }
+    is_renumbered = grind (arith, jobs_ranked, release_ranked, steps_ranked, time_ranked, machine_ranked)

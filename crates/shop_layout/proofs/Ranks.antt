@@ -36,7 +36,4 @@ module _ (blocks : List ℕ) (m : ℕ) where
   pub same_rank : (i k : ℕ) → 8 * get_or blocks m 0 + i < 8 * get_or blocks (m + 1) 0
       → 8 * get_or blocks m 0 + k < 8 * get_or blocks (m + 1) 0
       → position_at_rank blocks m i ≡ position_at_rank blocks m k → i ≡ k
-  same_rank i k here there at =
-      let e : place_at_rank count i ≡ place_at_rank count k = omega (arith, at)
-      in sym (rank_of_place count i (omega arith))
-      ∙ (ap (λ (p : ℕ). p % 8 * count + p / 8) e ∙ rank_of_place count k (omega arith))
+  same_rank i k here there at = grind (arith, rank_of_place count i (omega arith), rank_of_place count k (omega arith))

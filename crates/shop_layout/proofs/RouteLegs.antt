@@ -26,8 +26,7 @@ module _ (rows : List (Vec ℕ Global)) (j : ℕ) (row : Vec ℕ Global) (places
 
   -- a row of places, as it was read
   pub row_below : (n : ℕ) → All (AreBelow n) (map (λ v. v.items) rows) → AreBelow n places
-  row_below n below = subst (AreBelow n) (sym (read ∙ sym there))
-      (below j [] (omega (arith, here, length-map rows (λ v. v.items))))
+  row_below n below = grind (arith, there, length-map)
 
   -- the legs of one more row
   pub legs_more : (f : List ℕ → List Leg) {old new : List Leg} → old ≡ flat_map f (take j (map (λ v. v.items) rows))
@@ -46,22 +45,15 @@ pub firsts_more : (f : List ℕ → List Leg) (all : List (List ℕ)) (j : ℕ) 
     {n : ℕ} → length old ≡ j → ((i : ℕ) → i < j → get_or old i 0 ≡ length (flat_map f (take i all)))
     → legs ≡ flat_map f (take j all) → n ≡ length legs → new ≡ old ++ n ∷ []
     → (i : ℕ) → i < j + 1 → get_or new i 0 ≡ length (flat_map f (take i all))
-firsts_more f all j {legs} old {new} {n} long each so_far count pushed i here = elim (cases_lt i j) [
-  | inl before ↦ ap (λ (xs : List ℕ). get_or xs i 0) pushed
-      ∙ (get_or_append_left old (n ∷ []) 0 i (omega (arith, long, before)) ∙ each i before)
-  | inr last ↦ (let same : i ≡ j = omega arith
-      in ap (λ (xs : List ℕ). get_or xs i 0) pushed
-      ∙ (get_or_push old n 0 i (long ∙ sym same) ∙ (count ∙ (ap length so_far
-      ∙ ap (λ (k : ℕ). length (flat_map f (take k all))) (sym same)))))
-]
+firsts_more f all j {legs} old {new} {n} long each so_far count pushed i here =
+    grind (arith, cases_lt, get_or_append_left, get_or_push)
 
 module _ (l : LayoutState) where
   abbrev legs_on : List ℕ → List Leg
   legs_on = route_legs l.machines l.times (length l.following)
 
   route_long : (places : List ℕ) → length (legs_on places) ≡ length places + 1
-  route_long places = length-append (map (leg_of l.machines l.times) places) (end_of (length l.following) ∷ [])
-      ∙ ap (λ (n : ℕ). n + 1) (length-map places (leg_of l.machines l.times))
+  route_long places = grind (arith, length-append, length-map)
 
   module _ (j : ℕ) (known : j < length l.places) where
     abbrev places : List ℕ
@@ -103,15 +95,7 @@ module _ (l : LayoutState) where
 
   pub behind_is : {firsts behind : List ℕ} → AreFirsts (route_legs l.machines l.times (length l.following)) l.places firsts
       → AreBehind l.jobs l.steps firsts behind → length (all_legs l) < 2 ^ 64 → IsBehind l behind
-  behind_is {firsts} {behind} begin are small = record {
-    long = are.long;
-    each = λ q here job step.
-        let j = get_or l.jobs q 0 in let k = get_or l.steps q 0
-        in let a = are.each q (omega (arith, here, are.long))
-        in let b = begin.each j (omega (arith, job, begin.long))
-        in let c = index_known j job (k + 1) (omega arith)
-        in omega arith;
-  }
+  behind_is {firsts} {behind} begin are small = grind (arith, index_known)
 
 -- the places of all steps are positions
 module _ (shop : Shop) (limits : IsWithinLimits shop) (l : LayoutState) (laid : IsLaidOut shop l) where
@@ -133,10 +117,4 @@ module _ (shop : Shop) (limits : IsWithinLimits shop) (l : LayoutState) (laid : 
   times_below = places_below (length l.times) laid.positions.times
 
   pub jobs_below : AreBelow (length l.places) l.jobs
-  jobs_below q d here =
-      let a = laid.known q (omega (arith, here, laid.positions.jobs))
-      in let read : get_or l.jobs q d ≡ get_or l.jobs q 0 = get_or_default l.jobs q d 0 here
-      in omega (arith, a, read, laid.jobs)
-
-  pub as_many_steps : length l.steps ≡ length l.jobs
-  as_many_steps = laid.positions.steps ∙ sym laid.positions.jobs
+  jobs_below q d here = grind (arith, get_or_default)

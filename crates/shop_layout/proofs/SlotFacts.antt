@@ -5,8 +5,7 @@ use Rattle.std.specs.List.{AllByRecursion, All, Contains, filter, flat_map, rang
 use Rattle.std.proofs.lemmas.Bool.{cases_Bool, eq-eqb, eqb-true}
 use Rattle.std.proofs.lemmas.List.{length-map, get_or-map}
 use Rattle.std.proofs.lemmas.List.FromFn.{get_or-range_with_len, length-range_with_len}
-use Rattle.std.proofs.lemmas.List.Elements.{All-from_recursion, Contains-append_left}
-use Rattle.std.proofs.lemmas.List.Elements.{Contains-append_right}
+use Rattle.std.proofs.lemmas.List.Elements.{All-from_recursion, Contains-append_left, Contains-append_right}
 use Rattle.std.proofs.lemmas.List.Sorted.{All-permutation, Contains-permutation}
 use Rattle.shop_model.specs.Shop.{Shop, route_of, machine_of, IsOperation}
 use Rattle.shop_layout.specs.declared.slots.Slot.{Slot}
@@ -59,8 +58,7 @@ module _ {A : Type 0} where
   filtered_at : (test : A → Bool) (xs : List A) (x : A) → test x ≡ true → (k : ℕ) → k < length xs
       → get_or xs k x ≡ x → Contains (filter test xs) x
   filtered_at test [] x e k l is = absurd (omega arith)
-  filtered_at test (y ∷ ys) x e zero l is =
-      let f : test y ≡ true = ap test is ∙ e in rw f (0, omega arith, is)
+  filtered_at test (y ∷ ys) x e zero l is = grind arith
   filtered_at test (y ∷ ys) x e (suc k) l is =
       let rest = filtered_at test ys x e k (omega arith) is
       in elim (cases_Bool (test y)) [
@@ -77,18 +75,10 @@ module _ {A : Type 0} where
       Contains-append_right (f i) (flat_map f js) x (flat_at f x j c js k (omega arith) is)
 
 mapped_at : {A B : Type 0} (g : A → B) (xs : List A) (x : A) → Contains xs x → Contains (map g xs) (g x)
-mapped_at g xs x c = (
-  c.0,
-  (let b = c.1 in omega (arith, length-map xs g)),
-  get_or-map g xs c.0 x (g x) c.1 ∙ ap g c.2,
-)
+mapped_at g xs x c = grind (arith, length-map, get_or-map)
 
 range_at : (n k : ℕ) → k < n → Contains (range_with_len 0 n) k
-range_at n k h = (
-  k,
-  omega (arith, length-range_with_len 0 n),
-  (let e = get_or-range_with_len 0 n k k h in omega arith),
-)
+range_at n k h = grind (arith, length-range_with_len 0 n, get_or-range_with_len 0 n k k h)
 
 pub slots_are_all : (shop : Shop) (m : ℕ) (slots : List Slot) → AreSlotsOf shop m slots → (j k : ℕ)
     → j < length shop.jobs → IsOperation shop j k → machine_of shop j k ≡ m

@@ -1,7 +1,5 @@
 -- The operations of one more step of a route.
-use Rattle.std.proofs.Common.{arith, ◌≡◌, ℕ, ◌+◌, List, [], ◌∷◌, ◌++◌}
-use Rattle.std.proofs.Common.{get_or, map, eqb}
-use Rattle.std.proofs.Common.{append_assoc}
+use Rattle.std.proofs.Common.{arith, ◌≡◌, ℕ, ◌+◌, List, [], ◌∷◌, ◌++◌, get_or, map, eqb, append_assoc}
 use Rattle.std.specs.List.{filter, range_with_len}
 use Rattle.std.proofs.lemmas.Bool.{eq-eqb, ne_eqb}
 use Rattle.std.proofs.lemmas.List.{append-nil, map-append}
@@ -20,14 +18,8 @@ pub added_in : (route : List Op) (m j k tail : ℕ) (old now new : List Slot)
     → new ≡ now ++ record { job = j; step = k; time = (get_or route k no_op).time; tail = tail } ∷ []
     → new ≡ old ++ map (slot_at route j)
     (filter (λ k. eqb (get_or route k no_op).machine m) (range_with_len 0 (k + 1)))
-added_in route m j k tail old now new before here is added = grind (
-  arith,
-  range_more,
-  filter-append,
-  eq-eqb,
-  map-append,
-  append_assoc,
-)
+added_in route m j k tail old now new before here is added =
+    grind (arith, range_more, filter-append, eq-eqb, map-append, append_assoc)
 
 -- or on another
 pub added_out : (route : List Op) (m j k : ℕ) (old now : List Slot)

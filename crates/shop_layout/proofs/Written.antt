@@ -10,5 +10,4 @@ written n new old e f = grind (arith, drop_all, append-nil, take_all)
 
 pub written_vec : {A : Type 0} (v : Vec A Global) (given new : List A) → given ≡ v.items → length new ≡ length given
     → take v.len (new ++ drop (length new) v.items) ≡ new
-written_vec v given new e long =
-    let full = v.ok.0 in let f = ap (λ xs. length xs) e in written v.len new v.items (omega arith) (omega arith)
+written_vec v given new e long = grind (arith, written)

@@ -1,8 +1,7 @@
 -- The operations of a machine as a program keeps them.
 --     operations_on shop m           the operations of machine m, job by job, step by step
 --     AreSlotsOf shop m slots        the operations of machine m by nonincreasing tails
-use Rattle.std.specs.Prelude.{◌≡◌, ℕ, ◌<◌, ◌==◌, List, [], length, map, filter, flat_map}
-use Rattle.std.specs.Prelude.{slice_index_or, IsPermutation}
+use Rattle.std.specs.Prelude.{◌≡◌, ℕ, ◌<◌, ◌==◌, List, [], length, map, filter, flat_map, slice_index_or, IsPermutation}
 use Rattle.std.specs.List.{range_with_len}
 use Rattle.shop_model.specs.declared.ops.Op.{Op}
 use Rattle.shop_model.specs.Shop.{Shop, no_op, route_of}

@@ -1,13 +1,14 @@
 // `Grid`: the operations of an instance by position, with their times and tails in lanes.
 ghost use Rattle.std.specs.Prelude.{◌≡◌, ◌<◌, All, IfOk, length, slice_index, slice_index_or, []};
 ghost use Rattle.std.specs.Prelude.{◌≤◌, ◌+◌, ◌-◌, ◌*◌, ◌^◌, map};
+ghost use Rattle.shop_model.specs.Shop.{Shop};
 ghost use Rattle.shop_lanes.specs.Rows.{AreBlocks, lanes_between};
 ghost use Rattle.shop_lanes.specs.Spans.{AreOwnSpans, FitOwnSpans};
 ghost use Rattle.shop_layout.specs.Lanes.{rows_of};
+ghost use Rattle.shop_layout.specs.LaidOuts.{IsReady};
 ghost use Rattle.shop_layout.specs.Positions.{AreEven, HoldsMachines};
-ghost use Rattle.shop_layout.specs.inner.RouteRows.{AreBelow};
 
-use crate::legs::{Leg, Legs};
+use crate::legs::{Leg, Legs, behind_of, legs_of};
 use crate::positions::Positions;
 use crate::routes::Routes;
 use shop_lanes::{LaneRows, StateLanes};
@@ -81,20 +82,17 @@ impl<L: StateLanes> Grid<L> {
     /// Makes a grid of `positions`, with their times and tails in lanes, and the legs of all routes. Fails with
     /// `NoMemory` if memory runs out.
     pub(crate) fn of(alloc: Global, positions: Positions) -> Result<Grid<L>, NoMemory>
-        requires times { All (λ t. t ≤ L.GREATEST) positions.times }
-        requires tails { All (λ t. t ≤ L.GREATEST) positions.tails }
-        requires machined { All (AreBelow (length positions.machines)) positions.places }
-        requires timed { All (AreBelow (length positions.times)) positions.places }
-        requires known { AreBelow (length positions.places) positions.jobs }
-        requires steps { length positions.steps ≡ length positions.jobs }
+        requires ready { (shop : Shop) × IsReady L.GREATEST shop positions }
         requires even { AreEven positions.blocks L.EACH }
         ensures { IfOk result (λ g. g ≡ positions) }
     {
-        let fixed = L::fixed(alloc, positions.times(), positions.tails())?;
-        let blocks_each = even_blocks(positions.blocks());
-        let legs = positions.legs(alloc)?;
-        let behind = positions.behind(alloc, &legs)?;
-        let Legs { legs, firsts: _ } = legs;
+        let (times, places) = (positions.times.as_slice(), positions.places.as_slice());
+        let fixed = L::fixed(alloc, times, positions.tails.as_slice())?;
+        let blocks_each = even_blocks(positions.blocks.as_slice());
+        let machines = positions.machines.as_slice();
+        let Legs { legs, firsts } = legs_of(alloc, places, machines, times, positions.end)?;
+        let (jobs, steps) = (positions.jobs.as_slice(), positions.steps.as_slice());
+        let behind = behind_of(alloc, jobs, steps, firsts.as_slice())?;
         Ok(Grid {
             positions,
             fixed,
@@ -217,7 +215,7 @@ impl<L: StateLanes> Grid<L> {
     pub fn most_positions(&self) -> usize
         ensures { HoldsMachines self.now result }
     {
-        let blocks = self.positions.blocks();
+        let blocks = self.positions.blocks.as_slice();
         let mut most = 0;
         for behind in 1..blocks.len() {
             // first blocks rise from machine to machine: nothing saturates

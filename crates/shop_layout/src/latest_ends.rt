@@ -61,9 +61,11 @@ pub(crate) fn greatest_load(layout: &Positions, instance: &Instance) -> u64
 {
     instance.keeps_limits();
     let mut greatest = 0;
+    let (times, tails) = (layout.times.as_slice(), layout.tails.as_slice());
+    let blocks = layout.blocks.as_slice();
     for machine in 0..instance.machines() {
-        let (from, to) = (layout.block(machine), layout.block(machine + 1));
-        let load = load_of_blocks(layout.times(), layout.tails(), from, to);
+        let (from, to) = (blocks[machine] as usize, blocks[machine + 1] as usize);
+        let load = load_of_blocks(times, tails, from, to);
         greatest = load.max(greatest);
     }
     greatest

@@ -6,9 +6,8 @@ ghost use Rattle.shop_model.specs.declared.limits.TheConstants.{MAX_JOBS, MAX_MA
 ghost use Rattle.shop_layout.specs.Ranks.{ranked};
 ghost use Rattle.shop_layout.specs.Slots.{AreMachineSlots};
 ghost use Rattle.shop_layout.specs.inner.Vectors.{items_in};
-ghost use Rattle.shop_layout.specs.inner.Layings.{AreAdded, AreApart, AreCells, AreNoted};
-ghost use Rattle.shop_layout.specs.inner.Layings.{ArePlaces, AreShorter, HasRoutes, HaveRoom};
-ghost use Rattle.shop_layout.specs.inner.Layings.{IsInRows, place_after};
+ghost use Rattle.shop_layout.specs.inner.Layings.{AreAdded, AreApart, AreCells, AreNoted, ArePlaces, AreShorter};
+ghost use Rattle.shop_layout.specs.inner.Layings.{HasRoutes, HaveRoom, IsInRows, place_after};
 ghost use Rattle.shop_layout.specs.Positions.{AreMachinesOf};
 
 use crate::slots::Slot;

@@ -1,14 +1,11 @@
 // `Positions`: the operations of an instance by position.
-ghost use Rattle.std.specs.Prelude.{◌≡◌, ◌<◌, All, IfOk, length, slice_index};
+ghost use Rattle.std.specs.Prelude.{◌≡◌, IfOk, length};
 ghost use Rattle.shop_layout.specs.Positions.{IsLaidOut};
-ghost use Rattle.shop_layout.specs.Legs.{all_legs, route_legs};
 ghost use Rattle.shop_layout.specs.Ranks.{AreRanks, ranked};
-ghost use Rattle.shop_layout.specs.inner.RouteRows.{AreBelow, AreFirsts, IsBehind};
 
 use crate::layings::{
     Cells, cells_of, following_of, jobs_of, machines_of, places_of, steps_of, tails_of, times_of,
 };
-use crate::legs::{Legs, behind_of, legs_of};
 use crate::machine_ranks::Ranks;
 use crate::slots::machine_slots;
 use shop_model::Instance;
@@ -87,70 +84,5 @@ impl Positions {
             blocks,
             end: slots.len() as u32,
         })
-    }
-
-    /// The time of the operation at each position, 0 at padding.
-    pub(crate) fn times(&self) -> &[u64]
-        ensures { result.now ≡ self.now.times }
-    {
-        self.times.as_slice()
-    }
-
-    /// The tail of the operation at each position, 0 at padding.
-    pub(crate) fn tails(&self) -> &[u64]
-        ensures { result.now ≡ self.now.tails }
-    {
-        self.tails.as_slice()
-    }
-
-    /// The first block of `machine`; the number of all blocks if `machine` is the number of machines.
-    pub(crate) fn block(&self, machine: usize) -> usize
-        requires { machine < length self.now.blocks }
-        ensures { result ≡ slice_index self.now.blocks machine }
-    {
-        self.blocks[machine] as usize
-    }
-
-    /// The first block of each machine, then the number of all blocks.
-    pub(crate) fn blocks(&self) -> &[u32]
-        ensures { result.now ≡ self.now.blocks }
-    {
-        self.blocks.as_slice()
-    }
-
-    /// Makes the legs of all routes. Fails with `NoMemory` if memory runs out.
-    pub(crate) fn legs(&self, alloc: Global) -> Result<Legs, NoMemory>
-        requires machined { All (AreBelow (length self.now.machines)) self.now.places }
-        requires timed { All (AreBelow (length self.now.times)) self.now.places }
-        ensures legs { IfOk result (λ v. v.legs.items ≡ all_legs self.now) }
-        ensures firsts { IfOk result (λ v. AreFirsts
-            (route_legs self.now.machines self.now.times (length self.now.following))
-            self.now.places v.firsts.items) }
-    {
-        legs_of(
-            alloc,
-            self.places.as_slice(),
-            self.machines.as_slice(),
-            self.times.as_slice(),
-            self.end,
-        )
-    }
-
-    /// Finds, for each position, where the legs behind its operation begin. Fails with `NoMemory` if memory runs out.
-    pub(crate) fn behind(&self, alloc: Global, legs: &Legs) -> Result<Vec<usize>, NoMemory>
-        requires legs { legs.now.legs.items ≡ all_legs self.now }
-        requires firsts { AreFirsts
-            (route_legs self.now.machines self.now.times (length self.now.following))
-            self.now.places legs.now.firsts.items }
-        requires known { AreBelow (length self.now.places) self.now.jobs }
-        requires steps { length self.now.steps ≡ length self.now.jobs }
-        ensures { IfOk result (λ v. IsBehind self.now v.items) }
-    {
-        behind_of(
-            alloc,
-            self.jobs.as_slice(),
-            self.steps.as_slice(),
-            legs.firsts.as_slice(),
-        )
     }
 }

@@ -1,6 +1,5 @@
 // Lists the operations of each machine by nonincreasing tail. The list at index r is that of the machine of rank r.
-ghost use Rattle.std.specs.Prelude.{◌≡◌, ℕ, ◌<◌, [], slice_index_or, IfOk, OnOk, length, map};
-ghost use Rattle.std.specs.Prelude.{replicate};
+ghost use Rattle.std.specs.Prelude.{◌≡◌, ℕ, ◌<◌, [], slice_index_or, IfOk, OnOk, length, map, replicate};
 ghost use Rattle.shop_model.specs.Shop.{no_op};
 ghost use Rattle.shop_bound.specs.Heads.{AreTimesSmall};
 ghost use Rattle.shop_layout.specs.Ranks.{AreRanks, ranked, ranked_op};

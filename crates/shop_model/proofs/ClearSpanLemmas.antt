@@ -1,7 +1,6 @@
 -- Spans that are clear of all others: how a pass finds them, and that their operations are apart.
-use Rattle.std.proofs.Common.{◌≡◌, ℕ, zero, suc, ◌+◌, ◌≤◌, ◌<◌, inl, inr, List, length, refl}
-use Rattle.std.proofs.Common.{get_or, set, sym, ◌∙◌, ap, subst, arith, add-one, true, false, Result, Ok, Err}
-use Rattle.std.proofs.Common.{Ordering, Less, Equal, Greater}
+use Rattle.std.proofs.Common.{◌≡◌, ℕ, zero, suc, ◌+◌, ◌≤◌, ◌<◌, inl, inr, List, length, refl, get_or, set, sym, ◌∙◌, ap}
+use Rattle.std.proofs.Common.{subst, arith, add-one, true, false, Result, Ok, Err, Ordering, Less, Equal, Greater}
 use Rattle.std.specs.List.{AllPairs, HoldsAt}
 use Rattle.std.specs.List.Sorted.{IsSearchInRange}
 use Rattle.std.specs.Result.{is_ok, IfOk}
@@ -57,10 +56,7 @@ module _ (xs ys : List Occupied) (k count : ℕ) (latest one last : Occupied)
   it_is d = same k d (omega arith) below ∙ at_k d
 
   passed_more : (n : ℕ) (d : Occupied) → n < k + 1 → EndsNotAfter (get_or xs n d) last
-  passed_more n d h = elim (cases_eq n k) [
-    | inl e ↦ rw (e, it_is d) ends_too
-    | inr ne ↦ ends_on (get_or xs n d) latest last (so_far.passed n d (omega arith)) ends
-  ]
+  passed_more n d h = grind (arith, cases_eq, it_is, ends_on)
 
   -- the span is passed over
   pub clear_not_more : ClearSoFar xs ys (k + 1) count last
@@ -114,30 +110,16 @@ clear_both_ways xs a b pair = (pair.1, pair.0)
 -- a clear span may stand in several places
 clear_parted : (xs : List Occupied) (k l : ℕ) (d : Occupied) → (k ≡ l → ⊥) → k < length xs → l < length xs
     → IsClearOf xs (get_or xs k d) → ArePartedSpans (get_or xs k d) (get_or xs l d)
-clear_parted xs k l d other below below_too clear = elim (cases_eq l clear.index) [
-  | inl e ↦ (let same : get_or xs l d ≡ get_or xs k d = ap (λ (n : ℕ). get_or xs n d) e ∙ clear.is d
-      in rw same (clear.parted k d below (λ f. other (f ∙ sym e))))
-  | inr ne ↦ clear.parted l d below_too ne
-]
+clear_parted xs k l d other below below_too clear = grind (arith, cases_eq)
 
 pub clear_pairs : (xs : List Occupied) → AllPairs (AreClearPair xs) xs
-clear_pairs xs k l d before below = (
-  clear_parted xs k l d (λ e. absurd (omega arith)) (omega arith) below,
-  clear_parted xs l k d (λ e. absurd (omega arith)) below (omega arith),
-)
+clear_pairs xs k l d before below = grind (arith, clear_parted)
 
 pub apart_from_clear : (shop : Shop) (rows : List (List ℕ)) (xs ys : List Occupied)
     → AllPairs (AreClearPair xs) (spans_of shop rows) → AreClearOf xs ys → AreOfApart shop rows ys
 apart_from_clear shop rows xs ys all clear j k n d op below is i l other before =
     (of_operations shop rows (AreClearPair xs) all j k i l op other before).0
     (subst (λ (a : Occupied). IsClearOf xs a) is (clear n d below))
-
--- what a sort's order says of machines and starts
-pub begins_from_sort : (a b : Occupied)
-    → is_lt (ordering_then (nat_cmp b.machine a.machine)
-    (ordering_then (nat_cmp b.start a.start) (nat_cmp b.finish a.finish))) ≡ false
-    → BeginsNotAfter a b
-begins_from_sort a b e = grind (arith, nat_tests)
 
 -- spans that no comparison tells apart are one
 abbrev pub span_cmp : Occupied → Occupied → Ordering
@@ -153,14 +135,7 @@ then_equal Equal p e = (refl, e)
 then_equal Greater p e = cc
 
 same_span : (a b : Occupied) → span_cmp a b ≡ Equal → a ≡ b
-same_span a b e =
-    let one = then_equal (nat_cmp a.machine b.machine) (ordering_then (nat_cmp a.start b.start)
-    (nat_cmp a.finish b.finish)) e
-    in let two = then_equal (nat_cmp a.start b.start) (nat_cmp a.finish b.finish) one.1
-    in let machine = equal_from_cmp a.machine b.machine one.0
-    in let start = equal_from_cmp a.start b.start two.0
-    in let finish = equal_from_cmp a.finish b.finish two.1
-    in λ i. record { machine = machine i; start = start i; finish = finish i }
+same_span a b e = grind (arith, then_equal, equal_from_cmp)
 
 -- a binary search that doesn't fail finds the span
 pub found : (xs : List Occupied) (a : Occupied) (r : Result ℕ ℕ) → is_ok r ≡ true → IsSearchInRange r (length xs)

@@ -50,17 +50,7 @@ is_same j k i l = eqb j i && eqb k l
 
 are_apart-true : (shop : Shop) (starts : Starts) (j k i l : ℕ) → are_apart shop starts j k i l ≡ true
     → AreApart shop starts j k i l
-are_apart-true shop starts j k i l h e =
-    elim (or_cases (not (eqb (machine_of shop j k) (machine_of shop i l)))
-    (leb (finish_of shop starts j k) (starts i l) || leb (finish_of shop starts i l) (starts j k)) h) [
-      | inl other ↦ absurd (eqb-false (machine_of shop j k) (machine_of shop i l)
-          (not-true (eqb (machine_of shop j k) (machine_of shop i l)) other) e)
-      | inr clear ↦ elim (or_cases (leb (finish_of shop starts j k) (starts i l))
-          (leb (finish_of shop starts i l) (starts j k)) clear) [
-            | inl a ↦ inl (leb-true (finish_of shop starts j k) (starts i l) a)
-            | inr b ↦ inr (leb-true (finish_of shop starts i l) (starts j k) b)
-          ]
-    ]
+are_apart-true shop starts j k i l h e = grind (arith, or_cases, eqb-false, not-true, leb-true)
 
 is_before-true : (j k i l : ℕ) → IsBefore j k i l → is_before j k i l ≡ true
 is_before-true j k i l before = grind (arith, or_left, lt-ltb, or_right, and_from, eq-eqb)

@@ -1,6 +1,5 @@
 -- The end of a table, and feasible tables by when each operation may begin.
-use Rattle.std.proofs.Common.{◌≡◌, ℕ, zero, suc, ◌≤◌, ◌<◌, ◌⊎◌, inl, inr, length, arith}
-use Rattle.std.proofs.Common.{add-one}
+use Rattle.std.proofs.Common.{◌≡◌, ℕ, zero, suc, ◌≤◌, ◌<◌, ◌⊎◌, inl, inr, length, arith, add-one}
 use Rattle.std.proofs.lemmas.Bool.{cases_eq, cases_lt}
 use Rattle.std.proofs.lemmas.List.{get_or_past}
 use Rattle.shop_model.specs.Shop.{Shop, Starts, route_of, machine_of, IsOperation}
@@ -40,11 +39,7 @@ pub feasible_from : (shop : Shop) (starts : Starts) → NoneEarly shop starts
     → AreDifferent j k i l
     → (finish_of shop starts j k ≤ starts i l) ⊎ (finish_of shop starts i l ≤ starts j k))
     → IsFeasible shop starts
-feasible_from shop starts none apart = record {
-  released = λ j op. none j 0 op;
-  in_order = λ j k op. rw add-one (none j (suc k) (omega arith));
-  apart = apart;
-}
+feasible_from shop starts none apart = grind (arith, add-one)
 
 -- in a table that keeps its routes a step ends before all later ones begin
 pub in_time-later : (shop : Shop) (starts : Starts) → NoneEarly shop starts → (j k l : ℕ) → k < l → IsOperation shop j l

@@ -1,6 +1,5 @@
 -- Instances that were given as rows, or as jobs.
-use Rattle.std.proofs.Common.{◌≡◌, ℕ, zero, suc, ◌≤◌, ◌<◌, List, [], ◌∷◌, map, length, slice_index_or, refl}
-use Rattle.std.proofs.Common.{arith}
+use Rattle.std.proofs.Common.{◌≡◌, ℕ, zero, suc, ◌≤◌, ◌<◌, List, [], ◌∷◌, map, length, slice_index_or, refl, arith}
 use Rattle.std.specs.List.{AllByRecursion}
 use Rattle.std.proofs.lemmas.Bool.{cases_lt}
 use Rattle.std.proofs.lemmas.List.{get_or_past, length-map}
@@ -32,8 +31,7 @@ op_within : (machines : ℕ) (route : List Op) → 1 ≤ machines → IsRouteWit
 op_within machines route some h k = grind (arith, cases_lt, route, get_or_past)
 
 no_job_within : (machines : ℕ) → 1 ≤ machines → KeepsLimits machines no_job
-no_job_within machines some =
-    record { release = omega arith; route = omega arith; machine = λ k. omega arith; time = λ k. omega arith }
+no_job_within machines some = grind arith
 
 -- a row as long as there are machines, and a job
 row_within : (machines : ℕ) (row : Vec Op Global) → 1 ≤ machines → machines ≤ 100 → length row.items ≡ machines
@@ -72,16 +70,7 @@ jobs_keep machines some (x ∷ xs) h (suc j) = jobs_keep machines some xs h.1 j
 -- and so the instance is within the limits
 from_each : (shop : Shop) → 1 ≤ shop.machines → shop.machines ≤ 100 → 1 ≤ length shop.jobs → length shop.jobs ≤ 1000
     → ((j : ℕ) → KeepsLimits shop.machines (slice_index_or shop.jobs j no_job)) → IsWithinLimits shop
-from_each shop some few some_job few_jobs each = record {
-  some_machine = some;
-  machines = few;
-  some_job = some_job;
-  jobs = few_jobs;
-  releases = λ j. (each j).release;
-  routes = λ j. (each j).route;
-  on_machines = λ j k. (each j).machine k;
-  times = λ j k. (each j).time k;
-}
+from_each shop some few some_job few_jobs each = grind arith
 
 -- rows within the limits give an instance within the limits
 pub rows_within : (machines : ℕ) (rows : List (Vec Op Global)) → AreRowsWithin machines rows

@@ -23,8 +23,7 @@ greatest_below-le f (suc n) b h = omega (arith, h n (omega arith), greatest_belo
 pub greatest_below-equal : (f g : ℕ → ℕ) (n : ℕ) → ((i : ℕ) → i < n → f i ≡ g i)
     → greatest_below n f ≡ greatest_below n g
 greatest_below-equal f g zero h = refl
-greatest_below-equal f g (suc n) h =
-    let a = greatest_below-equal f g n (λ i below. h i (omega arith)) in let b = h n (omega arith) in omega arith
+greatest_below-equal f g (suc n) h = grind (arith, greatest_below-equal f g n (λ i below. h i (omega arith)))
 
 -- the greatest of the greater values is the greater of the greatest
 pub greatest_below-both : (f g : ℕ → ℕ) (n : ℕ)

@@ -5,8 +5,7 @@ use Rattle.std.specs.List.{range_with_len}
 use Rattle.std.proofs.lemmas.Bool.{cases_lt}
 use Rattle.std.proofs.lemmas.List.{get_or_past}
 use Rattle.std.proofs.lemmas.List.FromFn.{length-map-range_with_len, get_or-map-range_with_len}
-use Rattle.shop_model.specs.Shop.{Shop, ShopJob, Starts, no_job, route_of, IsOperation, IsFeasible}
-use Rattle.shop_model.specs.Shop.{end_of}
+use Rattle.shop_model.specs.Shop.{Shop, ShopJob, Starts, no_job, route_of, IsOperation, IsFeasible, end_of}
 use Rattle.shop_model.specs.Word.{placing, placed, count_of, IsWord, IsFull, IsUnder, rows_of}
 use Rattle.shop_model.specs.Checking.{HasShape, starts_of}
 use Rattle.shop_model.specs.Placed.{IsPlacedBy}
@@ -20,12 +19,7 @@ abbrev pub Agree : Shop → Starts → Starts → Type 0
 Agree shop s t = (i l : ℕ) → IsOperation shop i l → s i l ≡ t i l
 
 pub agree_feasible : (shop : Shop) (s t : Starts) → Agree shop s t → IsFeasible shop s → IsFeasible shop t
-agree_feasible shop s t same f = record {
-  released = λ j op. rw (← same j 0 op) (f.released j op);
-  in_order = λ j k op. let a = f.in_order j k op in let b = same j k (omega arith) in let c = same j (k + 1) op
-      in omega arith;
-  apart = λ j k i l o r m d. let a = same j k o in let b = same i l r in rw (← a, ← b) (f.apart j k i l o r m d);
-}
+agree_feasible shop s t same f = grind arith
 
 pub agree_end : (shop : Shop) (s t : Starts) → Agree shop s t → end_of shop s ≡ end_of shop t
 agree_end shop s t same = grind (arith, greatest_below-equal)
@@ -47,17 +41,7 @@ agree_under shop w s t word same u = record {
 
 -- the rows of a table have the shape, and tell its starts
 pub rows_of-shape : (shop : Shop) (s : Starts) → HasShape shop (rows_of shop s)
-rows_of-shape shop s =
-    let row : ℕ → List ℕ = λ j. map (s j) (range_with_len 0 (length (route_of shop j)))
-    in record {
-      jobs = length-map-range_with_len row 0 (length shop.jobs);
-      steps = λ j. elim (cases_lt j (length shop.jobs)) [
-        | inl h ↦ rw (get_or-map-range_with_len row 0 (length shop.jobs) j j [] h (omega arith))
-            (length-map-range_with_len (s j) 0 (length (route_of shop j)))
-        | inr h ↦ rw (get_or_past (rows_of shop s) j [] (rw (length-map-range_with_len row 0 (length shop.jobs)) h))
-            (sym (ap (λ (x : ShopJob). length x.route) (get_or_past shop.jobs j no_job h)))
-      ];
-    }
+rows_of-shape shop s = grind (arith, length-map-range_with_len, cases_lt, get_or-map-range_with_len, get_or_past)
 
 pub rows_of-starts : (shop : Shop) (s : Starts) → Agree shop s (starts_of (rows_of shop s))
 rows_of-starts shop s i l op =

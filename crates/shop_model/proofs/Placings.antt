@@ -1,15 +1,11 @@
 -- What holds of a placing, and of a table that completes it.
 use Rattle.std.proofs.Common.{◌≡◌, ℕ, zero, suc, ◌+◌, ◌≤◌, ◌<◌, max, ◌⊎◌, inl, inr, refl}
 use Rattle.std.proofs.Common.{sym, ◌∙◌, ap, subst, arith, add-one, cond, ltb}
-use Rattle.std.proofs.lemmas.Bool.{cases_eq, cases_lt}
-use Rattle.shop_model.specs.Shop.{Shop, Starts, machine_of, time_of, IsOperation, IsFeasible}
-use Rattle.shop_model.specs.Shop.{finish_of, end_of}
-use Rattle.shop_model.proofs.Ends.{AreDifferent}
+use Rattle.std.proofs.lemmas.Bool.{cases_eq, cases_lt, le-ltb, lt-ltb}
+use Rattle.shop_model.specs.Shop.{Shop, Starts, machine_of, time_of, IsOperation, IsFeasible, finish_of, end_of}
+use Rattle.shop_model.proofs.Ends.{AreDifferent, le-end_of, end_of-le, feasible-in_time, feasible_from}
 use Rattle.shop_model.specs.Word.{Placing, place_next, with_value}
 use Rattle.shop_model.specs.Checking.{earliest_of, NoneEarly}
-use Rattle.shop_model.proofs.Ends.{le-end_of, end_of-le, feasible-in_time, feasible_from}
-use Rattle.std.proofs.lemmas.Bool.{le-ltb, lt-ltb}
-use Rattle.shop_model.proofs.WordLemmas.{with_value-same, with_value-other}
 
 -- one more step of job j is placed
 pub record IsNext (shop : Shop) (p : Placing) (j : ℕ) (q : Placing) : Type 0 where
@@ -27,29 +23,7 @@ next_start shop p j = max (p.ready j) (p.free (machine_of shop j (p.steps j)))
 
 pub place_next-is : (shop : Shop) (p : Placing) (j : ℕ) → IsNext shop p j (place_next shop p j)
 unfolding next_start
-place_next-is shop p j =
-    let k = p.steps j
-    in let start = next_start shop p j
-    in let here : (place_next shop p j).begins j k ≡ start =
-    (let e : (place_next shop p j).begins j k ≡ with_value (p.begins j) k start k =
-    ap (λ (f : ℕ → ℕ). f k) (with_value-same p.begins j (with_value (p.begins j) k start) j refl)
-    in e ∙ with_value-same (p.begins j) k start k refl)
-    in let end = ap (λ n. n + time_of shop j k) (sym here)
-    in record {
-      steps_here = with_value-same p.steps j (k + 1) j refl;
-      steps_other = λ i ne. with_value-other p.steps j (k + 1) i ne;
-      begins_here = here;
-      begins_old = λ i l h. elim (cases_eq i j) [
-        | inl e ↦ (let d : l ≡ k → ⊥ = (λ f. let g : p.steps i ≡ k = ap p.steps e in absurd (omega arith))
-            in ap (λ (f : ℕ → ℕ). f l) (with_value-same p.begins j (with_value (p.begins j) k start) i e)
-            ∙ (with_value-other (p.begins j) k start l d ∙ ap (λ n. p.begins n l) (sym e)))
-        | inr ne ↦ ap (λ (f : ℕ → ℕ). f l) (with_value-other p.begins j (with_value (p.begins j) k start) i ne)
-      ];
-      ready_here = with_value-same p.ready j (start + time_of shop j k) j refl ∙ end;
-      ready_other = λ i ne. with_value-other p.ready j (start + time_of shop j k) i ne;
-      free_here = λ m e. with_value-same p.free (machine_of shop j k) (start + time_of shop j k) m e ∙ end;
-      free_other = λ m ne. with_value-other p.free (machine_of shop j k) (start + time_of shop j k) m ne;
-    }
+place_next-is shop p j = grind arith
 
 -- a placing that keeps releases, routes and machines among what it has placed
 pub record IsSound (shop : Shop) (p : Placing) : Type 0 where
@@ -71,14 +45,7 @@ module _ (shop : Shop) (p : Placing) (j : ℕ) (q : Placing) (n : IsNext shop p 
   -- what is placed now was placed before, or is the one
   pub each_placed : (P : ℕ → ℕ → Type 0) → ((i l : ℕ) → l < p.steps i → P i l) → P j (p.steps j) → (i l : ℕ)
       → l < q.steps i → P i l
-  each_placed P old new i l h = elim (cases_eq i j) [
-    | inl e ↦ elim (cases_eq l (p.steps j)) [
-      | inl f ↦ subst (λ (x : ℕ). P x l) (sym e) (subst (λ (y : ℕ). P j y) (sym f) new)
-      | inr g ↦ old i l (let a : p.steps i ≡ p.steps j = ap p.steps e in let b : q.steps i ≡ q.steps j = ap q.steps e
-          in let c = n.steps_here in omega arith)
-    ]
-    | inr ne ↦ old i l (let a = n.steps_other i ne in omega arith)
-  ]
+  each_placed P old new i l h = grind (arith, cases_eq)
 
   -- nothing is taken back, and no machine is free earlier
   pub steps_grow : (i : ℕ) → p.steps i ≤ q.steps i
@@ -143,8 +110,7 @@ module _ (shop : Shop) (p : Placing) (j : ℕ) (q : Placing) (n : IsNext shop p 
   -- the new one begins no later than in the table
   pub new_follows : (starts : Starts) → Follows shop p starts → IsOperation shop j (p.steps j)
       → q.begins j (p.steps j) ≤ starts j (p.steps j)
-  new_follows starts f op = let a = n.begins_here in let b = f.ready j op
-      in let c = f.free j (p.steps j) op (omega arith) in omega arith
+  new_follows starts f op = grind arith
 
   -- a table follows one step more if what is left on the machine begins after it
   pub follows_next : (starts : Starts) → IsFeasible shop starts → Follows shop p starts → IsOperation shop j (p.steps j)
@@ -188,33 +154,11 @@ merged-other p starts i l h = rw (le-ltb l (p.steps i) h)
 module _ (shop : Shop) (p : Placing) (starts : Starts) (sound : IsSound shop p) (feasible : IsFeasible shop starts)
     (f : Follows shop p starts) where
   pub merged-le : (i l : ℕ) → merged p starts i l ≤ starts i l
-  merged-le i l = elim (cases_lt l (p.steps i)) [
-    | inl h ↦ rw (merged-placed p starts i l h) (f.begins i l h)
-    | inr h ↦ rw (merged-other p starts i l h) (omega arith)
-  ]
+  merged-le i l = grind (arith, cases_lt, merged-placed, merged-other)
 
   merged-in_time : NoneEarly shop (merged p starts)
-  merged-in_time i l op = elim (cases_lt l (p.steps i)) [
-    | inl h ↦ rw (
-      merged-placed p starts i l h,
-      earliest_of-same shop (merged p starts) p.begins i l
-          (λ k below. merged-placed p starts i k (omega arith)),
-    ) (sound.in_time i l h)
-    | inr h ↦ elim (cases_eq l (p.steps i)) [
-      | inl e ↦ (let a = earliest_of-same shop (merged p starts) p.begins i l
-          (λ k below. merged-placed p starts i k (omega arith))
-          in let b : earliest_of shop p.begins i l ≤ p.ready i = rw e (sound.ready i)
-          in let c : p.ready i ≤ starts i l = rw e (f.ready i (rw e at op))
-          in let d = merged-other p starts i l h in omega arith)
-      | inr ne ↦ (let a = feasible-in_time shop starts feasible i l op in let d = merged-other p starts i l h in
-          later i l h ne a d)
-    ]
-  ]
-    where
-      later : (i l : ℕ) → p.steps i ≤ l → (l ≡ p.steps i → ⊥) → earliest_of shop starts i l ≤ starts i l
-          → merged p starts i l ≡ starts i l → earliest_of shop (merged p starts) i l ≤ merged p starts i l
-      later i zero h ne a d = absurd (ne (omega arith))
-      later i (suc l) h ne a d = let e = merged-other p starts i l (omega arith) in omega arith
+  merged-in_time i l op =
+      grind (arith, cases_lt, merged-placed, earliest_of-same, merged, cases_eq, merged-other, feasible-in_time)
 
   -- what is placed on a machine ends before what isn't begins
   pub between : (j k i l : ℕ) → k < p.steps j → p.steps i ≤ l → IsOperation shop i l
@@ -241,5 +185,4 @@ module _ (shop : Shop) (p : Placing) (starts : Starts) (sound : IsSound shop p) 
   merged_feasible = feasible_from shop (merged p starts) merged-in_time merged-apart
 
   pub merged_ends : end_of shop (merged p starts) ≤ end_of shop starts
-  merged_ends = end_of-le shop (merged p starts) (end_of shop starts)
-      (λ i l op. let a = merged-le i l in let b = le-end_of shop starts i l op in omega arith)
+  merged_ends = grind (arith, end_of-le, merged, merged-le, le-end_of)

@@ -19,5 +19,4 @@ flat_map_range_more f j =
 pub flat_map_more_part : {A : Type 0} (f : ℕ → List A) (old new part : List A) (j : ℕ)
     → old ≡ flat_map f (range_with_len 0 j)
     → f j ≡ part → new ≡ old ++ part → new ≡ flat_map f (range_with_len 0 (j + 1))
-flat_map_more_part f old new part j before each is =
-    let more = flat_map_range_more f j in cc
+flat_map_more_part f old new part j before each is = grind (arith, flat_map_range_more)

@@ -78,12 +78,7 @@ two_jobs_that_cross : IsVerdict shop_a ((0 ∷ 3 ∷ []) ∷ (0 ∷ 3 ∷ []) �
 two_jobs_that_cross = (shape_by_test shop_a _ refl, feasible_by_test shop_a _ refl refl, refl)
 
 two_jobs_that_overlap : IsVerdict shop_a ((0 ∷ 3 ∷ []) ∷ (0 ∷ 2 ∷ []) ∷ []) (Overlap 0 (at 0 0) (at 1 1))
-two_jobs_that_overlap = (
-  shape_by_test shop_a _ refl,
-  in_time_by_test shop_a _ refl,
-  refl,
-  first_overlap_by_test shop_a _ 0 0 1 1 (lit< tt) (lit< tt) (inl (lit< tt)) refl (lit< tt) (lit< tt) refl,
-)
+two_jobs_that_overlap = grind (arith, shape_by_test, in_time_by_test, first_overlap_by_test)
 
 a_start_too_few : IsVerdict shop_a ((0 ∷ 3 ∷ []) ∷ (0 ∷ []) ∷ []) WrongSize
 a_start_too_few shape = absurd (let e = shape.steps 1 in omega arith)
@@ -92,25 +87,14 @@ times_of_zero : IsFeasible shop_z (starts_of ((0 ∷ 4 ∷ 5 ∷ []) ∷ (0 ∷ 
 times_of_zero = feasible_by_test shop_z _ refl refl
 
 a_step_before_its_turn : IsVerdict shop_z ((0 ∷ 4 ∷ 5 ∷ []) ∷ (0 ∷ 0 ∷ 3 ∷ []) ∷ []) (Early 1 2)
-a_step_before_its_turn =
-    (shape_by_test shop_z _ refl, lit< tt, first_early_by_test shop_z _ 1 2 (lit< tt) (lit< tt) refl)
+a_step_before_its_turn = grind (arith, shape_by_test, first_early_by_test)
 
 time_zero_strictly_inside : IsVerdict shop_g ((2 ∷ 7 ∷ 10 ∷ []) ∷ (0 ∷ 1 ∷ 5 ∷ []) ∷ []) (Overlap 2 (at 0 2) (at 1 2))
-time_zero_strictly_inside = (
-  shape_by_test shop_g _ refl,
-  in_time_by_test shop_g _ refl,
-  refl,
-  first_overlap_by_test shop_g _ 0 2 1 2 (lit< tt) (lit< tt) (inl (lit< tt)) refl (lit< tt) (lit< tt) refl,
-)
+time_zero_strictly_inside = grind (arith, shape_by_test, in_time_by_test, first_overlap_by_test)
 
 the_first_and_the_last_of_three : IsVerdict shop_three ((0 ∷ []) ∷ (5 ∷ []) ∷ (1 ∷ []) ∷ [])
     (Overlap 0 (at 0 0) (at 2 0))
-the_first_and_the_last_of_three = (
-  shape_by_test shop_three _ refl,
-  in_time_by_test shop_three _ refl,
-  refl,
-  first_overlap_by_test shop_three _ 0 0 2 0 (lit< tt) (lit< tt) (inl (lit< tt)) refl (lit< tt) (lit< tt) refl,
-)
+the_first_and_the_last_of_three = grind (arith, shape_by_test, in_time_by_test, first_overlap_by_test)
 
 before_its_release : IsVerdict shop_r ((0 ∷ 6 ∷ []) ∷ (3 ∷ 6 ∷ []) ∷ [] ∷ []) (Unreleased 1)
 before_its_release = (shape_by_test shop_r _ refl, first_early_by_test shop_r _ 1 0 (lit< tt) (lit< tt) refl)

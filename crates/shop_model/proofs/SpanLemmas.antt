@@ -22,13 +22,7 @@ abbrev pub IsForward : Occupied → Type 0
 IsForward a = a.start ≤ a.finish
 
 in_turn_through : (a b c : Occupied) → IsForward b → IsInTurn a b → IsInTurn b c → IsInTurn a c
-in_turn_through a b c forward one two = elim one [
-  | inl h ↦ elim two [ inl g ↦ inl (omega arith) | inr g ↦ inl (let e = g.0 in omega arith) ]
-  | inr h ↦ elim two [
-    | inl g ↦ inl (let e = h.0 in omega arith)
-    | inr g ↦ inr (h.0 ∙ g.0, (let x = h.1 in let y = g.1 in omega arith))
-  ]
-]
+in_turn_through a b c forward one two = grind arith
 
 in_turn_far : (xs : List Occupied) → AreInTurn xs → All IsForward xs → (k l : ℕ) (d : Occupied) → k < l → l < length xs
     → IsInTurn (get_or xs k d) (get_or xs l d)
@@ -47,8 +41,7 @@ pub in_turn_parted : (a b : Occupied) → IsInTurn a b → ArePartedSpans a b
 in_turn_parted a b turn same = elim turn [ inl h ↦ absurd (omega arith) | inr h ↦ inl h.1 ]
 
 pub parted_pairs : (xs : List Occupied) → AreInTurn xs → All IsForward xs → AllPairs ArePartedSpans xs
-parted_pairs xs turns forward k l d before below =
-    in_turn_parted (get_or xs k d) (get_or xs l d) (in_turn_far xs turns forward k l d before below)
+parted_pairs xs turns forward k l d before below = grind (arith, in_turn_parted, in_turn_far)
 
 pub parted_both_ways : (a b : Occupied) → ArePartedSpans a b → ArePartedSpans b a
 parted_both_ways a b parted same = elim (parted (sym same)) [ inl h ↦ inr h | inr h ↦ inl h ]
@@ -83,8 +76,7 @@ module _ (shop : Shop) (rows : List (List ℕ)) where
   span j k = span_at (route_of shop j) (slice_index_or rows j []) k
 
   part_length : (j : ℕ) → length (part j) ≡ length (route_of shop j)
-  part_length j = length-map-range_with_len (span_at (route_of shop j) (slice_index_or rows j [])) 0
-      (length (route_of shop j))
+  part_length j = grind (arith, length-map-range_with_len, slice_index_or)
 
   number_at : (j : ℕ) → j < length shop.jobs → get_or numbers j 0 ≡ j
   number_at j h = get_or-range_with_len 0 (length shop.jobs) j 0 h ∙ omega arith

@@ -12,8 +12,7 @@ module _ {X : Type 0} where
   swap-is : (xs : List X) (i j : ℕ) (d : X) → i < length xs → j < length xs
       → swap xs i j ≡ set (set xs i (get_or xs j d)) j (get_or xs i d)
   swap-is [] i j d below other = absurd (omega arith)
-  swap-is (x ∷ xs) i j d below other =
-      rw (get_or_default (x ∷ xs) j x d other, get_or_default (x ∷ xs) i x d below) refl
+  swap-is (x ∷ xs) i j d below other = grind (arith, get_or_default)
 
   -- the place to which the element at n goes
   record GoesTo (xs : List X) (i j n m : ℕ) : Type 0 where

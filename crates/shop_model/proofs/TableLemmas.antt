@@ -21,16 +21,8 @@ pub starts_next : (rows : List (Vec ℕ Global)) (n : ℕ) (row : Vec ℕ Global
     → row ≡ slice_index_or rows n row → StartsBelow (map (λ r. r.items) rows) n
     → All (λ s. s ≤ MAX_START) row.items
     → StartsBelow (map (λ r. r.items) rows) (n + 1)
-starts_next rows n row h is before within j k below = elim (cases_eq j n) [
-  | inl e ↦ (let at : slice_index_or (map (λ r. r.items) rows) n [] ≡ row.items = rows_at rows n row h
-      ∙ ap (λ (v : Vec ℕ Global). v.items) (sym is)
-      in rw (e, at) (elim (cases_lt k (length row.items)) [
-        | inl g ↦ within k 0 g
-        | inr g ↦
-            rw (get_or_past row.items k 0 g) (omega arith)
-      ]))
-  | inr ne ↦ before j k (omega arith)
-]
+starts_next rows n row h is before within j k below =
+    grind (arith, cases_eq, slice_index_or, rows_at, cases_lt, get_or_past)
 
 pub starts_at : (rows : List (Vec ℕ Global)) (n : ℕ) (row : Vec ℕ Global) → n < length rows
     → row ≡ slice_index_or rows n row → AreStarts (map (λ r. r.items) rows) → All (λ s. s ≤ MAX_START) row.items

@@ -3,13 +3,11 @@ use Rattle.std.proofs.Common.{◌≡◌, ℕ, ◌≤◌, ◌<◌, inl, inr, List
 use Rattle.std.proofs.Common.{◌∙◌, ap, subst, arith, append_assoc, cond, eqb}
 use Rattle.std.proofs.lemmas.Bool.{cases_eq, cases_lt}
 use Rattle.std.proofs.lemmas.List.Sums.{fold-append, sum_by-append, sum_by-cons}
-use Rattle.shop_model.specs.Shop.{Shop, Starts, machine_of, IsOperation, IsFeasible}
-use Rattle.shop_model.specs.Shop.{finish_of}
+use Rattle.shop_model.specs.Shop.{Shop, Starts, machine_of, IsOperation, IsFeasible, finish_of}
 use Rattle.shop_model.specs.Word.{Placing, none_placed, place_next, placing, count_of, IsWord, IsUnder}
 use Rattle.shop_model.proofs.WordLemmas.{snoc_induct, count_of-snoc_same, count_of-snoc_other, cut_snoc, IsWord-init}
-use Rattle.shop_model.proofs.Placings.{IsNext, place_next-is, IsSound, sound_next, each_placed, before_new}
-use Rattle.shop_model.proofs.Placings.{Follows, follows_next, new_follows, merged, merged-placed, between}
-use Rattle.shop_model.proofs.Placings.{merged_feasible}
+use Rattle.shop_model.proofs.Placings.{IsNext, place_next-is, IsSound, sound_next, each_placed, before_new, Follows}
+use Rattle.shop_model.proofs.Placings.{follows_next, new_follows, merged, merged-placed, between, merged_feasible}
 
 -- the next step of j after w ends before what isn't in w or this begins on its machine
 abbrev pub Precedes : Shop → List ℕ → ℕ → Starts → Type 0
@@ -68,17 +66,7 @@ pub next_operation : (shop : Shop) (w : List ℕ) (j : ℕ) → IsWord shop (w +
 next_operation shop w j h = let a = h j in let b = count_of-snoc_same w j j refl in omega arith
 
 after_none : (shop : Shop) → AfterWord shop [] (placing shop [])
-after_none shop = record {
-  steps = λ i. refl;
-  sound = record {
-    operations = λ i l h. absurd (omega arith);
-    in_time = λ i l h. absurd (omega arith);
-    ready = λ i. omega arith;
-    free = λ i l h. absurd (omega arith);
-    apart = λ i l h. absurd (omega arith);
-  };
-  ordered = λ v j later e i l c h. absurd (omega arith);
-}
+after_none shop = grind arith
 
 module _ (shop : Shop) (w : List ℕ) (j : ℕ) (p q : Placing) (n : IsNext shop p j q) where
   after_next : AfterWord shop w p → IsWord shop (w ++ j ∷ []) → AfterWord shop (w ++ j ∷ []) q
@@ -152,17 +140,4 @@ pub merged_under : (shop : Shop) (w : List ℕ) (starts : Starts) → IsWord sho
     → Follows shop (placing shop w) starts
     → IsUnder shop w (merged (placing shop w) starts)
 merged_under shop w starts word feasible f =
-    let a = after_word shop w word
-    in let p = placing shop w
-    in record {
-      feasible = merged_feasible shop p starts a.sound feasible f;
-      first = λ v j later e i l op few m.
-          let in_w : count_of j v < p.steps j =
-          (let x = count_of-cut v later j in let y = a.steps j
-          in let z : count_of j w ≡ count_of j (v ++ j ∷ later) = ap (count_of j) e in omega arith)
-          in elim (cases_lt l (p.steps i)) [
-            | inl h ↦ rw (merged-placed p starts j (count_of j v) in_w, merged-placed p starts i l h)
-                (a.ordered v j later e i l few h m)
-            | inr h ↦ between shop p starts a.sound feasible f j (count_of j v) i l in_w h op (sym m)
-          ];
-    }
+    grind (arith, after_word, merged_feasible, count_of-cut, cases_lt, merged-placed, between)

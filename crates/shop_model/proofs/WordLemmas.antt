@@ -39,13 +39,6 @@ cut_snoc (y ∷ w) (x ∷ v) later c j e =
     in let tails : w ++ c ∷ [] ≡ v ++ j ∷ later = cc
     in elim (cut_snoc w v later c j tails) [ inl h ↦ inl (h.0, cc, h.2) | inr h ↦ inr (h.0, h.1, cc) ]
 
--- the value that was put in, and the others
-pub with_value-same : {A : Type 0} (f : ℕ → A) (i : ℕ) (v : A) (j : ℕ) → j ≡ i → with_value f i v j ≡ v
-with_value-same f i v j e = elim (eqb_tells j i) [ inl h ↦ rw h.0 | inr h ↦ absurd (h.1 e) ]
-
-pub with_value-other : {A : Type 0} (f : ℕ → A) (i : ℕ) (v : A) (j : ℕ) → (j ≡ i → ⊥) → with_value f i v j ≡ f j
-with_value-other f i v j ne = elim (eqb_tells j i) [ inl h ↦ absurd (ne h.1) | inr h ↦ rw h.0 ]
-
 -- the front of a word is one
 pub IsWord-init : (shop : Shop) (w : List ℕ) (j : ℕ) → IsWord shop (w ++ j ∷ []) → IsWord shop w
 IsWord-init shop w j h i = elim (eqb_tells i j) [

@@ -1,6 +1,5 @@
 -- How long a word of an instance may be, and how late what it places may end.
-use Rattle.std.proofs.Common.{◌≡◌, ℕ, zero, suc, ◌+◌, ◌*◌, ◌≤◌, ◌<◌, inl, inr, List, [], ◌∷◌, length, refl}
-use Rattle.std.proofs.Common.{sym, arith}
+use Rattle.std.proofs.Common.{◌≡◌, ℕ, zero, suc, ◌+◌, ◌*◌, ◌≤◌, ◌<◌, inl, inr, List, [], ◌∷◌, length, refl, sym, arith}
 use Rattle.std.specs.List.{AllByRecursion}
 use Rattle.std.proofs.lemmas.Bool.{cases_eq}
 use Rattle.std.proofs.lemmas.List.{length_push}
@@ -28,8 +27,7 @@ sum_below_none f (suc n) h = let a = sum_below_none f n h in let b = h n in omeg
 
 sum_below_same : (f g : ℕ → ℕ) (n : ℕ) → ((i : ℕ) → i < n → g i ≡ f i) → sum_below n g ≡ sum_below n f
 sum_below_same f g zero h = refl
-sum_below_same f g (suc n) h = let a = sum_below_same f g n (λ i below. h i (omega arith)) in let b = h n (omega arith)
-    in omega arith
+sum_below_same f g (suc n) h = grind (arith, sum_below_same f g n (λ i below. h i (omega arith)), h n (omega arith))
 
 sum_below_one_more : (f g : ℕ → ℕ) (x n : ℕ) → x < n → g x ≡ f x + 1 → ((i : ℕ) → (x ≡ i → ⊥) → g i ≡ f i)
     → sum_below n g ≡ sum_below n f + 1
@@ -58,12 +56,7 @@ word_length shop w limits word =
 
 -- a word of an instance can share its jobs
 pub word_shared : (shop : Shop) (w : List ℕ) → IsWithinLimits shop → IsWord shop w → CanBeShared w
-word_shared shop w limits word =
-    let most = limits.jobs
-    in record {
-      jobs = All-weaker (λ j. j < length shop.jobs) (λ j. j < 1000) (λ j below. omega arith) w (word_jobs shop w word);
-      length = word_length shop w limits word;
-    }
+word_shared shop w limits word = grind (arith, word_jobs, word_length)
 
 -- no job and no machine is ready later than b
 pub record IsReadyBy (p : Placing) (b : ℕ) : Type 0 where
@@ -72,21 +65,7 @@ pub record IsReadyBy (p : Placing) (b : ℕ) : Type 0 where
 
 ready_next : (shop : Shop) (p q : Placing) (j b : ℕ) → IsWithinLimits shop → IsNext shop p j q → IsReadyBy p b
     → IsReadyBy q (b + 1000000000)
-ready_next shop p q j b limits n r =
-    let time = limits.times j (p.steps j)
-    in let begins = n.begins_here
-    in let job = r.ready j
-    in let machine = r.free (machine_of shop j (p.steps j))
-    in record {
-      ready = λ i. elim (cases_eq i j) [
-        | inl e ↦ rw e (let a = n.ready_here in omega arith)
-        | inr ne ↦ (let a = n.ready_other i ne in let c = r.ready i in omega arith)
-      ];
-      free = λ m. elim (cases_eq m (machine_of shop j (p.steps j))) [
-        | inl e ↦ (let a = n.free_here m e in omega arith)
-        | inr ne ↦ (let a = n.free_other m ne in let c = r.free m in omega arith)
-      ];
-    }
+ready_next shop p q j b limits n r = grind arith
 
 -- each operation takes 10 ^ 9 at most
 pub ready_word : (shop : Shop) → IsWithinLimits shop → (w : List ℕ)

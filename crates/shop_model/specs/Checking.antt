@@ -3,13 +3,11 @@
 --     starts_of rows                 the table of these rows
 --     IsVerdict shop rows verdict
 --         what the verdict says is so, and it is the first fault in the order of the check
-use Rattle.std.specs.Prelude.{◌≡◌, ℕ, zero, suc, ◌≤◌, ◌<◌, ◌⊎◌, ◌↔◌, List, [], length}
-use Rattle.std.specs.Prelude.{slice_index_or}
+use Rattle.std.specs.Prelude.{◌≡◌, ℕ, zero, suc, ◌≤◌, ◌<◌, ◌⊎◌, ◌↔◌, List, [], length, slice_index_or}
 use Rattle.shop_model.specs.Shop.{Shop, Starts, route_of, release_of, machine_of, IsOperation}
 use Rattle.shop_model.specs.Shop.{IsFeasible, finish_of, end_of}
 use Rattle.shop_model.specs.declared.checking.Verdict.{Verdict}
-use Rattle.shop_model.specs.declared.checking.Verdict.TheVariants.{Feasible, WrongSize, Unreleased}
-use Rattle.shop_model.specs.declared.checking.Verdict.TheVariants.{Early, Overlap}
+use Rattle.shop_model.specs.declared.checking.Verdict.TheVariants.{Feasible, WrongSize, Unreleased, Early, Overlap}
 
 -- the starts that stand in the rows, one row a job
 abbrev pub starts_of : List (List ℕ) → Starts

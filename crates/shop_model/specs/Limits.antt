@@ -1,8 +1,7 @@
 -- The limits of an instance and of a table.
 use Rattle.std.specs.Prelude.{◌≡◌, ℕ, ◌≤◌, ◌<◌, List, [], length, slice_index_or, All, Vec}
 use Rattle.std.specs.declared.alloc.Global.{Global}
-use Rattle.shop_model.specs.declared.limits.TheConstants.{MAX_JOBS, MAX_MACHINES, MAX_STEPS}
-use Rattle.shop_model.specs.declared.limits.TheConstants.{MAX_TIME, MAX_START}
+use Rattle.shop_model.specs.declared.limits.TheConstants.{MAX_JOBS, MAX_MACHINES, MAX_STEPS, MAX_TIME, MAX_START}
 use Rattle.shop_model.specs.declared.ops.Op.{Op}
 use Rattle.shop_model.specs.declared.ops.Job.{Job}
 use Rattle.shop_model.specs.Shop.{Shop, route_of, release_of, machine_of, time_of}

@@ -2,8 +2,7 @@
 --     shared_word path n last      the first n jobs of a path, and one more, if any
 --     CanBeShared w                w is no longer than the words of instances, and each of its jobs
 --                                  is below the most jobs of an instance
-use Rattle.std.specs.Prelude.{ℕ, ◌*◌, ◌≤◌, ◌<◌, Option, Some, None, List, ◌∷◌, ◌++◌, [], take}
-use Rattle.std.specs.Prelude.{length, All}
+use Rattle.std.specs.Prelude.{ℕ, ◌*◌, ◌≤◌, ◌<◌, Option, Some, None, List, ◌∷◌, ◌++◌, [], take, length, All}
 use Rattle.shop_model.specs.declared.limits.TheConstants.{MAX_JOBS, MAX_STEPS}
 
 abbrev pub shared_word : List ℕ → ℕ → Option ℕ → List ℕ

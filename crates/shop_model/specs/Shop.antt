@@ -6,8 +6,7 @@
 --     end_of shop starts             when the last operation ends, 0 if there is none
 --     IsLeast shop c
 --         c is the end of a feasible table, and no feasible table ends before it
-use Rattle.std.specs.Prelude.{◌≡◌, ℕ, zero, suc, ◌+◌, ◌≤◌, ◌<◌, max, ◌⊎◌, List, [], length}
-use Rattle.std.specs.Prelude.{map, slice_index_or, sum_by}
+use Rattle.std.specs.Prelude.{◌≡◌, ℕ, zero, suc, ◌+◌, ◌≤◌, ◌<◌, max, ◌⊎◌, List, [], length, map, slice_index_or, sum_by}
 use Rattle.std.specs.List.{range_with_len}
 use Rattle.shop_model.specs.declared.ops.Op.{Op}
 

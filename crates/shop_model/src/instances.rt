@@ -1,9 +1,7 @@
 // Instances of the job shop.
-ghost use Rattle.std.specs.Prelude.{◌≡◌, ℕ, ◌*◌, ◌<◌, ◌≤◌, ◌↔◌, IsTrue, IsErr, IfOk, IfErr, length};
-ghost use Rattle.std.specs.Prelude.{All};
+ghost use Rattle.std.specs.Prelude.{◌≡◌, ℕ, ◌*◌, ◌<◌, ◌≤◌, ◌↔◌, IsTrue, IsErr, IfOk, IfErr, length, All};
 ghost use Rattle.shop_model.specs.Shop.{route_of, release_of, releases_of, operation_count};
-ghost use Rattle.shop_model.specs.Limits.{IsWithinLimits, IsRouteWithin, AreRowsWithin};
-ghost use Rattle.shop_model.specs.Limits.{IsJobWithin, AreJobsWithin};
+ghost use Rattle.shop_model.specs.Limits.{IsWithinLimits, IsRouteWithin, AreRowsWithin, IsJobWithin, AreJobsWithin};
 ghost use Rattle.shop_model.specs.Given.{shop_of_rows, shop_of_jobs};
 
 use crate::limits::{MAX_JOBS, MAX_MACHINES, MAX_STEPS, MAX_TIME};

@@ -2,8 +2,7 @@
 ghost use Rattle.std.specs.Prelude.{◌<◌, ◌↔◌, IsTrue, length};
 ghost use Rattle.shop_model.specs.Shop.{IsOperation};
 ghost use Rattle.shop_model.specs.Checking.{HasShape, starts_of, NoneEarly};
-ghost use Rattle.shop_model.specs.inner.FirstFaults.{IsJobApart};
-ghost use Rattle.shop_model.specs.inner.FirstFaults.{TellsFirstAfter, TellsFirstOverlapOf};
+ghost use Rattle.shop_model.specs.inner.FirstFaults.{IsJobApart, TellsFirstAfter, TellsFirstOverlapOf};
 ghost use Rattle.shop_model.specs.inner.FirstFaults.{TellsFirstOverlap};
 ghost use Rattle.shop_model.specs.inner.ClearSpans.{AreOfApart};
 

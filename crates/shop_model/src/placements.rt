@@ -1,7 +1,6 @@
 // Placements: how far each job is placed, and when jobs and machines are free for more.
 ghost use Rattle.std.specs.Prelude.{◌≡◌, ◌<◌, IfOk, length, slice_index};
-ghost use Rattle.shop_model.specs.Placements.{HasLast, HasNext, IsPlacement, PlacesNext};
-ghost use Rattle.shop_model.specs.Placements.{TakesBack, TellsNextStart};
+ghost use Rattle.shop_model.specs.Placements.{HasLast, HasNext, IsPlacement, PlacesNext, TakesBack, TellsNextStart};
 ghost use Rattle.shop_model.specs.Word.{IsWord, none_placed, placing};
 
 use crate::instances::Instance;

@@ -1,7 +1,6 @@
 // One job's operations against its row of starts.
 ghost use Rattle.std.specs.Prelude.{◌≡◌, ◌+◌, ◌≤◌, ◌↔◌, IsTrue};
-ghost use Rattle.shop_model.specs.inner.Steps.{AreSmall, KeepsOrder, AreClear, TellsEarlyStep};
-ghost use Rattle.shop_model.specs.inner.Steps.{TellsFirstClash, end_at};
+ghost use Rattle.shop_model.specs.inner.Steps.{AreSmall, KeepsOrder, AreClear, TellsEarlyStep, TellsFirstClash, end_at};
 
 use crate::limits::{MAX_START, MAX_TIME};
 use crate::ops::Op;

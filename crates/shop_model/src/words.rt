@@ -1,6 +1,5 @@
 // Job sequences: the order in which operations are dispatched.
-ghost use Rattle.std.specs.Prelude.{◌≡◌, ◌↔◌, ◌<◌, ◌≤◌, All, IfOk, OnOk, IsTrue, length, slice_index};
-ghost use Rattle.std.specs.Prelude.{vec_capacity};
+ghost use Rattle.std.specs.Prelude.{◌≡◌, ◌↔◌, ◌<◌, ◌≤◌, All, IfOk, OnOk, IsTrue, length, slice_index, vec_capacity};
 ghost use Rattle.shop_model.specs.SharedWords.{CanBeShared};
 ghost use Rattle.shop_model.specs.Word.{count_of, IsWord, IsFull, start_jobs};
 

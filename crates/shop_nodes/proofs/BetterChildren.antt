@@ -1,18 +1,16 @@
 -- Branching loses no table: for each table under a word that isn't full, some child has one under it that ends no
 -- later.
-use Rattle.std.proofs.Common.{◌≡◌, ℕ, zero, suc, ◌+◌, ◌-◌, ◌≤◌, ◌⊎◌, inl, inr, false, ◌&&◌, List, [], ◌∷◌, ◌++◌}
-use Rattle.std.proofs.Common.{length, map, refl, sym, ◌∙◌, ap, subst, arith, eqb, ltb}
+use Rattle.std.proofs.Common.{◌≡◌, ℕ, zero, suc, ◌+◌, ◌-◌, ◌≤◌, ◌⊎◌, inl, inr, false, List, [], ◌∷◌, ◌++◌}
+use Rattle.std.proofs.Common.{length, map, refl, sym, ◌∙◌, ap, subst, arith, ltb}
 use Rattle.std.specs.List.{AllByRecursion, filter, range_with_len}
 use Rattle.shop_nodes.specs.Laws.{LosesNoTable}
 use Rattle.std.proofs.lemmas.List.{length-append}
 use Rattle.std.proofs.lemmas.Bool.{cases_Bool, cases_eq, cases_lt, eq-eqb, ltb-true, ltb-false, lt-ltb, true≢false}
 use Rattle.std.proofs.lemmas.Bool.{or_right}
-use Rattle.shop_model.specs.Shop.{Shop, Starts, route_of, machine_of, IsOperation, IsFeasible, finish_of}
-use Rattle.shop_model.proofs.Ends.{AreDifferent}
-use Rattle.shop_model.specs.Shop.{end_of}
+use Rattle.shop_model.specs.Shop.{Shop, Starts, route_of, machine_of, IsOperation, IsFeasible, finish_of, end_of}
+use Rattle.shop_model.proofs.Ends.{AreDifferent, IsOperation-job}
 use Rattle.shop_model.specs.Word.{Placing, placing, count_of, IsWord, IsFull, IsUnder}
 use Rattle.shop_model.proofs.WordLemmas.{count_of-snoc_same, count_of-snoc_other}
-use Rattle.shop_model.proofs.Ends.{IsOperation-job}
 use Rattle.shop_model.proofs.Placings.{IsNext, place_next-is, Follows, follows_next, steps_grow, merged, merged_ends}
 use Rattle.shop_model.proofs.Unders.{AfterWord, after_word, follows_word, merged_under, under-snoc, placing-snoc}
 use Rattle.shop_bound.specs.Bound.{lb}
@@ -35,13 +33,8 @@ pub record HasChild (shop : Shop) (w : List ℕ) (js : List ℕ) (starts : Start
 -- in a job the starts rise from step to step
 later_begins : (shop : Shop) (starts : Starts) → IsFeasible shop starts → (j k d : ℕ) → IsOperation shop j (k + suc d)
     → finish_of shop starts j k ≤ starts j (k + suc d)
-later_begins shop starts feasible j k zero op = subst (λ n. finish_of shop starts j k ≤ starts j n) (let e : k + 1
-    ≡ k + suc zero = omega arith in e) (feasible.in_order j k (omega arith))
-later_begins shop starts feasible j k (suc d) op =
-    let before = later_begins shop starts feasible j k d (omega arith)
-    in let next = feasible.in_order j (k + suc d) (omega arith)
-    in let e : (k + suc d) + 1 ≡ k + suc (suc d) = omega arith
-    in subst (λ n. finish_of shop starts j k ≤ starts j n) e (omega arith)
+later_begins shop starts feasible j k zero op = grind arith
+later_begins shop starts feasible j k (suc d) op = grind (arith, later_begins shop starts feasible j k d (omega arith))
 
 module _ (shop : Shop) (w : List ℕ) (starts : Starts) (word : IsWord shop w) (under : IsUnder shop w starts) where
   at : AfterWord shop w (placing shop w)
@@ -53,8 +46,7 @@ module _ (shop : Shop) (w : List ℕ) (starts : Starts) (word : IsWord shop w) (
   -- the next operation of an open job begins no earlier than its head
   head-le : (i : ℕ) → IsOperation shop i ((placing shop w).steps i) → next_head shop (placing shop w) i ≤ starts i
       ((placing shop w).steps i)
-  head-le i op = let a = follows.ready i op in let b = follows.free i ((placing shop w).steps i) op (omega arith)
-      in omega arith
+  head-le i op = grind (arith, follows)
 
   -- the table itself, where the first operation of the machine can be next
   itself : (m i : ℕ) → IsFirstOn shop (placing shop w) starts m i ((placing shop w).steps i)
@@ -172,19 +164,11 @@ module _ (shop : Shop) (w : List ℕ) (starts : Starts) (word : IsWord shop w) (
       ]
     where
       cases_same : (a b i l : ℕ) → ((a ≡ i) × (b ≡ l)) ⊎ AreDifferent a b i l
-      cases_same a b i l = elim (cases_eq a i) [
-        | inl e ↦ elim (cases_eq b l) [ inl f ↦ inl (e, f) | inr n ↦ inr (λ d. n d.1) ]
-        | inr n ↦ inr (λ d. n d.0)
-      ]
+      cases_same a b i l = grind (arith, cases_eq)
 
       not_before : (p : Placing) (c i : ℕ) → conflicts_with shop p c i ≡ false → machine_of shop i (p.steps i)
           ≡ next_machine shop p c → next_end shop p c ≤ next_head shop p i
-      not_before p c i t e = elim (cases_Bool (ltb (next_head shop p i) (next_end shop p c))) [
-        | inl f ↦ absurd (true≢false (sym
-            (or_right (eqb i c) (eqb (next_machine shop p i) (next_machine shop p c) && ltb (next_head shop p i)
-            (next_end shop p c)) (rw (eq-eqb (next_machine shop p i) (next_machine shop p c) e, f) refl)) ∙ t))
-        | inr f ↦ ltb-false (next_head shop p i) (next_end shop p c) f
-      ]
+      not_before p c i t e = grind (arith, cases_Bool, true≢false, or_right, eq-eqb, ltb-false)
 
   is_full : open_jobs shop (placing shop w) ≡ [] → IsFull shop w
   is_full e j = elim (cases_lt (count_of j w) (length (route_of shop j))) [

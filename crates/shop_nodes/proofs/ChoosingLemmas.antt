@@ -9,14 +9,11 @@ use Rattle.shop_model.specs.Shop.{Shop, route_of}
 use Rattle.shop_model.specs.Word.{Placing}
 use Rattle.shop_nodes.specs.declared.next_operations.NextOperation.{NextOperation}
 use Rattle.shop_nodes.specs.Branching.{next_end, chosen_of, conflicts_with}
-use Rattle.shop_nodes.specs.inner.Choosing.{IsNext}
-use Rattle.shop_nodes.specs.inner.Choosing.{open_below, IsChoice}
+use Rattle.shop_nodes.specs.inner.Choosing.{IsNext, open_below, IsChoice}
 
 range-last : (a n : ℕ) → range_with_len a (suc n) ≡ range_with_len a n ++ (a + n) ∷ []
 range-last a zero = let e : a + 0 ≡ a = omega arith in rw e refl
-range-last a (suc n) =
-    let e : a + 1 + n ≡ a + suc n = omega arith
-    in ap (λ xs. a ∷ xs) (range-last (a + 1) n) ∙ ap (λ k. a ∷ (range_with_len (a + 1) n ++ k ∷ [])) e
+range-last a (suc n) = grind (arith, range-last (a + 1) n)
 
 open-last : (shop : Shop) (p : Placing) (n : ℕ)
     → open_below shop p (n + 1) ≡ open_below shop p n ++ filter (λ j. ltb (p.steps j) (length (route_of shop j)))
@@ -32,23 +29,16 @@ open-last shop p n =
 -- a job with no step left, and one with a step left
 pub open-skip : (shop : Shop) (p : Placing) (n : ℕ) → length (route_of shop n) ≤ p.steps n → open_below shop p (n + 1)
     ≡ open_below shop p n
-open-skip shop p n h =
-    open-last shop p n
-    ∙ (ap (λ (b : Bool). open_below shop p n ++ cond b (n ∷ []) []) (le-ltb (p.steps n) (length (route_of shop n)) h)
-    ∙ append-nil (open_below shop p n))
+open-skip shop p n h = grind (arith, open-last, le-ltb, append-nil)
 
 pub open-more : (shop : Shop) (p : Placing) (n : ℕ) → p.steps n < length (route_of shop n) → open_below shop p (n + 1)
     ≡ open_below shop p n ++ n ∷ []
-open-more shop p n h =
-    open-last shop p n ∙ ap (λ (b : Bool). open_below shop p n ++ cond b (n ∷ []) [])
-    (lt-ltb (p.steps n) (length (route_of shop n)) h)
+open-more shop p n h = grind (arith, open-last, lt-ltb)
 
 chosen-last : (shop : Shop) (p : Placing) (x : ℕ) (js : List ℕ) (j : ℕ) (b : Bool)
     → ltb (next_end shop p j) (next_end shop p (chosen_of shop p x js)) ≡ b
     → chosen_of shop p x (js ++ j ∷ []) ≡ cond b j (chosen_of shop p x js)
-chosen-last shop p x js j b e =
-    fold-append (λ best i. cond (ltb (next_end shop p i) (next_end shop p best)) i best) x js (j ∷ [])
-    ∙ ap (λ (t : Bool). cond t j (chosen_of shop p x js)) e
+chosen-last shop p x js j b e = grind (arith, fold-append)
 
 -- The choice after one more job: the first one, one that ends sooner, or one that does not.
 pub choice-first : (shop : Shop) (p : Placing) (js : List ℕ) (j : ℕ) (n : NextOperation) → IsChoice shop p js None
@@ -84,7 +74,4 @@ pub conflict-step : (shop : Shop) (p : Placing) (c n : ℕ) (b : Bool) → p.ste
     → conflicts_with shop p c n ≡ b
     → filter (conflicts_with shop p c) (open_below shop p (n + 1)) ≡ filter (conflicts_with shop p c)
     (open_below shop p n) ++ cond b (n ∷ []) []
-conflict-step shop p c n b h e =
-    ap (filter (conflicts_with shop p c)) (open-more shop p n h)
-    ∙ (filter-append (conflicts_with shop p c) (open_below shop p n) (n ∷ [])
-    ∙ ap (λ (t : Bool). filter (conflicts_with shop p c) (open_below shop p n) ++ cond t (n ∷ []) []) e)
+conflict-step shop p c n b h e = grind (arith, open-more, filter-append)

@@ -56,11 +56,7 @@ module _ where
   one_at-below : (x n : ℕ) → n ≤ x → sum_below (λ i. cond (eqb x i) 1 0) n ≡ 0
   unfolding sum_below
   one_at-below x zero h = refl
-  one_at-below x (suc n) h = elim (eqb_tells x n) [
-    | inl e ↦ (let a = e.1 in absurd (omega arith))
-    | inr e ↦
-        rw e.0 (let a = one_at-below x n (omega arith) in omega arith)
-  ]
+  one_at-below x (suc n) h = grind (arith, eqb_tells, one_at-below x n (omega arith))
 
   one_at : (x n : ℕ) → x < n → sum_below (λ i. cond (eqb x i) 1 0) n ≡ 1
   unfolding sum_below

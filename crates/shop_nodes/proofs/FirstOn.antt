@@ -5,9 +5,8 @@ use Rattle.std.specs.List.{AllByRecursion, filter, flat_map, range_with_len, bes
 use Rattle.std.proofs.lemmas.Bool.{cases_eq, eqb-true, eq-eqb}
 use Rattle.shop_model.specs.declared.ops.Op.{Op}
 use Rattle.shop_model.specs.Shop.{Shop, Starts, route_of, machine_of, time_of, IsOperation, IsFeasible, finish_of}
-use Rattle.shop_model.proofs.Ends.{AreDifferent}
+use Rattle.shop_model.proofs.Ends.{AreDifferent, IsOperation-job}
 use Rattle.shop_model.specs.Word.{Placing}
-use Rattle.shop_model.proofs.Ends.{IsOperation-job}
 use Rattle.shop_model.proofs.Placings.{Follows}
 use Rattle.shop_bound.specs.Bound.{Waiting, waiting_from, waiting_of, waiting}
 use Rattle.shop_bound.proofs.Lists.{all_map, all_append, all_filter, all_both}
@@ -18,11 +17,7 @@ use Rattle.shop_nodes.proofs.Members.{In, in_all, in_filter, in_flat_map, in_ran
 waiting-later : (shop : Shop) (p : Placing) (js : List ℕ) → AllByRecursion (λ x. p.steps x.job ≤ x.step)
     (flat_map (λ j. waiting_of shop p j) js)
 waiting-later shop p [] = tt
-waiting-later shop p (j ∷ js) =
-    all_append (λ x. p.steps x.job ≤ x.step) (waiting_of shop p j) (flat_map (λ j. waiting_of shop p j) js)
-    (all_map (λ x. (x.job ≡ j) × (p.steps j ≤ x.step)) (λ x. p.steps x.job ≤ x.step) (λ x h. rw h.0 h.1) _
-    (from_step p.free j (p.steps j) (p.ready j) (drop (p.steps j) (route_of shop j))))
-    (waiting-later shop p js)
+waiting-later shop p (j ∷ js) = grind (arith, all_append, all_map, from_step, waiting-later shop p js)
 
 -- and each step behind them waits
 record WaitsAt (shop : Shop) (xs : List Waiting) (i l : ℕ) : Type 0 where

@@ -30,10 +30,7 @@ module _ (shop : Shop) (w : List ℕ) (word : IsWord shop w) where
         (filter (λ j. ltb ((placing shop w).steps j) (length (route_of shop j))) js)
     unfolding steps_of
     with_steps [] = tt
-    with_steps (j ∷ js) = elim (cases_Bool (ltb ((placing shop w).steps j) (length (route_of shop j)))) [
-      | inl e ↦ rw e (ltb-true ((placing shop w).steps j) (length (route_of shop j)) e, with_steps js)
-      | inr e ↦ rw e (with_steps js)
-    ]
+    with_steps (j ∷ js) = grind (arith, cases_Bool, ltb-true, with_steps js)
 
     in_conflict : (js : List ℕ) → AllByRecursion (λ j. steps_of j < length (route_of shop j)) js
         → AllByRecursion (λ j. steps_of j < length (route_of shop j)) (conflict_among shop (placing shop w) js)
@@ -88,8 +85,7 @@ taking_sound shop opening zero s w go word i h = record {
   found = i.found;
   left = all_append (IsWord shop) s.left (w ∷ []) i.left (word, tt);
 }
-taking_sound shop opening (suc b) s w go word i h = h (record s { budget = b })
-    (record { found = i.found; left = i.left })
+taking_sound shop opening (suc b) s w go word i h = grind arith
 
 cut_sound : (shop : Shop) (opening : ℕ) (test : Bool) (t : Walk) (go : Walk → Walk) → IsSound shop opening t
     → IsSound shop opening (go t) → IsSound shop opening (unless_cut test t go)

@@ -1,6 +1,6 @@
 -- Walks of words whose bounds reach the best, and walks that have no budget.
-use Rattle.std.proofs.Common.{◌≡◌, ℕ, zero, suc, ◌-◌, ◌≤◌, ◌⊎◌, inl, inr, true, List, [], ◌∷◌, ◌++◌, length, drop}
-use Rattle.std.proofs.Common.{refl, sym, ◌∙◌, ap, arith, ltb, append_assoc, append-nil}
+use Rattle.std.proofs.Common.{◌≡◌, ℕ, zero, suc, ◌-◌, ◌≤◌, ◌⊎◌, inl, inr, List, [], ◌∷◌, ◌++◌, length, drop}
+use Rattle.std.proofs.Common.{refl, sym, ◌∙◌, ap, arith, append_assoc, append-nil}
 use Rattle.std.specs.List.{AllByRecursion, fold}
 use Rattle.std.proofs.lemmas.Bool.{cases_Bool, le-ltb, lt-ltb, ltb-true}
 use Rattle.shop_model.specs.Shop.{Shop}
@@ -13,17 +13,7 @@ use Rattle.shop_nodes.proofs.WalkSteps.{walk-cut, walk-left}
 pub below-below : (shop : Shop) (c d : ℕ) (ws : List (List ℕ)) → d ≤ c
     → words_below shop d (words_below shop c ws) ≡ words_below shop d ws
 below-below shop c d [] le = refl
-below-below shop c d (w ∷ ws) le =
-    let rest = below-below shop c d ws le
-    in elim (cases_Bool (ltb (lb shop w) d)) [
-      | inl e ↦ (let up : ltb (lb shop w) c ≡ true = lt-ltb (lb shop w) c
-          (let a = ltb-true (lb shop w) d e in omega arith)
-          in rw (up, e) (ap (λ vs. w ∷ vs) rest))
-      | inr e ↦ elim (cases_Bool (ltb (lb shop w) c)) [
-        | inl f ↦ rw (f, e) rest
-        | inr f ↦ rw (f, e) rest
-      ]
-    ]
+below-below shop c d (w ∷ ws) le = grind (arith, cases_Bool, lt-ltb, ltb-true, below-below shop c d ws le)
 
 -- none of these words is below
 pub none_below : (shop : Shop) (c : ℕ) (ws : List (List ℕ)) → AllByRecursion (λ w. c ≤ lb shop w) ws
@@ -34,17 +24,13 @@ none_below shop c (w ∷ ws) high = rw (le-ltb (lb shop w) c high.0) (none_below
 -- where the bound of a word reaches the best, the word is only counted
 high-one : (shop : Shop) (s : Walk) (w : List ℕ) (b : ℕ) → s.budget ≡ suc b → s.best ≤ lb shop w
     → walk shop s w ≡ record s { budget = s.budget - 1 }
-high-one shop s w b e high =
-    ap (λ n. walk shop (record s { budget = n }) w) e
-    ∙ (walk-cut shop s.found s.best s.left w b high
-    ∙ ap (λ n. record s { budget = n }) (let f : b ≡ s.budget - 1 = omega arith in f))
+high-one shop s w b e high = grind (arith, walk-cut)
 
 -- so many of them are counted, and the walk goes on to the others
 pub high-taken : (shop : Shop) (s : Walk) (n : ℕ) (ws : List (List ℕ)) → n ≤ s.budget
     → AllByRecursion (λ w. s.best ≤ lb shop w) ws → n ≤ length ws
     → fold (walk shop) s ws ≡ fold (walk shop) (record s { budget = s.budget - n }) (drop n ws)
-high-taken shop s zero ws some high few = ap (λ b. fold (walk shop) (record s { budget = b }) ws)
-    (let e : s.budget ≡ s.budget - 0 = omega arith in e)
+high-taken shop s zero ws some high few = grind arith
 high-taken shop s (suc n) [] some high few = absurd (omega arith)
 high-taken shop s (suc n) (w ∷ ws) some high few =
     let one : Walk = record s { budget = s.budget - 1 }
@@ -65,5 +51,4 @@ all-left shop s (w ∷ ws) none =
 pub none-walked : (shop : Shop) (s : Walk) (ws : List (List ℕ)) → (s.budget ≡ 0) ⊎ (ws ≡ [])
     → fold (walk shop) s ws ≡ record s { left = s.left ++ ws }
 none-walked shop s ws (inl none) = all-left shop s ws none
-none-walked shop s ws (inr empty) = ap (fold (walk shop) s) empty
-    ∙ (ap (λ l. record s { left = l }) (sym (append-nil s.left)) ∙ ap (λ vs. record s { left = s.left ++ vs }) (sym empty))
+none-walked shop s ws (inr empty) = grind (arith, append-nil)

@@ -2,7 +2,7 @@
 use Rattle.std.proofs.Common.{◌≡◌, ℕ, zero, suc, ◌+◌, ◌≤◌, ◌<◌, ◌⊎◌, inl, inr, Bool, true, List, [], ◌∷◌, ◌++◌, length}
 use Rattle.std.proofs.Common.{get_or, map, refl, sym, ap, subst, arith, ltb, leb}
 use Rattle.std.specs.List.{AllByRecursion, Contains, filter, flat_map, range_with_len, best_of}
-use Rattle.std.proofs.lemmas.Bool.{cases_Bool, cases_eq, ltb-true, ltb-false}
+use Rattle.std.proofs.lemmas.Bool.{cases_Bool, cases_eq}
 use Rattle.shop_nodes.specs.Branching.{insert_by, sort_by}
 
 module _ {A : Type 0} where
@@ -46,10 +46,7 @@ module _ {A : Type 0} where
   pub all_insert : (key : A → ℕ) (P : A → Type 0) (x : A) (ys : List A) → P x → AllByRecursion P ys
       → AllByRecursion P (insert_by key x ys)
   all_insert key P x [] p a = (p, tt)
-  all_insert key P x (y ∷ ys) p a = elim (cases_Bool (leb (key x) (key y))) [
-    | inl e ↦ rw e (p, a)
-    | inr e ↦ rw e (a.0, all_insert key P x ys p a.1)
-  ]
+  all_insert key P x (y ∷ ys) p a = grind (arith, cases_Bool, all_insert key P x ys p a.1)
 
   pub all_sort : (key : A → ℕ) (P : A → Type 0) (xs : List A) → AllByRecursion P xs → AllByRecursion P (sort_by key xs)
   all_sort key P [] a = tt
@@ -84,10 +81,7 @@ module _ {A : Type 0} where
 
   pub in_insert_first : (key : A → ℕ) (x : A) (ys : List A) → In x (insert_by key x ys)
   in_insert_first key x [] = inl refl
-  in_insert_first key x (y ∷ ys) = elim (cases_Bool (leb (key x) (key y))) [
-    | inl e ↦ rw e (inl refl)
-    | inr e ↦ rw e (inr (in_insert_first key x ys))
-  ]
+  in_insert_first key x (y ∷ ys) = grind (arith, cases_Bool, in_insert_first key x ys)
 
   pub in_insert_other : (key : A → ℕ) (x z : A) (ys : List A) → In z ys → In z (insert_by key x ys)
   in_insert_other key x z [] h = absurd h
@@ -110,30 +104,8 @@ module _ {A : Type 0} where
     pub least : (x : A) → In x xs → f b ≤ f x
 
   pub best_of-least : (f : A → ℕ) (a : A) (xs : List A) → IsLeastOf f (best_of (λ x b. ltb (f x) (f b)) a xs) (a ∷ xs)
-  best_of-least f a [] = record {
-    member = inl refl;
-    least = λ x h. elim h
-        [ inl e ↦ rw e (omega arith) | inr g ↦ absurd g ];
-  }
-  best_of-least f a (y ∷ ys) = elim (cases_Bool (ltb (f y) (f a))) [
-    | inl e ↦ rw e (let r = best_of-least f y ys in let lt = ltb-true (f y) (f a) e in let le = r.least y (inl refl)
-        in record {
-          member = inr r.member;
-          least = λ x h. elim h [ inl s ↦ rw s (omega arith) | inr g ↦ r.least x g ];
-        })
-    | inr e ↦ rw e (let r = best_of-least f a ys in let ge = ltb-false (f y) (f a) e in let le = r.least a (inl refl)
-        in record {
-          member = elim r.member [ inl s ↦ inl s | inr g ↦ inr (inr g) ];
-          least = λ x h. elim h [
-            | inl s ↦ rw s le
-            | inr g ↦ elim g [
-              | inl s ↦ rw s (omega arith)
-              | inr k ↦
-                  r.least x (inr k)
-            ]
-          ];
-        })
-  ]
+  best_of-least f a [] = grind arith
+  best_of-least f a (y ∷ ys) = grind (arith, best_of-least f y ys, best_of-least f a ys)
 
 pub in_map : {A B : Type 0} (g : A → B) (x : A) (xs : List A) → In x xs → In (g x) (map g xs)
 in_map g x [] h = absurd h

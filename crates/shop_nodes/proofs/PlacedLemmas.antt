@@ -1,9 +1,9 @@
 -- The next operation of a job, as a placement gives it.
-use Rattle.std.proofs.Common.{◌≡◌, ℕ, ◌^◌, ◌<◌, max, List, length, get_or, slice_index, refl, ◌∙◌, ap, arith}
+use Rattle.std.proofs.Common.{◌≡◌, ℕ, ◌^◌, ◌<◌, max, List, length, get_or, slice_index, arith}
 use Rattle.shop_model.specs.Placements.{PlacementState, IsPlacement}
 use Rattle.shop_model.proofs.WordLengths.{word_length, ready_word}
 use Rattle.shop_model.specs.Limits.{IsWithinLimits}
-use Rattle.shop_model.specs.Shop.{Shop, no_op, route_of, machine_of, time_of}
+use Rattle.shop_model.specs.Shop.{Shop, no_op, route_of, time_of}
 use Rattle.shop_model.specs.Word.{Placing, placing, IsWord}
 use Rattle.shop_model.specs.declared.ops.Op.{Op}
 use Rattle.shop_nodes.specs.Branching.{next_machine, next_head, next_end}
@@ -29,14 +29,4 @@ pub is_read : (shop : Shop) (p : Placing) (j : ℕ) (route : List Op) (step : �
     → IsWithinLimits shop → IsPlacement shop p s → j < length shop.jobs → route ≡ route_of shop j
     → step ≡ slice_index s.steps j
     → IsRead shop p j (get_or route step no_op) s
-is_read shop p j route step s limits placed job e es =
-    let step_is = es ∙ placed.steps j job
-    in let on = limits.on_machines j (p.steps j)
-    in let machine : (get_or route step no_op).machine ≡ next_machine shop p j =
-    ap (λ r. (get_or r step no_op).machine) e ∙ ap (machine_of shop j) step_is
-    in record {
-      machine = machine;
-      on_machine = on;
-      head = rw (machine, placed.ready j job, placed.free (next_machine shop p j) on) refl;
-      time = ap (λ r. (get_or r step no_op).time) e ∙ ap (time_of shop j) step_is;
-    }
+is_read shop p j route step s limits placed job e es = grind arith

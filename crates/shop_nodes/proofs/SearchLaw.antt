@@ -1,6 +1,6 @@
 -- A walk loses no table: its best is at most the end of each table under its word, or one that ends no later lies under
 -- a word left.
-use Rattle.std.proofs.Common.{◌≡◌, ℕ, zero, suc, ◌≤◌, ◌⊎◌, inl, inr, Bool, true, false, List, [], ◌∷◌, refl, sym, subst}
+use Rattle.std.proofs.Common.{◌≡◌, ℕ, zero, suc, ◌≤◌, ◌⊎◌, inl, inr, Bool, true, false, List, [], ◌∷◌, refl, subst}
 use Rattle.std.proofs.Common.{arith, leb}
 use Rattle.std.specs.List.{fold}
 use Rattle.std.proofs.lemmas.Bool.{leb-true, leb-false}
@@ -62,11 +62,7 @@ reaches_on shop s t starts g r = elim r [
 pub reaches_later : (shop : Shop) (s : Walk) (better starts : Starts) → end_of shop better ≤ end_of shop starts
     → Reaches shop s better → Reaches shop s starts
 unfolding Reaches
-reaches_later shop s better starts le r = elim r [
-  | inl a ↦ inl (omega arith)
-  | inr a ↦
-      inr (a.0, a.1, a.2, a.3, (let b = a.4 in omega arith))
-]
+reaches_later shop s better starts le r = grind arith
 
 taking_reaches : (shop : Shop) (b : ℕ) (s : Walk) (w : List ℕ) (go : Walk → Walk) (starts : Starts)
     → IsUnder shop w starts → ((t : Walk) → Reaches shop (go t) starts) → Reaches shop (taking b s w go) starts
@@ -78,8 +74,7 @@ cut_reaches : (shop : Shop) (w : List ℕ) (t : Walk) (go : Walk → Walk) (star
     → IsUnder shop w starts → (test : Bool) → test ≡ leb t.best (lb shop w) → Reaches shop (go t) starts
     → Reaches shop (unless_cut test t go) starts
 unfolding Reaches
-cut_reaches shop w t go starts word u true e h = inl (let a = leb-true t.best (lb shop w) (sym e)
-    in let b = lb-le-end shop w starts word u in omega arith)
+cut_reaches shop w t go starts word u true e h = grind (arith, leb-true, lb-le-end)
 cut_reaches shop w t go starts word u false e h = h
 
 -- for each member of the words that reaches, the fold reaches
@@ -97,9 +92,7 @@ pub walk_reaches : (shop : Shop) (n : ℕ) (s : Walk) (w : List ℕ) (starts : S
     → operations_left shop w
     ≡ n → IsUnder shop w starts → Reaches shop (walk_within shop n s w) starts
 unfolding Reaches
-walk_reaches shop zero s w starts word e u =
-    taking_reaches shop s.budget s w _ starts u (λ t. cut_reaches shop w t _ starts word u (leb t.best (lb shop w)) refl
-    (inl (lb-le-end shop w starts word u)))
+walk_reaches shop zero s w starts word e u = grind (arith, taking_reaches, cut_reaches, lb-le-end)
 walk_reaches shop (suc n) s w starts word e u =
     let c = a_better_child shop w starts word (open_from shop w n word e) u
     in taking_reaches shop s.budget s w _ starts u (λ t. cut_reaches shop w t _ starts word u (leb t.best (lb shop w))

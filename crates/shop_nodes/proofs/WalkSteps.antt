@@ -1,6 +1,6 @@
 -- One turn of a walk.
-use Rattle.std.proofs.Common.{◌≡◌, ℕ, zero, suc, ◌≤◌, inl, inr, Option, List, []}
-use Rattle.std.proofs.Common.{◌∷◌, ◌++◌, length, map, refl, ◌∙◌, ap, arith, leb}
+use Rattle.std.proofs.Common.{◌≡◌, ℕ, zero, suc, ◌≤◌, Option, List, []}
+use Rattle.std.proofs.Common.{◌∷◌, ◌++◌, length, map, refl, ◌∙◌, ap, arith}
 use Rattle.std.specs.List.{range_with_len}
 use Rattle.std.proofs.lemmas.Bool.{cases_Bool, le-leb}
 use Rattle.std.proofs.lemmas.List.{length-map}
@@ -41,8 +41,7 @@ module _ (shop : Shop) (found : Option (List ℕ)) (best : ℕ) (left : List (Li
 -- there are no more children than jobs
 pub length-insert_by : {A : Type 0} (key : A → ℕ) (x : A) (ys : List A) → length (insert_by key x ys) ≡ suc (length ys)
 length-insert_by key x [] = refl
-length-insert_by key x (y ∷ ys) = elim (cases_Bool (leb (key x) (key y)))
-    [ inl e ↦ rw e refl | inr e ↦ rw e (ap suc (length-insert_by key x ys)) ]
+length-insert_by key x (y ∷ ys) = grind (arith, cases_Bool, length-insert_by key x ys)
 
 length-sort_by : {A : Type 0} (key : A → ℕ) (xs : List A) → length (sort_by key xs) ≡ length xs
 length-sort_by key [] = refl

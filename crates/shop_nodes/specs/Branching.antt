@@ -2,8 +2,7 @@
 use Rattle.std.specs.Prelude.{ℕ, if◌then◌else◌, List, [], ◌∷◌, ◌++◌, map, nat_le}
 use Rattle.shop_model.specs.Shop.{Shop}
 use Rattle.shop_bound.specs.Bound.{lb}
-pub use Rattle.shop_bound.specs.Conflicts.{open_jobs, next_machine, next_head, next_end, chosen_of}
-pub use Rattle.shop_bound.specs.Conflicts.{conflicts_with}
+pub use Rattle.shop_bound.specs.Conflicts.{open_jobs, next_machine, next_head, next_end, chosen_of, conflicts_with}
 pub use Rattle.shop_bound.specs.Conflicts.{conflict_among, conflict}
 
 -- x before the first element whose key isn't below its own: ties keep their places

@@ -1,6 +1,5 @@
 -- The search of one piece.
-use Rattle.std.specs.Prelude.{ℕ, zero, suc, ◌-◌, Bool, true, false, Option, Some, None, List, []}
-use Rattle.std.specs.Prelude.{◌∷◌, ◌++◌, length}
+use Rattle.std.specs.Prelude.{ℕ, zero, suc, ◌-◌, Bool, true, false, Option, Some, None, List, [], ◌∷◌, ◌++◌, length}
 use Rattle.std.specs.Prelude.{fold, nat_le}
 use Rattle.shop_model.specs.Shop.{Shop, operation_count}
 use Rattle.shop_bound.specs.Bound.{lb}

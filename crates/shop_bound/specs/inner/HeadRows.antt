@@ -1,6 +1,5 @@
 -- Heads and tails as rows of a program, one a job.
-use Rattle.std.specs.Prelude.{◌≡◌, ℕ, Option}
-use Rattle.std.specs.Prelude.{length, map, List}
+use Rattle.std.specs.Prelude.{◌≡◌, ℕ, Option, length, map, List}
 use Rattle.std.specs.List.{range_with_len}
 use Rattle.shop_model.specs.declared.ops.Op.{Op}
 use Rattle.shop_model.specs.Shop.{Shop, route_of}

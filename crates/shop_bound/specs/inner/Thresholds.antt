@@ -1,6 +1,5 @@
 -- The span of the operations above two thresholds.
-use Rattle.std.specs.Prelude.{ℕ, ◌+◌, Bool, ◌&&◌, ◌==◌, nat_le, if◌then◌else◌, List, length, filter}
-use Rattle.std.specs.Prelude.{sum_by}
+use Rattle.std.specs.Prelude.{ℕ, ◌+◌, Bool, ◌&&◌, ◌==◌, nat_le, if◌then◌else◌, List, length, filter, sum_by}
 use Rattle.std.specs.Prelude.{slice_index_or}
 use Rattle.shop_bound.specs.declared.triples.Triple.{Triple}
 use Rattle.shop_bound.specs.OneMachine.{greatest_of}

@@ -3,9 +3,8 @@
 --                                    these are served in order from `start` on
 --     column count xs k              of lanes in order of rank, column k of `count` blocks
 --     eight f                        the numbers that a function gives for each of eight columns
-use Rattle.std.specs.Prelude.{◌≡◌, ◌≢◌, ℕ, ◌+◌, ◌*◌, ◌-◌, ◌%◌, take, drop, replicate, ◌<◌, ◌≤◌}
-use Rattle.std.specs.Prelude.{length, max, List, [], ◌∷◌, if◌then◌else◌, nat_le}
-use Rattle.std.specs.Prelude.{get_or}
+use Rattle.std.specs.Prelude.{◌≡◌, ◌≢◌, ℕ, ◌+◌, ◌*◌, ◌-◌, ◌%◌, take, drop, replicate, ◌<◌, ◌≤◌, length, max, List, []}
+use Rattle.std.specs.Prelude.{◌∷◌, if◌then◌else◌, nat_le, get_or}
 use Rattle.std.specs.Simd.Lanes.{zip2}
 use Rattle.shop_lanes.specs.Eights.{first_of, added, waiting, AddsFit}
 use Rattle.shop_lanes.specs.Rows.{Lane}

@@ -8,8 +8,7 @@
 --                                    and nothing else
 --     ArePlaces shop lists n ..      the places of the slots of the first n machines
 --     place_after n rows slot        the place of the step behind the slot's, or n if there is none
-use Rattle.std.specs.Prelude.{◌≡◌, ℕ, ◌+◌, ◌*◌, ◌/◌, ◌%◌, ◌≤◌, ◌<◌, List, [], length, slice_index}
-use Rattle.std.specs.Prelude.{slice_index_or}
+use Rattle.std.specs.Prelude.{◌≡◌, ℕ, ◌+◌, ◌*◌, ◌/◌, ◌%◌, ◌≤◌, ◌<◌, List, [], length, slice_index, slice_index_or}
 use Rattle.shop_lanes.specs.Rows.{place_at_rank}
 use Rattle.shop_model.specs.Shop.{Shop, route_of}
 use Rattle.shop_layout.specs.Positions.{place_in, place_or, position_at_rank}

@@ -3,8 +3,7 @@
 --     TellsFirstOverlap shop starts p       the first pair of operations that overlap, if one does
 use Rattle.std.specs.Prelude.{ℕ, ◌<◌, Option, Some, None}
 use Rattle.shop_model.specs.Shop.{Shop, Starts, IsOperation}
-use Rattle.shop_model.specs.Checking.{IsBefore, NoneEarly, IsFirstEarly, AreApart, IsFirstAfter}
-use Rattle.shop_model.specs.Checking.{IsFirstOverlap}
+use Rattle.shop_model.specs.Checking.{IsBefore, NoneEarly, IsFirstEarly, AreApart, IsFirstAfter, IsFirstOverlap}
 use Rattle.shop_model.specs.declared.ops.OperationId.{OperationId}
 
 -- the first operation that begins too early, if one does

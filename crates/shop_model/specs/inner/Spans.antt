@@ -1,6 +1,5 @@
 -- From when to when each operation takes its machine.
-use Rattle.std.specs.Prelude.{◌≡◌, ℕ, ◌+◌, ◌≤◌, ◌<◌, ◌⊎◌, List, [], length, map, flat_map}
-use Rattle.std.specs.Prelude.{slice_index, slice_index_or}
+use Rattle.std.specs.Prelude.{◌≡◌, ℕ, ◌+◌, ◌≤◌, ◌<◌, ◌⊎◌, List, [], length, map, flat_map, slice_index, slice_index_or}
 use Rattle.std.specs.List.{range_with_len}
 use Rattle.shop_model.specs.declared.ops.Op.{Op}
 use Rattle.shop_model.specs.declared.spans.Occupied.{Occupied}

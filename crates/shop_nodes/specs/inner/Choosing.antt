@@ -17,8 +17,7 @@ use Rattle.std.specs.Prelude.{◌∷◌, length, filter, nat_lt}
 use Rattle.std.specs.List.{range_with_len}
 use Rattle.shop_model.specs.Shop.{Shop, route_of, IsOperation}
 use Rattle.shop_model.specs.Word.{Placing, placing}
-use Rattle.shop_nodes.specs.Branching.{open_jobs, next_machine, next_head, next_end, chosen_of}
-use Rattle.shop_nodes.specs.Branching.{conflicts_with}
+use Rattle.shop_nodes.specs.Branching.{open_jobs, next_machine, next_head, next_end, chosen_of, conflicts_with}
 use Rattle.shop_nodes.specs.declared.next_operations.NextOperation.{NextOperation}
 use Rattle.shop_nodes.specs.declared.next_operations.Placed.{Placed}
 

@@ -7,8 +7,7 @@
 --     AreWithin word stack        so do those of all entries
 --     IsHaltWithin h              and those of what waited where a walk halted
 --     AreSharable nodes           the words of the nodes can share their jobs
-use Rattle.std.specs.Prelude.{ℕ, ◌≤◌, Option, Some, None, List, [], ◌∷◌, ◌++◌, length, All}
-use Rattle.std.specs.Prelude.{filter, nat_lt}
+use Rattle.std.specs.Prelude.{ℕ, ◌≤◌, Option, Some, None, List, [], ◌∷◌, ◌++◌, length, All, filter, nat_lt}
 use Rattle.std.specs.Arc.{arc_slice_items}
 use Rattle.std.specs.List.{AllByRecursion}
 use Rattle.shop_model.specs.SharedWords.{CanBeShared}

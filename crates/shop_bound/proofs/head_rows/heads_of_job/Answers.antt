@@ -40,8 +40,7 @@ loop-k-preserved c =
     c.loop-k-test.true
     c.free.result c.max-head.result c.free.ensures c.max-head.ensures
     in record {
-      filled = λ p is. filled_more (head_if_left shop p j) c.loop-k.heads.items c.push-in-loop-k.new.self.items
-          c.loop-k.k _ (c.loop-k.invariant.filled p is) (turn p is).0 (search rules);
+      filled = λ p is. grind (arith, filled_more);
       ready = λ p is. (turn p is).1;
       small = left_small shop c.route-route.ensures.limits s (ends_of_word shop c.route-route.ensures.limits s
           c.requires.word) j

@@ -9,14 +9,7 @@ use Rattle.shop_bound.proofs.leaps.load_from.Goals as goal
 use Rattle.shop_bound.proofs.leaps.load_from.Goals.{then-from-t, else-from-t}
 
 pub overflow_add-time-then-from-t : goal.overflow_add-time-then-from-t
-overflow_add-time-then-from-t c =
-    let ts = c.args.triples.now in let few = c.loop-t.invariant.few
-    in let small = c.requires
-    in omega (
-      arith,
-      sum_by_more_le (λ (t : Triple). t.time) ts c.loop-t.t-index no_triple c.loop-t-test.true,
-      get_or-le-greatest_of (λ (t : Triple). t.tail) ts c.loop-t.t-index no_triple c.loop-t-test.true,
-    )
+overflow_add-time-then-from-t c = grind (arith, sum_by_more_le, get_or-le-greatest_of)
 
 pub loop-t-preserved : goal.loop-t-preserved
 loop-t-preserved c =

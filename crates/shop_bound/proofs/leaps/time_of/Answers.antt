@@ -4,5 +4,4 @@ use Rattle.shop_bound.specs.inner.Thresholds.{no_triple}
 use Rattle.shop_bound.proofs.leaps.time_of.Goals as goal
 
 pub overflow_add-sum : goal.overflow_add-sum
-overflow_add-sum c =
-    omega (arith, sum_by_more_le (λ t. t.time) c.args.triples.now c.loop-t.t-index no_triple c.loop-t-test.true)
+overflow_add-sum c = grind (arith, sum_by_more_le)

@@ -18,18 +18,4 @@ add_visits-requires-clause-small c =
     in let same = ap (λ (xs : List ℕ). get_or xs m 0) given in omega arith)
 
 pub loop-j-preserved : goal.loop-j-preserved
-loop-j-preserved c =
-    let shop = c.args.instance.now in let j = c.loop-j.j
-    in let job : j < length shop.jobs = (let a = c.loop-j-test.true in let b = c.jobs-j-end.ensures in omega arith)
-    in let given = c.as_mut_slice.ensures.value
-    in let long = ap (λ (xs : List ℕ). length xs) given in let machines = c.loop-j.invariant.long
-    in let whole = written_vec c.loop-j.counts c.as_mut_slice.result.now c.add_visits.new.counts given
-    c.add_visits.auto.counts
-    in let whole_long = ap (λ (xs : List ℕ). length xs) whole in let same = c.add_visits.auto.counts
-    in record {
-      long = omega arith;
-      counted = λ m known. ap (λ (xs : List ℕ). get_or xs m 0) whole
-          ∙ job_counted shop j job c.route.result.now c.route.ensures.route c.loop-j.counts c.as_mut_slice.result.now
-          c.add_visits.new.counts given c.add_visits.auto.counts machines c.loop-j.invariant.counted
-          c.add_visits.ensures m known;
-    }
+loop-j-preserved c = grind (arith, written_vec, job_counted)

@@ -15,8 +15,7 @@ loop-chosen-init c = record {
       c.ready_at-clock.ensures.ready;
   same = refl;
   ready = ready_or_done c.args.works.now 0 c.ready_at-clock.result c.ready_at-clock.ensures.ready;
-  turns = (let a = ready_turns c.args.works.now 0 c.ready_at-clock.result c.ready_at-clock.ensures.ready in let b =
-      turns_left-two c.args.works.now 0 in omega arith);
+  turns = grind (arith, ready_turns, turns_left-two);
   each = (let e = undone-fresh c.args.works.now c.requires.fresh in omega arith);
 }
 
@@ -27,15 +26,12 @@ pub loop-chosen-preserved : goal.loop-chosen-preserved
 loop-chosen-preserved c = record {
   queue = c.ready_at-clock-in-Some.ensures.queue;
   later = c.ready_at-clock-in-Some.ensures.later;
-  room = room_kept _ _ _ c.loop-chosen.invariant.room
-      (room_kept _ _ _ c.serve-stop.ensures.room c.ready_at-clock-in-Some.ensures.room);
+  room = grind (arith, room_kept);
   run = ready_run c.serve-stop.new.works c.serve-stop.result c.ready_at-clock-in-Some.result c.serve-stop.new.best
       c.serve-stop.ensures.run c.ready_at-clock-in-Some.ensures.ready;
   same = c.serve-stop.ensures.same ∙ c.loop-chosen.invariant.same;
-  ready = ready_or_done c.serve-stop.new.works c.serve-stop.result c.ready_at-clock-in-Some.result
-      c.ready_at-clock-in-Some.ensures.ready;
-  turns = (let a = ready_turns c.serve-stop.new.works c.serve-stop.result c.ready_at-clock-in-Some.result
-      c.ready_at-clock-in-Some.ensures.ready in omega (arith, c.serve-stop.ensures.fewer, c.loop-chosen.invariant.turns));
+  ready = grind (arith, ready_or_done);
+  turns = grind (arith, ready_turns);
   each = omega (arith, c.serve-stop.ensures.single, c.loop-chosen.invariant.each);
 }
 

@@ -18,8 +18,7 @@ returns-then-stop-end-clause-run c =
     (first_served _ _ _ _ c.requires.queue.are c.requires.later c.args.chosen c.requires.chosen) (c.stop_of_turn-stop.ensures c.args.works.now c.args.clock c.requires.queue c.requires.later (omega arith))
 
 pub returns-then-stop-end-clause-same : goal.returns-then-stop-end-clause-same
-returns-then-stop-end-clause-same c = triples-set c.args.works.now c.args.chosen
-    (held c.args.works.now c.args.clock c.args.chosen c.stop_of_turn-stop.result) refl
+returns-then-stop-end-clause-same c = grind (arith, triples-set, held)
 
 pub returns-then-stop-end-clause-fewer : goal.returns-then-stop-end-clause-fewer
 returns-then-stop-end-clause-fewer c =
@@ -47,12 +46,10 @@ pub returns-clause-fewer : goal.returns-clause-fewer
 returns-clause-fewer c = finished_fewer c.args.works.now c.args.clock c.args.chosen (first_served _ _ _ _ c.requires.queue.are c.requires.later c.args.chosen c.requires.chosen)
 
 pub returns-then-stop-end-clause-single : goal.returns-then-stop-end-clause-single
-returns-then-stop-end-clause-single c = undone-set c.args.works.now c.args.chosen
-    (held c.args.works.now c.args.clock c.args.chosen c.stop_of_turn-stop.result) (first_served _ _ _ _ c.requires.queue.are c.requires.later c.args.chosen c.requires.chosen).seen
+returns-then-stop-end-clause-single c = grind (arith, undone-set, held, first_served)
 
 pub returns-clause-single : goal.returns-clause-single
-returns-clause-single c =
-    undone-set c.args.works.now c.args.chosen (finished c.args.works.now c.args.chosen) (first_served _ _ _ _ c.requires.queue.are c.requires.later c.args.chosen c.requires.chosen).seen
+returns-clause-single c = grind (arith, undone-set, finished, first_served)
 
 pub overflow_sub-works : goal.overflow_sub-works
 overflow_sub-works c =

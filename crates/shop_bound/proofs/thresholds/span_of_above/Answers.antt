@@ -4,8 +4,7 @@ use Rattle.shop_bound.specs.inner.Thresholds.{no_triple}
 use Rattle.shop_bound.proofs.thresholds.span_of_above.Goals as goal
 
 pub overflow_add-sum : goal.overflow_add-sum
-overflow_add-sum c =
-    omega (arith, sum_by_more_le (λ t. t.time) c.args.triples.now c.loop-t.t-index no_triple c.loop-t-test.true)
+overflow_add-sum c = grind (arith, sum_by_more_le)
 
 pub overflow_add-result : goal.overflow_add-result
 overflow_add-result c = omega (arith, sum_by-take-le (λ t. t.time) c.args.triples.now c.loop-t.t-index)

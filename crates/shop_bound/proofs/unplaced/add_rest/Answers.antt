@@ -9,17 +9,10 @@ pub total_time-tail-requires : goal.total_time-tail-requires
 total_time-tail-requires c = rest_small c.args.free.now c.args.ready c.args.rest.now c.requires.rest
 
 pub here : (c : goal.After-push) → (get_or c.args.rest.now c.loop-op.op-index no_op).machine < length c.loop-op.lists
-here c =
-    let long = c.loop-op.invariant.added.long in let machines = c.requires.machines
-    in let on = c.requires.rest.on_machines c.loop-op.op-index c.loop-op-test.true in omega arith
+here c = grind arith
 
 pub unwrap-requires : goal.unwrap-requires
-unwrap-requires c =
-    let rest = c.args.rest.now in let k = c.loop-op.op-index in let i = (get_or rest k no_op).machine
-    in let list = get_or c.loop-op.lists i c.index-lists-op.result
-    in let room : length list.items < vec_capacity list = has_room rest k c.loop-op-test.true c.loop-op.lists i list
-    c.loop-op.invariant.added.room refl (here c) (ap (λ v. get_or c.loop-op.lists i v) c.index-lists-op.is)
-    in let full = list.ok.0 in c.push.ensures.succeeds (omega arith)
+unwrap-requires c = grind (arith, vec_capacity, has_room, here)
 
 pub loop-op-preserved : goal.loop-op-preserved
 loop-op-preserved c =

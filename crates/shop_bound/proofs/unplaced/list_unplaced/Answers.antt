@@ -41,9 +41,7 @@ add_rest-requires-clause-rest c =
     c.ready.result c.ready.ensures _ (rest_is _ _ _ _ c.route.ensures.route c.steps.ensures)
 
 pub add_rest-requires-clause-machines : goal.add_rest-requires-clause-machines
-add_rest-requires-clause-machines c =
-    let free = ap (λ (xs : List ℕ). length xs) c.machines_free-free.ensures
-    in let places = c.requires.word.placed.places.free in let lists = c.loop-j.invariant.room.machines in omega arith
+add_rest-requires-clause-machines c = grind arith
 
 pub add_rest-requires-clause-room : goal.add_rest-requires-clause-room
 add_rest-requires-clause-room c =
@@ -53,8 +51,7 @@ add_rest-requires-clause-room c =
     (rest_is _ _ _ _ c.route.ensures.route c.steps.ensures)
 
 pub loop-j-init : goal.loop-j-init
-loop-j-init c = none_listed c.args.instance.now c.args.placement.now c.args.lists.now c.clear.new.lists c.requires.room
-    c.clear.ensures.empty c.clear.ensures.room c.clear.auto.lists
+loop-j-init c = grind (arith, none_listed)
 
 pub loop-j-preserved : goal.loop-j-preserved
 loop-j-preserved c =
@@ -68,14 +65,7 @@ loop-j-preserved c =
     c.add_rest.ensures.added c.add_rest.ensures.room c.add_rest.auto.lists
 
 pub returns-clause-unplaced : goal.returns-clause-unplaced
-returns-clause-unplaced c =
-    let shop = c.args.instance.now
-    in let e : c.loop-j.j ≡ length shop.jobs =
-    (let a = c.loop-j.auto.j-end in let b = c.loop-j-test.false in let d = c.jobs-j-end.ensures in omega arith)
-    in λ p is m known. c.loop-j.invariant.listed p is m known
-    ∙ ap (λ (n : ℕ). triples_on m (flat_map (λ j. waiting_of shop p j) (range_with_len 0 n))) e
+returns-clause-unplaced c = grind arith
 
 pub returns-clause-few : goal.returns-clause-few
-returns-clause-few c = λ m known.
-    let few = c.loop-j.invariant.few m known
-    in let most = sum_by-take-le (λ job. visits m job.route) c.args.instance.now.jobs c.loop-j.j in omega arith
+returns-clause-few c = grind (arith, sum_by-take-le)

@@ -5,14 +5,11 @@ use Rattle.shop_lanes.proofs.leaps.leap.Goals as goal
 
 pub overflow_add-upto : goal.overflow_add-upto
 overflow_add-upto g c =
-    let fits = load_fits c.loop-settled.invariant c.load_of-load.ensures g.B.Block.GREATEST c.requires.fits
-    in omega (arith, fits, c.GREATEST-greatest.ensures, c.GREATEST-greatest.type_inv)
+    grind (arith, load_fits c.loop-settled.invariant c.load_of-load.ensures g.B.Block.GREATEST c.requires.fits)
 
 pub overflow_add-head-in-loop-settled-2 : goal.overflow_add-head-in-loop-settled-2
 overflow_add-head-in-loop-settled-2 g c =
-    let fits = load_fits c.loop-settled.invariant c.load_of-load.ensures g.B.Block.GREATEST c.requires.fits
-    in let near = c.if-ahead-upto.false in let left = c.loop-settled-test.true
-    in omega (arith, fits, c.GREATEST-greatest.ensures, c.GREATEST-greatest.type_inv, near, left)
+    grind (arith, load_fits c.loop-settled.invariant c.load_of-load.ensures g.B.Block.GREATEST c.requires.fits)
 
 pub returns-then-upto-load : goal.returns-then-upto-load
 returns-then-upto-load g c =
@@ -43,5 +40,4 @@ loop-settled-preserved g c = leap c.loop-settled.invariant c.load_of-load.ensure
     c.requires.below c.max-bound.result (search rules)
 
 pub returns : goal.returns
-returns g c =
-    leaps_end c.loop-settled.invariant c.loop-settled-test.false c.args.limit
+returns g c = grind (arith, leaps_end c.loop-settled.invariant c.loop-settled-test.false c.args.limit)

@@ -5,9 +5,7 @@ use Rattle.shop_lanes.proofs.BlockMasks.{least_by_mask}
 use Rattle.shop_lanes.proofs.passes.first_least_of.Goals as goal
 
 pub bits_equal-bits-requires-clause-fits : goal.bits_equal-bits-requires-clause-fits
-bits_equal-bits-requires-clause-fits g c =
-    let top = least_le_top g.B.Block.GREATEST (map g.B.Block.value c.args.numbers.now)
-    in omega (arith, c.least_number-least.ensures, top)
+bits_equal-bits-requires-clause-fits g c = grind (arith, least_le_top)
 
 pub returns-clause-first : goal.returns-clause-first
 returns-clause-first g c =

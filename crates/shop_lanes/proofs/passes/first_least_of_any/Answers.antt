@@ -5,9 +5,7 @@ use Rattle.shop_lanes.proofs.BlockMasks.{first_of_least}
 use Rattle.shop_lanes.proofs.passes.first_least_of_any.Goals as goal
 
 pub position_of-requires-clause-fits : goal.position_of-requires-clause-fits
-position_of-requires-clause-fits g c =
-    let top = least_le_top g.B.Block.GREATEST (map g.B.Block.value c.args.numbers.now)
-    in omega (arith, c.least_number-least.ensures, top)
+position_of-requires-clause-fits g c = grind (arith, least_le_top)
 
 pub returns-clause-first : goal.returns-clause-first
 returns-clause-first g c =

@@ -1,5 +1,4 @@
-use Rattle.std.proofs.Common.{◌≡◌, ◌∙◌, ℕ, ◌+◌, ◌<◌, List, [], length, get_or, set, map, ap, sym}
-use Rattle.std.proofs.Common.{arith}
+use Rattle.std.proofs.Common.{◌≡◌, ◌∙◌, ℕ, ◌+◌, ◌<◌, List, [], length, get_or, set, map, ap, sym, arith}
 use Rattle.std.specs.Prelude.{Vec}
 use Rattle.std.specs.Vec.{with_item}
 use Rattle.std.specs.declared.alloc.Global.{Global}
@@ -11,9 +10,7 @@ use Rattle.shop_layout.proofs.layings.note_places.Goals as goal
 items_set : (now : List (Vec ℕ Global)) (j k x : ℕ) (d : Vec ℕ Global) → j < length now
     → map (λ v. v.items) (set now j (with_item (get_or now j d) k x))
     ≡ set (map (λ v. v.items) now) j (set (get_or (map (λ v. v.items) now) j []) k x)
-items_set now j k x d here = map-set (λ v. v.items) now j (with_item (get_or now j d) k x)
-    ∙ ap (λ (row : List ℕ). set (map (λ v. v.items) now) j (set row k x))
-    (sym (get_or-map (λ v. v.items) now j d [] here))
+items_set now j k x d here = grind (arith, map-set, get_or-map)
 
 pub loop-i-preserved : goal.loop-i-preserved
 loop-i-preserved c =

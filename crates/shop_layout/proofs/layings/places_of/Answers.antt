@@ -1,5 +1,4 @@
-use Rattle.std.proofs.Common.{◌≡◌, ◌∙◌, ℕ, ◌+◌, ◌-◌, ◌*◌, ◌<◌, List, [], get_or, length, map, sym}
-use Rattle.std.proofs.Common.{subst, arith}
+use Rattle.std.proofs.Common.{◌≡◌, ◌∙◌, ℕ, ◌+◌, ◌-◌, ◌*◌, ◌<◌, List, [], get_or, length, map, sym, subst, arith}
 use Rattle.std.specs.List.{All}
 use Rattle.std.specs.Prelude.{Vec}
 use Rattle.std.specs.declared.alloc.Global.{Global}
@@ -28,8 +27,7 @@ known shop lists are m here = let a = are.machines in omega (arith, length-map l
 -- and they are slots of the machine
 of_machine : (shop : Shop) (lists : List (Vec Slot Global)) → AreMachineSlots shop (map (λ v. v.items) lists) → (m : ℕ)
     → m < length lists → (slots : List Slot) → slots ≡ get_or (map (λ v. v.items) lists) m [] → AreSlotsOf shop m slots
-of_machine shop lists are m here slots e =
-    subst (AreSlotsOf shop m) (sym e) (are.slots m (known shop lists are m here))
+of_machine shop lists are m here slots e = grind (arith, known shop lists are m here)
 
 pub note_places-requires-clause-rows : goal.note_places-requires-clause-rows
 note_places-requires-clause-rows c =

@@ -5,7 +5,6 @@ use Rattle.shop_model.specs.inner.ClearSpans.{ArePartedSpans}
 use Rattle.shop_model.proofs.SwappedPairs.{AllPairs-permutation}
 use Rattle.shop_model.proofs.SpanLemmas.{IsForward, parted_both_ways, parted_pairs, apart_from_pairs, spans_forward}
 use Rattle.shop_model.proofs.ClearSpanLemmas.{AreClearPair, clear_both_ways, clear_pairs, apart_from_clear}
-use Rattle.shop_model.proofs.ClearSpanLemmas.{begins_from_sort}
 use Rattle.shop_model.proofs.sorted_overlaps.first_overlap_sorted.Goals as goal
 
 pub returns-then-are_in_turn : goal.returns-then-are_in_turn
@@ -21,10 +20,7 @@ returns-then-are_in_turn c =
     (parted_pairs sorted turns forward))
 
 pub keep_clear-requires : goal.keep_clear-requires
-keep_clear-requires c k d below =
-    let sorted = c.sort.new.self.items
-    in begins_from_sort (get_or sorted k d) (get_or sorted (k + 1) d)
-    (c.in_ok-sort.ensures.sorted k d (omega arith) below)
+keep_clear-requires c k d below = grind (arith, c.sort.new.self.items)
 
 pub first_unclear_overlap-requires-clause-apart : goal.first_unclear_overlap-requires-clause-apart
 first_unclear_overlap-requires-clause-apart c =

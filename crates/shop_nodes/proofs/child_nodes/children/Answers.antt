@@ -20,15 +20,7 @@ loop-job-init c = (
 )
 
 pub child_along-requires : goal.child_along-requires
-child_along-requires c =
-    let shop = c.args.instance.now
-    in let w = c.args.node.now.word
-    in let done = c.loop-job.invariant.0
-    in let job = c.in-Some.job
-    in let split = sym (append_assoc c.pop.new.self.items (job ∷ []) done)
-    ∙ (ap (λ js. js ++ done) (sym c.in-Some.ensures.items) ∙ c.loop-job.invariant.1.all)
-    in subst (λ (v : List ℕ). IsWord shop (v ++ job ∷ [])) (sym c.in_ok-path.ensures)
-    (child-word shop w c.requires.node.0 c.pop.new.self.items done job split)
+child_along-requires c = grind (arith, append_assoc, child-word)
 
 pub loop-job-preserved : goal.loop-job-preserved
 loop-job-preserved c =

@@ -1,18 +1,14 @@
-use Rattle.std.proofs.Common.{◌≡◌, ◌∙◌, ◌-◌, ℕ, suc, List, take, drop, sym, ap, subst, arith, rules, Vec, Global}
+use Rattle.std.proofs.Common.{◌≡◌, ◌-◌, ℕ, suc, List, take, sym, subst, arith, rules}
 use Rattle.std.proofs.lemmas.List.{length-take-le}
-use Rattle.std.proofs.lemmas.Result.{IfOk-weaker}
 use Rattle.shop_model.specs.Word.{IsFull}
 use Rattle.shop_model.proofs.WordLengths.{word_length}
 use Rattle.shop_nodes.specs.Walking.{operations_left}
-use Rattle.shop_nodes.specs.Branching.{branch}
-use Rattle.shop_nodes.specs.declared.nodes.Node.{Node}
 use Rattle.shop_nodes.proofs.Counting.{open_from}
 use Rattle.shop_nodes.proofs.LeftLemmas.{last_words, nodes_dropped}
 use Rattle.shop_nodes.proofs.left.last_children.Goals as goal
 
 pub of_path-requires : goal.of_path-requires
-of_path-requires c =
-    word_length c.args.instance.now (take c.args.depth c.args.path.now) c.keeps_limits.ensures c.requires.is_word
+of_path-requires c = grind (arith, word_length)
 
 pub children-requires-clause-open : goal.children-requires-clause-open
 children-requires-clause-open c =
@@ -27,15 +23,7 @@ children-requires-clause-open c =
     in subst (λ (v : List ℕ). IsFull shop v → ⊥) (sym is) (open_from shop w (operations_left shop w - 1) own.is_word e)
 
 pub returns-clause-words : goal.returns-clause-words
-returns-clause-words c =
-    let shop = c.args.instance.now
-    in let w = take c.args.depth c.args.path.now
-    in let all = c.in_ok-all.all
-    in let is : c.in_ok-parent.parent.word ≡ w = search rules
-    in let kids = c.in_ok-all.ensures.branch ∙ ap (branch shop) is
-    in let at = c.len.ensures ∙ all.ok.0
-    in IfOk-weaker _ _ _ (λ (v : Vec Node Global) e. last_words (branch shop w) all.items v.items c.args.count kids
-    (e ∙ ap (λ k. drop (k - c.args.count) all.items) at)) c.split_off.ensures.tail
+returns-clause-words c = grind (arith, last_words)
 
 pub returns-clause-nodes : goal.returns-clause-nodes
 returns-clause-nodes c =

@@ -25,9 +25,7 @@ bounds-route-step c =
     in let below = a.operation in omega arith
 
 pub offset_bounds-route-step : goal.offset_bounds-route-step
-offset_bounds-route-step c =
-    let below = bounds-route-step c in let long = ap (λ (xs : List Op). length xs) c.route.ensures.route
-    in let most = c.route.ensures.limits.routes c.args.job in omega arith
+offset_bounds-route-step c = grind (arith, bounds-route-step)
 
 pub overflow_cast-job : goal.overflow_cast-job
 overflow_cast-job c =

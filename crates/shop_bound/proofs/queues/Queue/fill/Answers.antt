@@ -1,5 +1,4 @@
-use Rattle.std.proofs.Common.{arith, map, subst, sym}
-use Rattle.std.proofs.Common.{List}
+use Rattle.std.proofs.Common.{arith, map, subst, sym, List}
 use Rattle.std.specs.BinaryHeap.{heap_items}
 use Rattle.shop_bound.specs.inner.Serving.{fresh}
 use Rattle.shop_bound.specs.inner.HeapOrders.{Waiting}

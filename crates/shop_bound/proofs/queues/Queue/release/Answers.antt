@@ -5,8 +5,7 @@ use Rattle.shop_bound.proofs.queues.Queue.release.Goals as goal
 
 pub offset_bounds-works-position : goal.offset_bounds-works-position
 offset_bounds-works-position c =
-    let here : c.in-Some.position < length c.args.works.now =
-    taken_here _ _ _ _ _ c.in-Some.position c.loop-position.invariant.queue.are c.in-Some.ensures.taken in search rules
+    grind (arith, taken_here _ _ _ _ _ c.in-Some.position c.loop-position.invariant.queue.are c.in-Some.ensures.taken)
 
 pub bounds-works-position : goal.bounds-works-position
 bounds-works-position c =

@@ -21,23 +21,4 @@ invariant_of-self g c =
     }
 
 pub returns : goal.returns
-returns g c =
-    let self = c.args.self.now
-    in let made = c.clear_row.new.row
-    in let rest = drop (length made) self.row.items
-    in let empty = is_empty g.B.Block.value g.B.Block.GREATEST self.positions self.jobs
-    (take self.row.len (made ++ rest))
-    (is_cleared g.B.Block.value g.B.Block.GREATEST self.positions self.jobs self.row.len
-    (length c.deref_mut.result.now) made rest (ap length c.deref_mut.ensures.value ∙ self.long)
-    (sym c.deref_mut.ensures.len) c.clear_row.ensures)
-    in let seen = take self.positions self.row.items
-    in let long = self.long
-    in let heads : length (map g.B.Block.value seen) ≡ self.positions = length-map seen g.B.Block.value
-    ∙ length-take-le self.positions self.row.items (omega arith)
-    in let ends = drop (self.positions + 8) (map g.B.Block.value self.row.items)
-    in record {
-      heads = empty.heads ∙ ap (λ k. replicate k 0) (sym heads);
-      ends = empty.ends
-          ∙ ap (λ k. replicate k g.B.Block.GREATEST)
-          (sym (length-take-le self.jobs ends self.ends_are_padded.within));
-    }
+returns g c = grind (arith, is_empty, is_cleared, length-map, length-take-le)

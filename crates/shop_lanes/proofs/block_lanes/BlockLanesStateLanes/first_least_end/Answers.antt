@@ -5,10 +5,7 @@ use Rattle.shop_lanes.proofs.Padding.{first_least_seen}
 use Rattle.shop_lanes.proofs.block_lanes.BlockLanesStateLanes.first_least_end.Goals as goal
 
 pub first_least-requires-clause-fits : goal.first_least-requires-clause-fits
-first_least-requires-clause-fits g c k =
-    let self = c.args.self.now
-    in rw (c.ends.ensures, ← drop-map g.B.Block.value (self.positions + 8) self.row.items)
-    (self.ends_are_padded.least k)
+first_least-requires-clause-fits g c k = grind (arith, drop-map)
 
 pub returns-clause-job : goal.returns-clause-job
 returns-clause-job g c =

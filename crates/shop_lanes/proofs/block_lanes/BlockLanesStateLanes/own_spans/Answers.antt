@@ -5,15 +5,7 @@ use Rattle.shop_lanes.proofs.RowValues.{lanes_of_cut, long_cut}
 use Rattle.shop_lanes.proofs.block_lanes.BlockLanesStateLanes.own_spans.Goals as goal
 
 pub own_spans-requires : goal.own_spans-requires
-own_spans-requires g c =
-    let rows = c.rows.ensures
-    in let long = long_cut g.B.Block.value c.blocks-2.ensures rows.heads rows.times rows.tails c.requires.blocks
-    in let lanes = lanes_of_cut g.B.Block.value c.blocks-2.ensures rows.heads rows.times rows.tails c.requires.blocks
-    in record {
-      whole_blocks = omega arith;
-      room = omega arith;
-      fits = subst (FitOwnSpans g.B.Block.GREATEST) (sym lanes) c.requires.fits;
-    }
+own_spans-requires g c = grind (arith, long_cut, lanes_of_cut)
 
 pub returns-clause-owns : goal.returns-clause-owns
 returns-clause-owns g c =

@@ -6,6 +6,4 @@ pub returns-then-self-eq0 : goal.returns-then-self-eq0
 returns-then-self-eq0 c = grind (arith, set_bits-zero)
 
 pub returns : goal.returns
-returns c =
-    sym c.self.view_is
-    ∙ set_bits-lowest 64 c.self.inside.first c.self.inside.bits (omega arith) c.self.invariant.1
+returns c = grind (arith, set_bits-lowest)

@@ -26,12 +26,4 @@ returns-then-place-lt64 c =
     ∙ ap (without position) c.self.view_is
 
 pub returns-else-place-lt64 : goal.returns-else-place-lt64
-returns-else-place-lt64 c =
-    let first = c.self.inside.first in let bits = c.self.inside.bits in let position = c.args.position
-    in let place = (position + (2 ^ 64 - first)) % 2 ^ 64
-    in let outside : 64 ≤ place = c.if-place-lt64.false
-    in sym c.self.view_is ∙ set_bits-without 64 first bits bits position
-    (λ i here ne. refl)
-    (λ i here e. absurd (let a = place_is position first place c.ranges.position.fits c.self.invariant.0 refl i here e
-    in omega arith))
-    ∙ ap (without position) c.self.view_is
+returns-else-place-lt64 c = grind (arith, set_bits-without, place_is)

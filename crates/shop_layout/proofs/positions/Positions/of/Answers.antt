@@ -1,5 +1,4 @@
-use Rattle.std.proofs.Common.{◌≡◌, ◌∙◌, ℕ, ◌+◌, ◌-◌, ◌≤◌, ◌<◌, List, get_or, length, map, refl, ap}
-use Rattle.std.proofs.Common.{sym, subst, arith}
+use Rattle.std.proofs.Common.{◌≡◌, ◌∙◌, ℕ, ◌+◌, ◌-◌, ◌≤◌, ◌<◌, List, get_or, length, map, refl, ap, sym, subst, arith}
 use Rattle.std.specs.List.{All}
 use Rattle.std.specs.Prelude.{Vec}
 use Rattle.std.specs.declared.alloc.Global.{Global}
@@ -11,8 +10,7 @@ use Rattle.shop_layout.specs.Ranks.{AreRanks, ranked}
 use Rattle.shop_layout.specs.Slots.{AreMachineSlots}
 use Rattle.shop_layout.specs.inner.Layings.{AreCells, ArePlaces, AreShorter, place_after}
 use Rattle.shop_layout.specs.Positions.{AreMachinesOf}
-use Rattle.shop_layout.proofs.LaidLists.{blocks_few, blocks_rise, cells_known, laid_out}
-use Rattle.shop_layout.proofs.LaidLists.{machine_few}
+use Rattle.shop_layout.proofs.LaidLists.{blocks_few, blocks_rise, cells_known, laid_out, machine_few}
 use Rattle.shop_layout.proofs.RankedShops.{jobs_ranked, limits_ranked}
 use Rattle.shop_layout.proofs.RankedSlots.{places_ranked}
 use Rattle.shop_layout.proofs.positions.Positions.of.Goals as goal
@@ -25,8 +23,7 @@ module _ {shop : Shop} (limits : IsWithinLimits shop) {ranks : List ℕ} (by : A
   within = limits_ranked ranks shop limits by
 
   are : AreMachineSlots (ranked ranks shop) (map (λ v. v.items) now)
-  are = subst (λ (vs : List (Vec Slot Global)). AreMachineSlots (ranked ranks shop) (map (λ v. v.items) vs))
-      (sym lent) made
+  are = grind arith
 
   short : AreShorter 100000 (map (λ v. v.items) now)
   short = machine_few (ranked ranks shop) within (map (λ v. v.items) now) are
@@ -34,9 +31,7 @@ module _ {shop : Shop} (limits : IsWithinLimits shop) {ranks : List ℕ} (by : A
   module _ {cells : List Slot} {blocks : List ℕ}
       (given : AreCells (map (λ v. v.items) now) (length now) cells blocks) where
     laid : AreCells (map (λ v. v.items) now) shop.machines cells blocks
-    laid =
-        subst (λ (n : ℕ). AreCells (map (λ v. v.items) now) n cells blocks)
-        (sym (length-map now (λ v. v.items)) ∙ are.machines) given
+    laid = grind (arith, length-map, are)
 
     few : All (λ b. b ≤ 10000800) blocks
     few = blocks_few (ranked ranks shop) within (map (λ v. v.items) now) are cells blocks laid
@@ -60,27 +55,19 @@ module _ {shop : Shop} (limits : IsWithinLimits shop) {ranks : List ℕ} (by : A
     job_known e rows many = λ k d here. let b = known e k d here in omega arith
 
 pub cells_of-requires-clause-short : goal.cells_of-requires-clause-short
-cells_of-requires-clause-short c =
-    short c.keeps_limits.ensures c.requires c.as_slice.ensures.value c.in_ok-lists.ensures
+cells_of-requires-clause-short c = grind (arith, short)
 
 pub places_of-requires-clause-slots : goal.places_of-requires-clause-slots
-places_of-requires-clause-slots c =
-    (c.args.ranks.now, are c.keeps_limits.ensures c.requires c.as_slice-2.ensures.value c.in_ok-lists.ensures)
+places_of-requires-clause-slots c = grind (arith, are)
 
 pub places_of-requires-clause-few : goal.places_of-requires-clause-few
-places_of-requires-clause-few c =
-    rw c.as_slice-3.ensures.value (few c.keeps_limits.ensures c.requires c.as_slice.ensures.value
-    c.in_ok-lists.ensures c.in_ok-slots.ensures)
+places_of-requires-clause-few c = grind (arith, few)
 
 pub jobs_of-requires : goal.jobs_of-requires
-jobs_of-requires c =
-    job_small c.keeps_limits.ensures c.requires c.as_slice.ensures.value c.in_ok-lists.ensures c.in_ok-slots.ensures
-    c.as_slice-4.ensures.value
+jobs_of-requires c = grind (arith, job_small)
 
 pub steps_of-requires : goal.steps_of-requires
-steps_of-requires c =
-    step_small c.keeps_limits.ensures c.requires c.as_slice.ensures.value c.in_ok-lists.ensures c.in_ok-slots.ensures
-    c.as_slice-5.ensures.value
+steps_of-requires c = grind (arith, step_small)
 
 pub machines_of-requires : goal.machines_of-requires
 machines_of-requires c =
@@ -117,16 +104,12 @@ following_of-requires c =
 -- the lists that were lent, as they are
 machines_are : (lent blocks : List ℕ) → lent ≡ blocks → (n : ℕ) → length blocks ≡ n + 1 → (ms : List ℕ)
     → AreMachinesOf lent (length lent - 1) ms → AreMachinesOf blocks n ms
-machines_are lent blocks e n long ms are =
-    subst (λ (bs : List ℕ). AreMachinesOf bs n ms) e
-    (subst (λ (k : ℕ). AreMachinesOf lent k ms) (let a = ap length e in omega arith) are)
+machines_are lent blocks e n long ms are = grind arith
 
 following_is : (lent slots : List Slot) → lent ≡ slots → (rows places : List (Vec ℕ Global)) → rows ≡ places
     → (following : List ℕ) → following ≡ map (place_after (length lent) (map (λ v. v.items) rows)) lent
     → following ≡ map (place_after (length slots) (map (λ v. v.items) places)) slots
-following_is lent slots e rows places f following is =
-    is ∙ (ap (λ (xs : List Slot). map (place_after (length xs) (map (λ v. v.items) rows)) xs) e
-    ∙ ap (λ (vs : List (Vec ℕ Global)). map (place_after (length slots) (map (λ v. v.items) vs)) slots) f)
+following_is lent slots e rows places f following is = grind arith
 
 pub returns : goal.returns
 returns c =

@@ -5,5 +5,4 @@ use Rattle.shop_model.proofs.instances.Instance.releases.Goals as goal
 
 pub loop-j-preserved : goal.loop-j-preserved
 loop-j-preserved c =
-    let more = map-range_with_len_more (release_of c.args.self.now) 0 c.loop-j.j c.loop-j.j (omega arith)
-    in cc (c.in_ok-push.ensures.items)
+    grind (arith, map-range_with_len_more (release_of c.args.self.now) 0 c.loop-j.j c.loop-j.j (omega arith))

@@ -1,6 +1,5 @@
 use Rattle.std.proofs.Common.{arith, sym, subst}
-use Rattle.shop_model.specs.Placements.{PlacementState, IsPlacement}
-use Rattle.shop_model.specs.Placements.{HasNext}
+use Rattle.shop_model.specs.Placements.{PlacementState, IsPlacement, HasNext}
 use Rattle.shop_model.proofs.PlacementLemmas.{about_to_place, job_of_next, reads, step_read, finish_small}
 use Rattle.shop_model.proofs.PlacementLemmas.{placed_by_reads, start_by_reads}
 use Rattle.shop_model.proofs.placements.Placement.place_next.Goals as goal

@@ -1,7 +1,7 @@
 use Rattle.std.proofs.Common.{◌≡◌, take}
 use Rattle.shop_bound.specs.OneMachine.{greatest_of}
 use Rattle.shop_bound.specs.inner.Thresholds.{span_above}
-use Rattle.shop_bound.proofs.thresholds.greatest_span.Given as goal
+use Rattle.shop_bound.proofs.thresholds.one_machine.Given as goal
 
 abbrev pub invariant-loop-first : goal.invariant-loop-first
 invariant-loop-first l =
