@@ -2,12 +2,13 @@
 use Rattle.std.specs.Str.Parse.{IsNumeral, digits_value, without_leading_plus}
 use Rattle.std.proofs.Common.{arith, ◌<◌, ◌^◌}
 use Rattle.std.proofs.Common.{◌≡◌, ◌∙◌, ℕ, sym, ap, subst, Option, Some, None, Bool, true, false, refl, codes}
-use Rattle.std.proofs.Common.{Result, Ok, Err, IfErr}
+use Rattle.std.proofs.Common.{Result, Ok, Err}
 use Rattle.std.specs.Result.{IsErrAnd}
 use Rattle.clap.specs.Words.{Text, first_value, one_of, one_text, rows_of}
 use Rattle.clap.specs.declared.parser.matches.Found.{Found}
 use Rattle.clap.proofs.WalkLemmas.{first_value-rows, one_text-rows}
 use Rattle.shop_program.specs.CommandLine.{HasText, HasNumber, HasFlag, MayHave, NumberIs, UnlessNoMemory}
+use Rattle.shop_program.specs.inner.Arguments.{Reads}
 use Rattle.shop_program.specs.declared.line_faults.LineFault.{LineFault}
 use Rattle.shop_program.specs.declared.line_faults.LineFault.TheVariants.{NoMemory, Usage}
 
@@ -63,7 +64,9 @@ weaker P Q f NoMemory h = tt
 weaker P Q f (Usage error) h = f h
 
 -- a fault that is passed on
-pub passed_on : {T : Type 0} (P Q : Type 0) (r : Result T LineFault) (fault : LineFault) → (P → Q)
-    → UnlessNoMemory P fault → IsErrAnd r (λ e. e ≡ fault) → IfErr r (UnlessNoMemory Q)
-passed_on P Q (Ok t) fault h p is = tt
-passed_on P Q (Err e) fault h p is = subst (UnlessNoMemory Q) (sym is) (weaker P Q h fault p)
+pub passed_on : {A : Type 0} (P : Type 0) (Is : A → Type 0) (r : Result A LineFault) (fault : LineFault)
+    → (P → (value : A) → Is value → ⊥) → UnlessNoMemory P fault → IsErrAnd r (λ e. e ≡ fault) → Reads Is r
+passed_on P Is (Ok value) fault h p is = absurd is
+passed_on {A = A} P Is (Err e) fault h p is =
+    let none : Type 0 = (value : A) → Is value → ⊥ in
+    subst (UnlessNoMemory none) (sym is) (weaker P none h fault p)

@@ -1,6 +1,6 @@
 -- A line is what its subcommand's matches say.
 use Rattle.std.proofs.Common.{◌≡◌, ◌∙◌, sym, ap, subst, refl, Option, Some, None, List, Bool, true, false, inl, inr}
-use Rattle.std.specs.Prelude.{option_map}
+use Rattle.std.specs.Prelude.{option_map, Result, Ok, Err, IfOk, IfErr}
 use Rattle.clap.specs.Words.{HasMatchesOf, Row, Text, app_of, is_simple, subcommand_name_of}
 use Rattle.clap.specs.Words.{subcommand_of, subcommand_rows_of, takes}
 use Rattle.clap.specs.Values.{kind_of}
@@ -12,8 +12,10 @@ use Rattle.clap.specs.declared.builder.value_parser.ValueParser.{ValueParser}
 use Rattle.clap.specs.declared.parser.matches.ArgMatches.{ArgMatches}
 use Rattle.clap.proofs.OnLiterals.{clap_on_literals}
 use Rattle.shop_program.specs.CommandLine.{IsArgs, IsCommandLine, IsLineOf, IsUnread, UnlessNoMemory, command_line}
+use Rattle.shop_program.specs.inner.Arguments.{Reads}
+use Rattle.shop_program.specs.declared.line_faults.LineFault.{LineFault}
 use Rattle.shop_program.specs.LineFaults.{line_fault_by, line_fault_of}
-use Rattle.shop_program.proofs.Getters.{unless}
+use Rattle.shop_program.proofs.Getters.{unless, weaker}
 use Rattle.shop_program.proofs.Refusals.{NoArgs}
 use Rattle.shop_program.specs.declared.arguments.Args.{Args}
 
@@ -48,7 +50,7 @@ read_of words matches command sub line has entered =
     let simple : is_simple (app_of command) ≡ true = ap is_simple line.4.0 ∙ line_simple line.0 line.1 in
     ap (λ a. subcommand_of a words) (sym line.4.0) ∙ (sym (has simple).1 ∙ entered)
 
-pub line_of : (words : List Text) (matches : ArgMatches) (command : Command) (args : Args) (name : Text) (rows
+line_of : (words : List Text) (matches : ArgMatches) (command : Command) (args : Args) (name : Text) (rows
     : List Row)
     → IsCommandLine command → HasMatchesOf (app_of command) words matches
     → Some name ≡ subcommand_name_of matches → Some rows ≡ option_map (λ (p : Text × List Row). p.1)
@@ -87,6 +89,19 @@ unread_of words matches command name rows line has is of none =
     let entered : subcommand_rows_of matches ≡ Some (name, rows) = together _ _ _ name rows is of in
     unread_by words matches command (Some (name, rows)) line has entered
     (λ args m e given. none args (subst (λ (p : Text × List Row). IsArgs p.0 p.1 args) (sym (of_some _ m e)) given))
+
+-- what a subcommand's arguments are read to
+pub told : (words : List Text) (matches : ArgMatches) (command : Command) (name : Text) (rows : List Row)
+    (r : Result Args LineFault) → IsCommandLine command → HasMatchesOf (app_of command) words matches
+    → Some name ≡ subcommand_name_of matches → Some rows ≡ option_map (λ (p : Text × List Row). p.1)
+    (subcommand_rows_of matches)
+    → Reads (IsArgs name rows) r → IfOk r (IsLineOf words) × IfErr r (UnlessNoMemory (IsUnread words))
+told words matches command name rows (Ok args) line has is of given =
+    (line_of words matches command args name rows line has is of given, tt)
+told words matches command name rows (Err fault) line has is of none = (
+  tt,
+  weaker (NoArgs name rows) (IsUnread words) (unread_of words matches command name rows line has is of) fault none,
+)
 
 none_of : (sub : Option (Text × List Row)) → None ≡ option_map (λ (p : Text × List Row). p.1) sub → sub ≡ None
 none_of None e = refl

@@ -1,2 +1,3 @@
 -- Definitions that only contracts inside the crate name.
 pub mod Arguments
+pub mod Runs

@@ -1,5 +1,5 @@
-// Runs `list` and `check` on the files that are named, or on the source.
-ghost use Rattle.shop_program.specs.Commands.{Streams, IsRunOn, ListsFrom, ChecksFrom};
+// Runs `list` and `check` on a source.
+ghost use Rattle.shop_program.specs.Commands.{ListsFrom, ChecksFrom};
 
 use crate::files::{Files, open_given};
 use crate::statuses::{DONE, status_of_check};
@@ -8,7 +8,7 @@ use std::alloc::Global;
 
 /// Lists the instances of `source`, and answers the exit status. Fails with the fault of a text, with `ReadFailed` or
 /// `WriteFailed` if a device fails, or with `NoMemory` if memory runs out.
-fn list_from<S: Source, K: Sink>(
+pub fn list_from<S: Source, K: Sink>(
     alloc: Global,
     args: &ListArgs,
     source: &mut S,
@@ -21,30 +21,10 @@ fn list_from<S: Source, K: Sink>(
     Ok(DONE)
 }
 
-/// Runs `list` on `file`, or on `source` without one, and answers the exit status. Fails with the fault of a text, with
-/// `ReadFailed` or `WriteFailed` if a device fails, or with `NoMemory` if memory runs out.
-pub fn run_list<R: Files + AllocGlobal, S: Source, K: Sink>(
-    rt: &R,
-    args: &ListArgs,
-    file: &Option<String>,
-    source: &mut S,
-    out: &mut K,
-) -> Result<u8, Fault>
-    ensures { IsRunOn (R.opens rt.now) file.now
-        (record { source = S.device source.old; sink = K.device out.old })
-        (record { source = S.device source.new; sink = K.device out.new }) result
-        (ListsFrom args.now (K.device out.old) (K.device out.new) result) }
-{
-    match open_given(rt, file)? {
-        Some(mut first) => list_from(rt.alloc(), args, &mut first, out),
-        None => list_from(rt.alloc(), args, source, out),
-    }
-}
-
 /// Judges the schedule of a file, or without its path that of the instance text, and answers the exit status. Fails
 /// with the fault of a text, with `ReadFailed` or `WriteFailed` if a device fails, or with `NoMemory` if memory runs
 /// out.
-fn check_from<R: Files + AllocGlobal, S: Source, K: Sink>(
+pub fn check_from<R: Files + AllocGlobal, S: Source, K: Sink>(
     rt: &R,
     args: &CheckArgs,
     schedule: &Option<String>,
@@ -57,26 +37,4 @@ fn check_from<R: Files + AllocGlobal, S: Source, K: Sink>(
     let mut second = open_given(rt, schedule)?;
     let is_feasible = check_text(rt.alloc(), source, &mut second, out, args)?;
     Ok(status_of_check(is_feasible))
-}
-
-/// Runs `check` on `file`, or on `source` without one, and answers the exit status. Fails with the fault of a text,
-/// with `ReadFailed` or `WriteFailed` if a device fails, or with `NoMemory` if memory runs out.
-pub fn run_check<R: Files + AllocGlobal, S: Source, K: Sink>(
-    rt: &R,
-    args: &CheckArgs,
-    file: &Option<String>,
-    schedule: &Option<String>,
-    source: &mut S,
-    out: &mut K,
-) -> Result<u8, Fault>
-    ensures { IsRunOn (R.opens rt.now) file.now
-        (record { source = S.device source.old; sink = K.device out.old })
-        (record { source = S.device source.new; sink = K.device out.new }) result
-        (ChecksFrom (R.opens rt.now) args.now schedule.now (K.device out.old) (K.device out.new)
-        result) }
-{
-    match open_given(rt, file)? {
-        Some(mut first) => check_from(rt, args, schedule, &mut first, out),
-        None => check_from(rt, args, schedule, source, out),
-    }
 }

@@ -15,7 +15,6 @@ mod saying;
 mod statuses;
 
 pub use arguments::Args;
-pub use checking_runs::{run_check, run_list};
 pub use entry_points::{program, start};
 pub use files::{Files, open_given};
 pub use line_faults::LineFault;

@@ -4,9 +4,8 @@ ghost use Rattle.clap.specs.Words.{found_of, rows_of};
 ghost use Rattle.shop_text.specs.Formats.{word_of};
 ghost use Rattle.shop_program.specs.CommandLine.{HasText, HasNumber, HasFlag, MayHave};
 ghost use Rattle.shop_program.specs.CommandLine.{UnlessNoMemory};
-ghost use Rattle.shop_text.specs.declared.formats.Format.{Format};
+ghost use Rattle.shop_program.specs.inner.Arguments.{Reads};
 ghost use Rattle.shop_runs.specs.Orders.{order_word};
-ghost use Rattle.shop_runs.specs.declared.plans.Order.{Order};
 ghost use Rattle.std.specs.Prelude.{codes};
 
 use crate::line_faults::{LineFault, misread};
@@ -17,10 +16,8 @@ use std::alloc::{AllocError as NoMemory, Global};
 
 /// Reads the format. Fails if the matches lack it, or with `NoMemory` if memory runs out.
 pub fn format_in(alloc: Global, found: &ArgMatches) -> Result<Format, LineFault>
-    ensures ok { IfOk result (λ format.
-        HasText (rows_of (found_of found.now)) (codes "format") (word_of format)) }
-    ensures err { IfErr result (UnlessNoMemory ((format : Format)
-        → HasText (rows_of (found_of found.now)) (codes "format") (word_of format) → ⊥)) }
+    ensures { Reads (λ format. HasText (rows_of (found_of found.now)) (codes "format") (word_of format))
+        result }
 {
     let Some(word) = found.get_str("format") else {
         return Err(misread(alloc));
@@ -33,10 +30,8 @@ pub fn format_in(alloc: Global, found: &ArgMatches) -> Result<Format, LineFault>
 
 /// Reads the order of open nodes. Fails if the matches lack it, or with `NoMemory` if memory runs out.
 pub fn order_in(alloc: Global, found: &ArgMatches) -> Result<Order, LineFault>
-    ensures ok { IfOk result (λ order.
-        HasText (rows_of (found_of found.now)) (codes "order") (order_word order)) }
-    ensures err { IfErr result (UnlessNoMemory ((order : Order)
-        → HasText (rows_of (found_of found.now)) (codes "order") (order_word order) → ⊥)) }
+    ensures { Reads (λ order. HasText (rows_of (found_of found.now)) (codes "order") (order_word order))
+        result }
 {
     let Some(word) = found.get_str("order") else {
         return Err(misread(alloc));

@@ -3,8 +3,7 @@ ghost use Rattle.std.specs.Prelude.{IfOk, IfErr, map, codes, string_bytes};
 ghost use Rattle.clap.specs.Words.{found_of, rows_of};
 ghost use Rattle.shop_program.specs.CommandLine.{IsArgs, IsLineOf, IsUnread, HasPlan};
 ghost use Rattle.shop_program.specs.CommandLine.{UnlessNoMemory};
-ghost use Rattle.shop_program.specs.declared.arguments.Args.{Args};
-ghost use Rattle.shop_runs.specs.declared.plans.Plan.{Plan};
+ghost use Rattle.shop_program.specs.inner.Arguments.{Reads};
 
 use crate::arguments::Args;
 use crate::command_line::command;
@@ -17,9 +16,7 @@ use std::alloc::Global;
 
 /// Reads the arguments of `list` from clap's matches. Fails if these lack one, or with `NoMemory` if memory runs out.
 fn list_args(alloc: Global, found: &ArgMatches) -> Result<Args, LineFault>
-    ensures ok { IfOk result (IsArgs (codes "list") (rows_of (found_of found.now))) }
-    ensures err { IfErr result (UnlessNoMemory ((args : Args)
-        → IsArgs (codes "list") (rows_of (found_of found.now)) args → ⊥)) }
+    ensures { Reads (IsArgs (codes "list") (rows_of (found_of found.now))) result }
 {
     let args = ListArgs {
         format: format_in(alloc, found)?,
@@ -30,9 +27,7 @@ fn list_args(alloc: Global, found: &ArgMatches) -> Result<Args, LineFault>
 
 /// Reads the arguments of `check` from clap's matches. Fails if these lack one, or with `NoMemory` if memory runs out.
 fn check_args(alloc: Global, found: &ArgMatches) -> Result<Args, LineFault>
-    ensures ok { IfOk result (IsArgs (codes "check") (rows_of (found_of found.now))) }
-    ensures err { IfErr result (UnlessNoMemory ((args : Args)
-        → IsArgs (codes "check") (rows_of (found_of found.now)) args → ⊥)) }
+    ensures { Reads (IsArgs (codes "check") (rows_of (found_of found.now))) result }
 {
     let args = CheckArgs {
         format: format_in(alloc, found)?,
@@ -49,9 +44,7 @@ fn check_args(alloc: Global, found: &ArgMatches) -> Result<Args, LineFault>
 
 /// Reads the plan of `solve` from clap's matches. Fails if these lack a part, or with `NoMemory` if memory runs out.
 fn plan_in(alloc: Global, found: &ArgMatches) -> Result<Plan, LineFault>
-    ensures ok { IfOk result (HasPlan (rows_of (found_of found.now))) }
-    ensures err { IfErr result (UnlessNoMemory ((plan : Plan)
-        → HasPlan (rows_of (found_of found.now)) plan → ⊥)) }
+    ensures { Reads (HasPlan (rows_of (found_of found.now))) result }
 {
     let rounds = number_in(alloc, found, "rounds")?;
     let budget = number_in(alloc, found, "budget")?;
@@ -65,9 +58,7 @@ fn plan_in(alloc: Global, found: &ArgMatches) -> Result<Plan, LineFault>
 
 /// Reads the arguments of `solve` from clap's matches. Fails if these lack one, or with `NoMemory` if memory runs out.
 fn solve_args(alloc: Global, found: &ArgMatches) -> Result<Args, LineFault>
-    ensures ok { IfOk result (IsArgs (codes "solve") (rows_of (found_of found.now))) }
-    ensures err { IfErr result (UnlessNoMemory ((args : Args)
-        → IsArgs (codes "solve") (rows_of (found_of found.now)) args → ⊥)) }
+    ensures { Reads (IsArgs (codes "solve") (rows_of (found_of found.now))) result }
 {
     let format = format_in(alloc, found)?;
     let plan = plan_in(alloc, found)?;

@@ -1,4 +1,3 @@
-pub mod FormatWords
 pub mod LineLemmas
 pub mod DigitLemmas
 pub mod Seeing

@@ -117,19 +117,8 @@ pub(crate) fn number_of(token: &[u8]) -> Option<u64>
 }
 
 /// Reads the first token of a line: answers its value, or `None` if it is no number, and what follows the separator
-/// after it. Answers `None` alone if the line is blank.
-fn next_long_number(line: &[u8]) -> Option<(Option<u64>, &[u8])>
-    ensures cut { MatchOption result (tokens_of line.now ≡ []) (λ t. IsNumberCut line.now t.0 t.1.now) }
-    ensures shorter { MatchOption result (Unit {0}) (λ t. length t.1.now < length line.now) }
-{
-    match next_token(line) {
-        Some((token, rest)) => Some((number_of(token), rest)),
-        None => None,
-    }
-}
-
-/// Reads the first token of a line, as `next_long_number` does. Reads a number of at most 19 digits, and finds its end,
-/// in one pass.
+/// after it. Answers `None` alone if the line is blank. Reads a number of at most 19 digits, and finds its end, in one
+/// pass.
 pub(crate) fn next_number(line: &[u8]) -> Option<(Option<u64>, &[u8])>
     ensures cut { MatchOption result (tokens_of line.now ≡ []) (λ t. IsNumberCut line.now t.0 t.1.now) }
     ensures shorter { MatchOption result (Unit {0}) (λ t. length t.1.now < length line.now) }
@@ -145,5 +134,8 @@ pub(crate) fn next_number(line: &[u8]) -> Option<(Option<u64>, &[u8])>
     if is_between_tokens(rest[end]) {
         return Some((Some(value), &rest[end + 1..]));
     }
-    next_long_number(line)
+    match next_token(line) {
+        Some((token, rest)) => Some((number_of(token), rest)),
+        None => None,
+    }
 }

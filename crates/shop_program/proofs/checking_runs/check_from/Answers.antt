@@ -1,4 +1,4 @@
-use Rattle.std.proofs.Common.{◌≡◌, ℕ, inr, Result}
+use Rattle.std.proofs.Common.{ℕ, inr, Result}
 use Rattle.shop_engine.specs.declared.faults.Fault.{Fault}
 use Rattle.shop_engine.proofs.Sources.{at_err}
 use Rattle.shop_program.specs.Commands.{ChecksFrom}

@@ -6,18 +6,18 @@ use Rattle.shop_text.specs.Formats.{word_of}
 use Rattle.shop_program.proofs.Getters.{has_text, unless, no_value, other_value}
 use Rattle.shop_program.proofs.matches.format_in.Goals as goal
 
-pub returns-in-Some-of_word-clause-ok : goal.returns-in-Some-of_word-clause-ok
-returns-in-Some-of_word-clause-ok c = has_text (found_of c.args.found.now) (codes "format") c.in-Some.word.now
+pub returns-in-Some-of_word : goal.returns-in-Some-of_word
+returns-in-Some-of_word c = has_text (found_of c.args.found.now) (codes "format") c.in-Some.word.now
     (word_of c.in-Some-of_word.format) c.in-Some.ensures (sym c.in-Some-of_word.ensures)
 
-pub returns-in_default-clause-err : goal.returns-in_default-clause-err
-returns-in_default-clause-err c =
+pub returns-in_default : goal.returns-in_default
+returns-in_default c =
     unless ((format : Format) → HasText (rows_of (found_of c.args.found.now)) (codes "format") (word_of format) → ⊥)
     c.misread.result (λ format has. no_value (found_of c.args.found.now) (codes "format") (word_of format)
     (sym c.in_default.ensures) has)
 
-pub returns-in-None-clause-err : goal.returns-in-None-clause-err
-returns-in-None-clause-err c =
+pub returns-in-None : goal.returns-in-None
+returns-in-None c =
     unless ((format : Format) → HasText (rows_of (found_of c.args.found.now)) (codes "format") (word_of format) → ⊥)
     c.misread-in-None.result (λ format has. other_value (found_of c.args.found.now) (codes "format") c.in-Some.word.now
     (word_of format) (sym c.in-Some.ensures) (λ e. c.in-None.ensures format (sym e)) has)
