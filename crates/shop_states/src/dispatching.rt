@@ -43,7 +43,7 @@ pub trait Dispatching<S: Drop> {
     ghost IsCandidate: { Self → List ℕ → Candidate → Type 0 };
 
     /// Says that scratch room holds what bounds the child of a word by a job.
-    ghost KnowsChild: { Self → Self.Scratch → List ℕ → ℕ → Type 0 };
+    ghost KnowsChild: { Self → Self.Scratch → List ℕ → ℕ → Type 0 } = { λ _ _ _ _. Unit {0} };
 
     /// Makes scratch room. Fails with `NoMemory` if memory runs out.
     fn scratch(&self, alloc: Global) -> Result<Self::Scratch, NoMemory>
@@ -143,7 +143,11 @@ pub trait Dispatching<S: Drop> {
         ensures slot { IsSlot self.now to.new }
         ensures scratch { IsScratch self.now scratch.new }
         ensures kept { (w : List ℕ) (j : ℕ) → KnowsChild self.now scratch.old w j
-            → KnowsChild self.now scratch.new w j };
+            → KnowsChild self.now scratch.new w j }
+    {
+        self.copy(from, to);
+        self.dispatch_below(scratch, to, candidate, bound, limit)
+    }
 
     /// Bounds all children of the word of `state` together, before any candidate is dispatched. `bound` is the bound of
     /// that word, and `list_candidates` listed the candidates. Answers a number: if `bound` or the `own` of a candidate
@@ -151,28 +155,31 @@ pub trait Dispatching<S: Drop> {
     /// be bounded alone. Uses up `room`, and leaves in `scratch` what `dispatch_child_below` needs.
     fn bound_children(
         &self,
-        scratch: &mut Self::Scratch,
-        state: &S,
-        room: &mut S,
-        candidates: &[Candidate],
-        bound: u64,
+        _scratch: &mut Self::Scratch,
+        _state: &S,
+        _room: &mut S,
+        _candidates: &[Candidate],
+        _bound: u64,
     ) -> Option<u64>
-        requires scratch { IsScratch self.now scratch.old }
-        requires room { IsSlot self.now room.old }
-        requires can { HasListed (shop self.now) (λ w. IsStateOf self.now w state.now)
-            (IsCandidate self.now) candidates.now bound }
+        requires scratch { IsScratch self.now _scratch.old }
+        requires room { IsSlot self.now _room.old }
+        requires can { HasListed (shop self.now) (λ w. IsStateOf self.now w _state.now)
+            (IsCandidate self.now) _candidates.now _bound }
         ensures settled { IfSome result (λ top. (w : List ℕ) (limit others : ℕ)
-            → IsStateOf self.now w state.now → bound ≡ lb (shop self.now) w
+            → IsStateOf self.now w _state.now → _bound ≡ lb (shop self.now) w
             → ListsBelow (shop self.now) w limit (IsCandidate self.now w)
-            (conflict (shop self.now) w) candidates.now others
-            → Settles (shop self.now) w bound top candidates.now) }
+            (conflict (shop self.now) w) _candidates.now others
+            → Settles (shop self.now) w _bound top _candidates.now) }
         ensures known { IfSome result (λ top. (w : List ℕ) (limit others : ℕ)
-            → IsStateOf self.now w state.now → bound ≡ lb (shop self.now) w
+            → IsStateOf self.now w _state.now → _bound ≡ lb (shop self.now) w
             → ListsBelow (shop self.now) w limit (IsCandidate self.now w)
-            (conflict (shop self.now) w) candidates.now others
-            → All (λ c. KnowsChild self.now scratch.new w c.job) candidates.now) }
-        ensures room { IsSlot self.now room.new }
-        ensures scratch { IsScratch self.now scratch.new };
+            (conflict (shop self.now) w) _candidates.now others
+            → All (λ c. KnowsChild self.now _scratch.new w c.job) _candidates.now) }
+        ensures room { IsSlot self.now _room.new }
+        ensures scratch { IsScratch self.now _scratch.new }
+    {
+        None
+    }
 
     /// Does what `dispatch_below` does, in fewer steps, with what `bound_children` left in `scratch`.
     fn dispatch_child_below(
@@ -197,7 +204,10 @@ pub trait Dispatching<S: Drop> {
         ensures slot { IsSlot self.now state.new }
         ensures scratch { IsScratch self.now scratch.new }
         ensures kept { (w : List ℕ) (j : ℕ) → KnowsChild self.now scratch.old w j
-            → KnowsChild self.now scratch.new w j };
+            → KnowsChild self.now scratch.new w j }
+    {
+        self.dispatch_below(scratch, state, candidate, bound, limit)
+    }
 
     /// Does what `dispatch_below_in_copy` does, in fewer steps, with what `bound_children` left in `scratch`.
     fn dispatch_child_below_in_copy(
@@ -224,7 +234,11 @@ pub trait Dispatching<S: Drop> {
         ensures slot { IsSlot self.now to.new }
         ensures scratch { IsScratch self.now scratch.new }
         ensures kept { (w : List ℕ) (j : ℕ) → KnowsChild self.now scratch.old w j
-            → KnowsChild self.now scratch.new w j };
+            → KnowsChild self.now scratch.new w j }
+    {
+        self.copy(from, to);
+        self.dispatch_child_below(scratch, to, candidate, bound, limit)
+    }
 
     /// Does what `dispatch_child_below` does where the bound of the extended word is known already, in fewer steps, for
     /// nothing need be bounded. Answers whether `state` is that of the extended word now; else it is no word's state
@@ -248,7 +262,11 @@ pub trait Dispatching<S: Drop> {
         ensures slot { IsSlot self.now state.new }
         ensures scratch { IsScratch self.now scratch.new }
         ensures kept { (w : List ℕ) (j : ℕ) → KnowsChild self.now scratch.old w j
-            → KnowsChild self.now scratch.new w j };
+            → KnowsChild self.now scratch.new w j }
+    {
+        self.dispatch_child_below(scratch, state, candidate, bound, limit)
+            .is_some()
+    }
 
     /// Law: the state of a word also has room for any other state.
     ghost state_is_slot: { (d : Self) (w : List ℕ) (s : S) → IsStateOf d w s

@@ -22,5 +22,5 @@ returns-clause-known g c =
     in subst (λ s. IfSome c.bound_children.result (λ top. (w : List ℕ) → (limit : ℕ) → (others : ℕ)
     → g.D.Dispatching.IsStateOf d w s → c.args.branching.now.bound ≡ lb shop w
     → ListsBelow shop w limit (g.D.Dispatching.IsCandidate d w) (conflict shop w) cs others
-    → All (λ x. g.D.Dispatching.KnowsChild d c.bound_children.new.scratch w x.job) cs)) c.deref.ensures
+    → All (λ x. g.D.Dispatching.KnowsChild d c.bound_children.new._scratch w x.job) cs)) c.deref.ensures
     c.bound_children.ensures.known
