@@ -1,6 +1,6 @@
 -- What comparisons of vectors choose, as lists.
 use Rattle.std.proofs.Common.{◌≡◌, ℕ, ◌+◌, ◌-◌, ◌%◌, ◌^◌, ◌<◌, min, max, Bool, cond, List, [], ◌∷◌, length, map}
-use Rattle.std.proofs.Common.{get_or, inl, inr, refl, ap, sym, ◌∙◌, arith, leb, ltb, ◌≤◌, replicate, subst}
+use Rattle.std.proofs.Common.{get_or, refl, ap, sym, ◌∙◌, arith, leb, ltb, ◌≤◌, replicate}
 use Rattle.std.proofs.Math.Nat.{add-mod_right, mod-eq_of_lt}
 use Rattle.std.proofs.lemmas.Bool.{cases_lt}
 use Rattle.std.proofs.lemmas.Bool.Decides.{nat_tests}
