@@ -1,6 +1,6 @@
 -- How many operations a word holds: it is full exactly where it lacks none, and no word is long.
 use Rattle.std.proofs.Common.{◌≡◌, ℕ, zero, suc, ◌+◌, ◌≤◌, ◌<◌, inl, inr, cond, List, [], ◌∷◌, length, get_or}
-use Rattle.std.proofs.Common.{refl, ◌∙◌, ap, arith, eqb}
+use Rattle.std.proofs.Common.{refl, ap, arith, eqb}
 use Rattle.std.specs.List.{sum_by}
 use Rattle.std.proofs.lemmas.Bool.{cases_eq, cases_lt}
 use Rattle.std.proofs.lemmas.Bool.Decides.{eqb_tells}
