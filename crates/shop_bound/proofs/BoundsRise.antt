@@ -230,8 +230,7 @@ module _ (shop : Shop) (limits : IsWithinLimits shop) (p : Placing) (j : ℕ) (q
             step = p.steps j + 1;
             machine = o.machine;
             triple = record {
-              head =
-                  max (q.ready j) (q.free o.machine);
+              head = max (q.ready j) (q.free o.machine);
               time = o.time;
               tail = sum_by (λ o. o.time) os;
             };

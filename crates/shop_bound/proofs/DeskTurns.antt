@@ -19,8 +19,7 @@ pub replaced_more : (shop : Shop) (p : Placing) (js : List ℕ) (rs : List Repla
 replaced_more shop p [] [] j r are is = (is, tt)
 replaced_more shop p [] (s ∷ rs) j r are is = absurd are
 replaced_more shop p (i ∷ js) [] j r are is = absurd are
-replaced_more shop p (i ∷ js) (s ∷ rs) j r are is =
-    (are.0, replaced_more shop (place_next shop p i) js rs j r are.1 is)
+replaced_more shop p (i ∷ js) (s ∷ rs) j r are is = (are.0, replaced_more shop (place_next shop p i) js rs j r are.1 is)
 
 -- without the last job, and what that replaced
 pub replaced_less : (shop : Shop) (p : Placing) (js : List ℕ) (rs : List Replaced) (j : ℕ) (r : Replaced)

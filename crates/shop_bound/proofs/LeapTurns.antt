@@ -1,6 +1,5 @@
 -- The loads of operations with late heads, and what they say of spans.
-use Rattle.std.proofs.Common.{◌≡◌, ℕ, ◌+◌, ◌≤◌, ◌<◌, max, true, false, refl, List, [], ◌∷◌, ◌++◌}
-use Rattle.std.proofs.Common.{arith}
+use Rattle.std.proofs.Common.{◌≡◌, ℕ, ◌+◌, ◌≤◌, ◌<◌, max, true, false, refl, List, [], ◌∷◌, ◌++◌, arith}
 use Rattle.std.specs.List.{filter, sum_by}
 use Rattle.std.specs.Prelude.{IsPermutation}
 use Rattle.std.proofs.lemmas.Bool.{cases_Bool, cases_lt}

@@ -17,8 +17,7 @@ use Rattle.shop_model.proofs.Placings.{IsNext, place_next-is, each_placed}
 use Rattle.shop_model.proofs.Unders.{after_word, next_operation, placing-snoc}
 use Rattle.shop_model.proofs.WordLemmas.{snoc_induct, IsWord-init}
 use Rattle.shop_bound.specs.Bound.{Waiting, waiting_from, waiting_of, waiting, triples_on, placed_end, lb}
-use Rattle.shop_bound.specs.Conflicts.{open_jobs, next_head, chosen_of, conflicts_with}
-use Rattle.shop_bound.specs.Conflicts.{conflict_among, conflict}
+use Rattle.shop_bound.specs.Conflicts.{open_jobs, next_head, chosen_of, conflicts_with, conflict_among, conflict}
 use Rattle.shop_bound.specs.OneMachine.{one}
 use Rattle.shop_bound.specs.Renumbered.{IsRenumbered, NumbersDontMatter}
 use Rattle.shop_bound.proofs.BoundLaw.{front_of}

@@ -64,8 +64,7 @@ module _ {A : Type 0} where
   sublist_at none i h = absurd (omega arith)
   sublist_at (skip x s) i h = let r = sublist_at s i h in (suc r.0, (let a = r.1 in omega arith), r.2)
   sublist_at (keep x s) zero h = (0, omega arith, λ d. refl)
-  sublist_at (keep x s) (suc i) h =
-      let r = sublist_at s i (omega arith) in (suc r.0, (let a = r.1 in omega arith), r.2)
+  sublist_at (keep x s) (suc i) h = let r = sublist_at s i (omega arith) in (suc r.0, (let a = r.1 in omega arith), r.2)
 
   pub le-least_of : (f : A → ℕ) (b : ℕ) (x : A) (xs : List A) → AllByRecursion (λ y. b ≤ f y) (x ∷ xs)
       → b ≤ least_of f (x ∷ xs)

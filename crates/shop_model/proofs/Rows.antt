@@ -39,8 +39,7 @@ abbrev pub shop_r : Shop
 shop_r = record {
   machines = 2;
   jobs = job (op 0 3 ∷ op 1 2 ∷ []) ∷ record { release = 4; route = op 1 2 ∷ op 0 4 ∷ [] } ∷ record {
-    release =
-        7;
+    release = 7;
     route = [];
   } ∷ [];
 }

@@ -1,7 +1,6 @@
 -- A walk loses no table: its best is at most the end of each table under its word, or one that ends no later lies under
 -- a word left.
-use Rattle.std.proofs.Common.{◌≡◌, ℕ, zero, suc, ◌≤◌, ◌⊎◌, inl, inr, Bool, true, false, List, [], ◌∷◌, refl}
-use Rattle.std.proofs.Common.{arith, leb}
+use Rattle.std.proofs.Common.{◌≡◌, ℕ, zero, suc, ◌≤◌, ◌⊎◌, inl, inr, Bool, true, false, List, [], ◌∷◌, refl, arith, leb}
 use Rattle.std.specs.List.{fold}
 use Rattle.std.proofs.lemmas.Bool.{leb-true, leb-false}
 use Rattle.shop_model.specs.Shop.{Shop, Starts, end_of}

@@ -21,7 +21,8 @@ returns-then-place-lt64 c =
     in let at = place_at position first place c.ranges.position.fits c.self.invariant.0 refl inside
     in set_bits-without 64 first bits _ position
     (λ i here ne. bit_at_clear_other w64 bits place inside i here (λ e. ne (ap (λ k. first + k) e ∙ at)))
-    (λ i here e. ap (bit_at (bit_and bits (bit_not w64 (1 * 2 ^ place % 2 ^ 64)))) (place_is position first place c.ranges.position.fits c.self.invariant.0 refl i here e)
+    (λ i here e. ap (bit_at (bit_and bits (bit_not w64 (1 * 2 ^ place % 2 ^ 64)))) (place_is position first place
+    c.ranges.position.fits c.self.invariant.0 refl i here e)
     ∙ bit_at_clear_same w64 bits place inside)
     ∙ ap (without position) c.self.view_is
 
