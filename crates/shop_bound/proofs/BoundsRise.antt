@@ -139,7 +139,8 @@ module _ (shop : Shop) (limits : IsWithinLimits shop) (p : Placing) (j : ℕ) (q
 
   rest_raised : WaitRaised rest_before rest_after
   unfolding rest_before rest_after
-  rest_raised = walk_raised p.free q.free (free_grows shop p j q n) j (p.steps j + 1) (was.triple.head + was.triple.time) (q.ready j)
+  rest_raised = walk_raised p.free q.free (free_grows shop p j q n) j (p.steps j + 1)
+      (was.triple.head + was.triple.time) (q.ready j)
       (let a = ends_at in omega arith) later_ops
 
   -- the jobs before it and after it
@@ -229,8 +230,7 @@ module _ (shop : Shop) (limits : IsWithinLimits shop) (p : Placing) (j : ℕ) (q
             step = p.steps j + 1;
             machine = o.machine;
             triple = record {
-              head =
-                  max (q.ready j) (q.free o.machine);
+              head = max (q.ready j) (q.free o.machine);
               time = o.time;
               tail = sum_by (λ o. o.time) os;
             };

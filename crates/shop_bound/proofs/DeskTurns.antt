@@ -1,8 +1,8 @@
 -- What a desk's trail says after one more dispatch, and without the last one.
-use Rattle.std.proofs.Common.{◌≡◌, ℕ, ◌≤◌, ◌<◌, List, [], ◌∷◌, ◌++◌, length, get_or, refl, ◌∙◌, ap, arith, vec_capacity}
+use Rattle.std.proofs.Common.{◌≡◌, ℕ, ◌≤◌, List, [], ◌∷◌, ◌++◌, length, get_or, refl, arith, vec_capacity}
 use Rattle.std.specs.List.{fold}
 use Rattle.shop_model.specs.declared.ops.Op.{Op}
-use Rattle.shop_model.specs.Shop.{Shop, machine_of, no_op, route_of}
+use Rattle.shop_model.specs.Shop.{Shop, no_op, route_of}
 use Rattle.shop_model.specs.Word.{IsWord, Placing, none_placed, place_next, placing}
 use Rattle.shop_model.specs.Placements.{PlacesNext, TakesBack}
 use Rattle.shop_model.proofs.PlacementLemmas.{IsAboutToPlace, about_to_place}
@@ -19,8 +19,7 @@ pub replaced_more : (shop : Shop) (p : Placing) (js : List ℕ) (rs : List Repla
 replaced_more shop p [] [] j r are is = (is, tt)
 replaced_more shop p [] (s ∷ rs) j r are is = absurd are
 replaced_more shop p (i ∷ js) [] j r are is = absurd are
-replaced_more shop p (i ∷ js) (s ∷ rs) j r are is =
-    (are.0, replaced_more shop (place_next shop p i) js rs j r are.1 is)
+replaced_more shop p (i ∷ js) (s ∷ rs) j r are is = (are.0, replaced_more shop (place_next shop p i) js rs j r are.1 is)
 
 -- without the last job, and what that replaced
 pub replaced_less : (shop : Shop) (p : Placing) (js : List ℕ) (rs : List Replaced) (j : ℕ) (r : Replaced)
@@ -58,7 +57,8 @@ replaced_is d j is fits route whole k step ready is_ready free is_free = grind (
 -- one more job is dispatched
 pub dispatched : (d : Inside) (j : ℕ) → IsDesk d → IsWord d.instance.now (d.jobs.items ++ j ∷ []) → (e : Inside)
     → e.instance.now ≡ d.instance.now → e.jobs.items ≡ d.jobs.items ++ j ∷ [] → (r : Replaced)
-    → e.replaced.items ≡ d.replaced.items ++ r ∷ [] → IsReplaced d.instance.now (placing d.instance.now d.jobs.items) j r
+    → e.replaced.items ≡ d.replaced.items ++ r ∷ []
+    → IsReplaced d.instance.now (placing d.instance.now d.jobs.items) j r
     → PlacesNext d.instance.now j d.placement e.placement → vec_capacity d.jobs ≤ vec_capacity e.jobs
     → vec_capacity d.replaced ≤ vec_capacity e.replaced → e.room ≡ d.room → IsDesk e
 dispatched d j is fits e shop jobs r more replaced places jobs_room replaced_room room =
@@ -67,7 +67,8 @@ dispatched d j is fits e shop jobs r more replaced places jobs_room replaced_roo
       limits = is.limits;
       word = rw jobs fits;
       placed = rw (jobs, placing-snoc s d.jobs.items j) (places (placing s d.jobs.items) is.placed);
-      replaced = rw (jobs, more) (replaced_more s (none_placed s) d.jobs.items d.replaced.items j r is.replaced replaced);
+      replaced = rw (jobs, more)
+          (replaced_more s (none_placed s) d.jobs.items d.replaced.items j r is.replaced replaced);
       jobs_room = omega arith;
       replaced_room = omega arith;
       room = rw room is.room;

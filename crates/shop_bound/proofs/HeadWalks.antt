@@ -1,8 +1,7 @@
 -- The operations that wait, as the walk along the routes lists them, have the heads and the tails of their
 -- definitions.
-use Rattle.std.proofs.Common.{◌≡◌, ℕ, ◌+◌, ◌-◌, ◌≤◌, max, List, [], ◌∷◌, ◌++◌, length, map}
-use Rattle.std.proofs.Common.{drop, get_or, refl, ◌∙◌, ap, arith}
-use Rattle.std.specs.List.{flat_map, range_with_len, sum_by}
+use Rattle.std.proofs.Common.{◌≡◌, ℕ, ◌+◌, ◌-◌, ◌≤◌, List, [], ◌∷◌, length, map, drop, get_or, refl, arith}
+use Rattle.std.specs.List.{flat_map, range_with_len}
 use Rattle.std.proofs.lemmas.List.{length-drop}
 use Rattle.shop_model.specs.declared.ops.Op.{Op}
 use Rattle.shop_model.specs.Shop.{Shop, no_op, route_of}

@@ -25,5 +25,6 @@ module _ (shop : Shop) (p : Placing) (j : ℕ) (q : Placing) (n : IsNext shop p 
         in omega arith
 
     pub heads_up : (l : ℕ) → q.steps i ≤ l → head_of shop p i l ≤ head_of shop q i l
-    heads_up l opened = let a = ready_up (l - q.steps i) l (omega arith) in let b = free_grows shop p j q n (machine_of shop i l)
+    heads_up l opened = let a = ready_up (l - q.steps i) l (omega arith)
+        in let b = free_grows shop p j q n (machine_of shop i l)
         in omega arith

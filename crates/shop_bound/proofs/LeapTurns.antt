@@ -1,6 +1,5 @@
 -- The loads of operations with late heads, and what they say of spans.
-use Rattle.std.proofs.Common.{◌≡◌, ℕ, ◌+◌, ◌≤◌, ◌<◌, max, inl, inr, true, false, refl, List, [], ◌∷◌, ◌++◌, length}
-use Rattle.std.proofs.Common.{◌∙◌, ap, subst, sym, arith}
+use Rattle.std.proofs.Common.{◌≡◌, ℕ, ◌+◌, ◌≤◌, ◌<◌, max, true, false, refl, List, [], ◌∷◌, ◌++◌, arith}
 use Rattle.std.specs.List.{filter, sum_by}
 use Rattle.std.specs.Prelude.{IsPermutation}
 use Rattle.std.proofs.lemmas.Bool.{cases_Bool, cases_lt}
@@ -10,7 +9,7 @@ use Rattle.std.proofs.lemmas.List.Sums.{sum_by_push}
 use Rattle.std.proofs.lemmas.List.Sorted.{All-permutation, sum_by-IsPermutation}
 use Rattle.shop_bound.specs.declared.triples.Triple.{Triple}
 use Rattle.shop_bound.specs.OneMachine.{greatest_of, one, IsSmall}
-use Rattle.shop_bound.specs.inner.Thresholds.{is_above, span_above, head_at, tail_at, no_triple}
+use Rattle.shop_bound.specs.inner.Thresholds.{is_above, span_above}
 use Rattle.shop_bound.proofs.Lists.{greatest_of-le, get_or-le-greatest_of}
 use Rattle.shop_bound.proofs.SameSums.{permuted_sums, same_one}
 use Rattle.shop_bound.proofs.ThresholdLemmas.{greatest_of-append, one-le, span_above-some, is_above-true}
@@ -54,7 +53,8 @@ module _ (us : List Triple) (x : Triple) where
   times_more = sum_by_push (λ (t : Triple). t.time) us x
 
   -- an operation more, which has an earlier head
-  pub earlier : (from time load : ℕ) → IsLoadOf us from time load → x.head < from → IsLoadOf (us ++ x ∷ []) from time load
+  pub earlier : (from time load : ℕ) → IsLoadOf us from time load → x.head < from
+      → IsLoadOf (us ++ x ∷ []) from time load
   earlier from time load is before =
       grind (arith, passed, span_passed, times_more, tails_more, cases_Bool, is_above-true)
 

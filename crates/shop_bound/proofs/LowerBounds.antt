@@ -1,6 +1,6 @@
 -- The lower bound of a word, machine by machine.
 use Rattle.std.proofs.Common.{◌≡◌, ◌≤◌, ◌<◌, ◌+◌, ℕ, zero, suc, max, List, [], ◌∷◌, length, map, get_or, set, All}
-use Rattle.std.proofs.Common.{subst, sym, ◌∙◌, add-one, ap, arith, refl}
+use Rattle.std.proofs.Common.{sym, ◌∙◌, add-one, ap, arith}
 use Rattle.std.specs.Prelude.{Vec, vec_capacity}
 use Rattle.std.specs.declared.alloc.Global.{Global}
 use Rattle.std.proofs.lemmas.List.{length-set, get_or-map}
@@ -13,7 +13,7 @@ use Rattle.shop_bound.specs.Bound.{waiting, triples_on, lb}
 use Rattle.shop_bound.specs.OneMachine.{one, IsSmall}
 use Rattle.shop_bound.specs.declared.lower.BoundRoom.{BoundRoom}
 use Rattle.shop_bound.specs.inner.BoundRooms.{IsRoomFor}
-use Rattle.shop_bound.specs.inner.MachineLists.{rows_in, visits_in, HaveRoom, KeepRoom}
+use Rattle.shop_bound.specs.inner.MachineLists.{rows_in, visits_in, HaveRoom}
 use Rattle.shop_bound.specs.inner.Unplaced.{bound_on, AreUnplaced}
 pub use Rattle.shop_model.proofs.Greatest.{greatest_below-both, greatest_below-equal}
 use Rattle.shop_bound.proofs.MachineListTurns.{row_read, row_other, keeps_room, keep_have_room}

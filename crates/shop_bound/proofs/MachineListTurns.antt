@@ -107,7 +107,8 @@ module _ (rest : List Op) (k : ℕ) (below : k < length rest) where
         long = length-set lists i new ∙ before.long;
         added = λ m known. elim (cases_eq o.machine m) [
           | inl e ↦ (let same : m ≡ i = sym (on ∙ e)
-              in added_on m free ready rest k below (get_or (rows_in lists) m []) (get_or (rows_in (set lists i new)) m [])
+              in added_on m free ready rest k below (get_or (rows_in lists) m [])
+              (get_or (rows_in (set lists i new)) m [])
               (get_or (rows_in old) m [] ++ unplaced_from m free first rest) head is_head (before.added m known) e tail
               is_tail (rw same row))
           | inr n ↦ added_off m free ready rest k below (get_or (rows_in lists) m [])
@@ -126,7 +127,8 @@ pub record AreClearedTo (k : ℕ) (old lists : List (Vec Triple Global)) : Type 
   pub empty : (m : ℕ) → m < k → get_or (rows_in lists) m [] ≡ []
   pub kept : KeepRoom old lists
 
-pub one_cleared : (old lists : List (Vec Triple Global)) (k : ℕ) (now new : Vec Triple Global) → AreClearedTo k old lists
+pub one_cleared : (old lists : List (Vec Triple Global)) (k : ℕ) (now new : Vec Triple Global)
+    → AreClearedTo k old lists
     → k < length lists → now ≡ get_or lists k now → new.items ≡ [] → vec_capacity new ≡ vec_capacity now
     → AreClearedTo (k + 1) old (set lists k new)
 one_cleared old lists k now new before here read emptied same = record {
@@ -157,7 +159,8 @@ none_listed shop s old new before empty kept long = grind (arith, keep_have_room
 
 module _ (shop : Shop) (s : PlacementState) (n : ℕ) (old : List (Vec Triple Global)) (before : HaveListed shop s n old)
     (job : n < length shop.jobs) where
-  visits_of_rest : (m k : ℕ) (rest : List Op) → rest ≡ drop k (route_of shop n) → visits m rest ≤ visits m (route_of shop n)
+  visits_of_rest : (m k : ℕ) (rest : List Op) → rest ≡ drop k (route_of shop n)
+      → visits m rest ≤ visits m (route_of shop n)
   visits_of_rest m k rest e =
       grind (arith, sum_by-take-drop (λ (o : Op). visit m o) (route_of shop n) k, ap (λ (os : List Op). visits m os) e)
 
@@ -171,7 +174,8 @@ module _ (shop : Shop) (s : PlacementState) (n : ℕ) (old : List (Vec Triple Gl
   -- and it is listed
   pub one_listed : (new : List (Vec Triple Global)) (free : List ℕ) (ready k : ℕ) (rest : List Op)
       → rest ≡ drop k (route_of shop n)
-      → ((m : ℕ) (p : Placing) → IsPlacement shop p s → unplaced_from m free ready rest ≡ triples_on m (waiting_of shop p n))
+      → ((m : ℕ) (p : Placing) → IsPlacement shop p s
+      → unplaced_from m free ready rest ≡ triples_on m (waiting_of shop p n))
       → Adds (rows_in old) (rows_in new) free ready rest → KeepRoom old new → length new ≡ length old
       → HaveListed shop s (n + 1) new
   one_listed new free ready k rest e waits adds kept long =

@@ -1,5 +1,6 @@
 -- What a turn of a schedule does to the operations that are not done.
-use Rattle.std.proofs.Common.{◌≡◌, ◌≢◌, ℕ, zero, suc, ◌+◌, ◌≤◌, ◌<◌, min, ◌⊎◌, inl, inr, Bool, true, false, cond, ◌==◌, List, []}
+use Rattle.std.proofs.Common.{◌≡◌, ◌≢◌, ℕ, zero, suc, ◌+◌, ◌≤◌, ◌<◌, min, ◌⊎◌, inl, inr, true, false, cond, ◌==◌}
+use Rattle.std.proofs.Common.{List, []}
 use Rattle.std.proofs.Common.{◌∷◌, length, get_or, map, Option, Some, None, refl, sym, ◌∙◌, ap, subst, arith, eq-eqb}
 use Rattle.std.specs.BinaryHeap.{heap_items, heap_len, heap_capacity}
 use Rattle.std.specs.List.{All, AllByRecursion}
@@ -16,8 +17,8 @@ use Rattle.std.proofs.lemmas.List.Sorted.{All-permutation, sum_by-IsPermutation}
 use Rattle.shop_bound.specs.declared.triples.Triple.{Triple}
 use Rattle.shop_bound.specs.declared.works.Work.{Work}
 use Rattle.shop_bound.specs.inner.Thresholds.{no_triple}
-use Rattle.shop_bound.specs.inner.Serving.{no_work, work_at, fresh, undone_of, Waits, IsServed, IsStop, IsReady}
-use Rattle.shop_bound.specs.inner.HeapOrders.{Coming, Waiting, by_head, by_tail}
+use Rattle.shop_bound.specs.inner.Serving.{work_at, fresh, undone_of, Waits, IsServed, IsStop, IsReady}
+use Rattle.shop_bound.specs.inner.HeapOrders.{Coming, Waiting, by_head}
 use Rattle.shop_bound.specs.inner.Queues.{coming_place, waiting_place, times, IsToCome, IsInLine}
 use Rattle.shop_bound.specs.inner.Queues.{AreQueued, ComeLater, IsNextRelease, IsBehind, IsFirst, TakesReleased}
 use Rattle.shop_bound.specs.inner.Queues.{IsQueue, IsWithoutFirst, KeepsRoom}
@@ -153,7 +154,8 @@ module _ (ws : List Work) (clock : ℕ) (cs : List Coming) (hs : List Waiting) (
 
     pub ready_later : IsFirst hs None → (head : ℕ) → IsNextRelease cs (Some head) → IsReady ws clock head
     ready_later none head (c, n) = inr (inl (record {
-      later = (let l = all-top coming_place (λ d. clock < d.0.0) cs c n.some n.top later in let e = n.is in omega arith);
+      later = (let l = all-top coming_place (λ d. clock < d.0.0) cs c n.some n.top later
+          in let e = n.is in omega arith);
       least = λ k here undone. (let s = to_come k here undone (times-none waiting_place k hs none) (λ d. head ≤ d.0.0)
           n.least
           in let h = s.2.0.head in let l = s.2.1
@@ -260,7 +262,8 @@ queue_done ws clock i end v q r is s same done later first without fewer room co
     }
 
 -- one of those to come that waits from now on
-pub queued_more : (ws : List Work) (clock : ℕ) (cs rest : List Coming) (hs more : List Waiting) (c : Coming) (h : Waiting)
+pub queued_more : (ws : List Work) (clock : ℕ) (cs rest : List Coming) (hs more : List Waiting) (c : Coming)
+    (h : Waiting)
     → AreQueued ws clock cs hs → IsPermutation cs (c ∷ rest) → c.0.0 ≤ clock → IsPermutation (h ∷ hs) more
     → waiting_place h ≡ coming_place c → h.0 ≡ (work_at ws c.1).triple.tail → AreQueued ws clock rest more
 queued_more ws clock cs rest hs more c h q p released m is tail =
@@ -291,7 +294,8 @@ pub queue_more : (ws : List Work) (clock k : ℕ) (q p r : Queue) → IsQueue ws
     → h.0 ≡ (work_at ws k).triple.tail → heap_len r.waiting ≡ heap_len p.waiting + 1
     → heap_capacity p.waiting ≤ heap_capacity r.waiting → IsQueue ws clock r
 queue_more ws clock k q p r is taken fewer waits comes h more place tail longer room =
-    let all = queued_more ws clock (heap_items q.coming) (heap_items p.coming) (heap_items q.waiting) (heap_items r.waiting)
+    let all = queued_more ws clock (heap_items q.coming) (heap_items p.coming) (heap_items q.waiting)
+    (heap_items r.waiting)
     taken.0 h is.are taken.1 taken.2 (rw waits at more) (place ∙ sym taken.3)
     (tail ∙ ap (λ (j : ℕ). (work_at ws j).triple.tail) (sym taken.3))
     in let old = is.room in let a = rw waits at longer in let b = rw waits at room

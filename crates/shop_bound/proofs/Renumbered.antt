@@ -1,25 +1,23 @@
 -- Instances that differ in the numbers of their machines alone have the same words, with the same bounds and conflict
 -- sets.
-use Rattle.std.proofs.Common.{◌≡◌, ℕ, suc, ◌+◌, ◌≤◌, ◌<◌, max, inl, inr, Bool, true, List, [], ◌∷◌, ◌++◌, length}
-use Rattle.std.proofs.Common.{drop, get_or, eqb, ltb, refl, sym, ◌∙◌, ap, subst, arith, eq-eqb, ◌↔◌}
+use Rattle.std.proofs.Common.{◌≡◌, ℕ, suc, ◌+◌, ◌≤◌, ◌<◌, max, inl, inr, Bool, List, [], ◌∷◌, length}
+use Rattle.std.proofs.Common.{drop, get_or, eqb, refl, sym, ◌∙◌, ap, arith, eq-eqb, ◌↔◌}
 use Rattle.std.specs.List.{AllByRecursion, AllZip, filter, flat_map, range_with_len, sum_by}
-use Rattle.std.proofs.lemmas.Bool.{cases_eq, cases_Bool, eqb-true, ltb-true, ne_eqb}
+use Rattle.std.proofs.lemmas.Bool.{cases_eq, eqb-true, ltb-true, ne_eqb}
 use Rattle.std.proofs.lemmas.Bool.Decides.{eqb_tells}
 use Rattle.std.proofs.lemmas.List.{get_or-drop, length-drop}
 use Rattle.std.proofs.lemmas.List.Elements.{filter_agree, filter_passes, recursion_from_All}
 use Rattle.std.proofs.lemmas.List.Sums.{sum_by-cons}
 use Rattle.shop_model.specs.declared.ops.Op.{Op}
 use Rattle.shop_model.specs.Limits.{IsWithinLimits}
-use Rattle.shop_model.specs.Shop.{Shop, IsOperation, no_op, route_of, machine_of, time_of, finish_of, greatest_below}
+use Rattle.shop_model.specs.Shop.{Shop, IsOperation, no_op, route_of, machine_of, greatest_below}
 use Rattle.shop_model.specs.Word.{Placing, IsWord, placing, place_next}
 use Rattle.shop_model.proofs.Greatest.{le-greatest_below, greatest_below-le}
 use Rattle.shop_model.proofs.Placings.{IsNext, place_next-is, each_placed}
 use Rattle.shop_model.proofs.Unders.{after_word, next_operation, placing-snoc}
 use Rattle.shop_model.proofs.WordLemmas.{snoc_induct, IsWord-init}
-use Rattle.shop_bound.specs.declared.triples.Triple.{Triple}
 use Rattle.shop_bound.specs.Bound.{Waiting, waiting_from, waiting_of, waiting, triples_on, placed_end, lb}
-use Rattle.shop_bound.specs.Conflicts.{open_jobs, next_machine, next_head, next_end, chosen_of, conflicts_with}
-use Rattle.shop_bound.specs.Conflicts.{conflict_among, conflict}
+use Rattle.shop_bound.specs.Conflicts.{open_jobs, next_head, chosen_of, conflicts_with, conflict_among, conflict}
 use Rattle.shop_bound.specs.OneMachine.{one}
 use Rattle.shop_bound.specs.Renumbered.{IsRenumbered, NumbersDontMatter}
 use Rattle.shop_bound.proofs.BoundLaw.{front_of}

@@ -1,6 +1,6 @@
 -- The greatest span over the thresholds that occur is the greatest over all sublists.
 use Rattle.std.proofs.Common.{◌≡◌, ℕ, zero, suc, ◌+◌, ◌≤◌, ◌<◌, max, inl, inr, Bool, true, List, [], ◌∷◌, ◌++◌, length}
-use Rattle.std.proofs.Common.{get_or, take, map, refl, sym, ◌∙◌, ap, subst, arith, leb}
+use Rattle.std.proofs.Common.{get_or, take, map, refl, sym, ◌∙◌, ap, subst, arith}
 use Rattle.std.specs.List.{AllByRecursion, filter, sum_by}
 use Rattle.std.proofs.lemmas.Bool.{cases_Bool, leb-true, le-leb, and_from, and_parts}
 use Rattle.std.proofs.lemmas.Bool.Decides.{eqb_tells}
@@ -64,8 +64,7 @@ module _ {A : Type 0} where
   sublist_at none i h = absurd (omega arith)
   sublist_at (skip x s) i h = let r = sublist_at s i h in (suc r.0, (let a = r.1 in omega arith), r.2)
   sublist_at (keep x s) zero h = (0, omega arith, λ d. refl)
-  sublist_at (keep x s) (suc i) h =
-      let r = sublist_at s i (omega arith) in (suc r.0, (let a = r.1 in omega arith), r.2)
+  sublist_at (keep x s) (suc i) h = let r = sublist_at s i (omega arith) in (suc r.0, (let a = r.1 in omega arith), r.2)
 
   pub le-least_of : (f : A → ℕ) (b : ℕ) (x : A) (xs : List A) → AllByRecursion (λ y. b ≤ f y) (x ∷ xs)
       → b ≤ least_of f (x ∷ xs)

@@ -1,15 +1,14 @@
 -- The operations that a word leaves, as a walk along the routes lists them.
-use Rattle.std.proofs.Common.{◌≡◌, ◌≢◌, ℕ, zero, suc, ◌+◌, ◌-◌, ◌≤◌, ◌<◌, max, List, [], ◌∷◌, ◌++◌, length, map}
-use Rattle.std.proofs.Common.{take, drop, get_or, refl, sym, ◌∙◌, ap, arith, append_assoc, add-one, add-zero}
-use Rattle.std.proofs.Common.{zero-add, eqb, eq-eqb}
-use Rattle.std.specs.List.{filter, flat_map, range_with_len, sum_by}
+use Rattle.std.proofs.Common.{◌≡◌, ◌≢◌, ℕ, zero, suc, ◌+◌, ◌-◌, ◌≤◌, ◌<◌, max, List, [], ◌∷◌, ◌++◌, length, take, drop}
+use Rattle.std.proofs.Common.{get_or, refl, sym, ◌∙◌, ap, arith, append_assoc, add-one, add-zero, zero-add, eq-eqb}
+use Rattle.std.specs.List.{flat_map, range_with_len, sum_by}
 use Rattle.std.proofs.lemmas.Bool.{cases_eq, ne_eqb}
 use Rattle.std.proofs.lemmas.List.Elements.{filter-append}
 use Rattle.std.proofs.lemmas.List.{append-nil, take_all, drop_more, get_or-drop, length-drop, map-append}
 use Rattle.std.proofs.lemmas.Grind.{flat_map-append}
 use Rattle.shop_model.specs.declared.ops.Op.{Op}
 use Rattle.shop_model.specs.Limits.{IsWithinLimits}
-use Rattle.shop_model.specs.Shop.{Shop, no_op, route_of, op_of, machine_of, time_of}
+use Rattle.shop_model.specs.Shop.{Shop, no_op, route_of}
 use Rattle.shop_model.specs.Word.{Placing}
 use Rattle.shop_model.proofs.Unders.{after_word}
 use Rattle.shop_bound.specs.declared.triples.Triple.{Triple}
@@ -86,7 +85,8 @@ can_go_on shop limits s of j job free is_free ready is_ready rest e =
     grind (arith, ends_of_word shop limits s of, get_or-drop, length-drop)
 
 -- what is added of a job is what waits of it
-pub unplaced_of_job : (m : ℕ) (shop : Shop) → IsWithinLimits shop → (s : PlacementState) → (j : ℕ) → j < length shop.jobs
+pub unplaced_of_job : (m : ℕ) (shop : Shop) → IsWithinLimits shop → (s : PlacementState) → (j : ℕ)
+    → j < length shop.jobs
     → (free : List ℕ) → free ≡ s.free → (ready : ℕ) → ready ≡ get_or s.ready j 0
     → (rest : List Op) → rest ≡ drop (get_or s.steps j 0) (route_of shop j) → (p : Placing) → IsPlacement shop p s
     → unplaced_from m free ready rest ≡ triples_on m (waiting_of shop p j)

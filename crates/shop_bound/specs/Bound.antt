@@ -25,15 +25,13 @@ waiting_from free j k ready (o ∷ os) =
       job = j;
       step = k;
       machine = o.machine;
-      triple =
-          record { head = head; time = o.time; tail = sum_by (λ p. p.time) os };
+      triple = record { head = head; time = o.time; tail = sum_by (λ p. p.time) os };
     }
     ∷ waiting_from free j (k + 1) (head + o.time) os
 
 -- the operations of job j that wait, and those of all jobs
 abbrev pub waiting_of : Shop → Placing → ℕ → List Waiting
-waiting_of shop p j =
-    waiting_from p.free j (p.steps j) (p.ready j) (drop (p.steps j) (route_of shop j))
+waiting_of shop p j = waiting_from p.free j (p.steps j) (p.ready j) (drop (p.steps j) (route_of shop j))
 
 abbrev pub waiting : Shop → Placing → List Waiting
 waiting shop p = flat_map (λ j. waiting_of shop p j) (range_with_len 0 (length shop.jobs))

@@ -47,5 +47,4 @@ abbrev pub conflict : Shop → List ℕ → List ℕ
 conflict shop w = let p = placing shop w in conflict_among shop p (open_jobs shop p)
 
 abbrev pub SoleCandidateKeepsBound : Shop → List ℕ → Type 0
-SoleCandidateKeepsBound shop w =
-    (j : ℕ) → conflict shop w ≡ j ∷ [] → lb shop (w ++ j ∷ []) ≡ lb shop w
+SoleCandidateKeepsBound shop w = (j : ℕ) → conflict shop w ≡ j ∷ [] → lb shop (w ++ j ∷ []) ≡ lb shop w

@@ -45,8 +45,7 @@ pub record AreSumsSmall (shop : Shop) (w : List ℕ) : Type 0 where
   pub bound : lb shop w < 2 ^ 49
 
 abbrev pub SumsStaySmall : Type 0
-SumsStaySmall =
-    (shop : Shop) (w : List ℕ) → IsWithinLimits shop → IsWord shop w → AreSumsSmall shop w
+SumsStaySmall = (shop : Shop) (w : List ℕ) → IsWithinLimits shop → IsWord shop w → AreSumsSmall shop w
 
 -- the bound of a word is at most the bound of each word that it begins
 abbrev pub BoundsNeverFall : Type 0

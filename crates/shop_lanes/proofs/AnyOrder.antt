@@ -1,6 +1,6 @@
 -- The least and the greatest of lanes are the same in any order.
 use Rattle.std.proofs.Common.{◌≡◌, ℕ, zero, suc, ◌*◌, ◌/◌, ◌%◌, ◌<◌, ◌≤◌, List, [], ◌∷◌, length, map}
-use Rattle.std.proofs.Common.{◌+◌, ap, get_or, min, sym, ◌∙◌, arith}
+use Rattle.std.proofs.Common.{◌+◌, get_or, min, ◌∙◌, arith}
 use Rattle.std.specs.List.{All}
 use Rattle.std.proofs.lemmas.List.{length-map}
 use Rattle.shop_lanes.specs.Eights.{ahead_of, later_head}
@@ -8,7 +8,6 @@ use Rattle.shop_lanes.specs.Folds.{least_up_to}
 use Rattle.shop_lanes.specs.Rows.{Lane, lanes, by_columns, lanes_in}
 use Rattle.shop_lanes.specs.declared.lane_rows.LaneRows.{LaneRows}
 use Rattle.shop_lanes.specs.Spans.{greatest_by}
-use Rattle.shop_lanes.specs.inner.LaterHeads.{least_later}
 use Rattle.shop_lanes.proofs.Columns.{All-by_columns, All-by_places}
 use Rattle.shop_lanes.proofs.LaneLists.{length-lanes}
 use Rattle.shop_lanes.proofs.LaterTurns.{nearest_is_least}

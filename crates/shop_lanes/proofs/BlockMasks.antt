@@ -1,5 +1,5 @@
 -- Masks and least numbers of lists in blocks of eight, and the first number that a mask tells.
-use Rattle.std.proofs.Common.{◌≡◌, ◌≢◌, ℕ, zero, suc, ◌+◌, ◌-◌, ◌*◌, ◌/◌, ◌%◌, ◌<◌, ◌≤◌, ◌^◌, min, Bool, true, false}
+use Rattle.std.proofs.Common.{◌≡◌, ◌≢◌, ℕ, zero, suc, ◌+◌, ◌-◌, ◌*◌, ◌<◌, ◌≤◌, ◌^◌, min, Bool, true, false}
 use Rattle.std.proofs.Common.{cond, inl, inr, ◌==◌, List, [], ◌∷◌, ◌++◌, length, map, take, drop, replicate, get_or}
 use Rattle.std.proofs.Common.{refl, ap, sym, ◌∙◌, arith, pow-suc, take-append-drop, length-drop}
 use Rattle.std.proofs.lemmas.Bool.{cases_lt}

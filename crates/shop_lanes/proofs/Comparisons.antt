@@ -1,6 +1,6 @@
 -- What comparisons of vectors choose, as lists.
 use Rattle.std.proofs.Common.{◌≡◌, ℕ, ◌+◌, ◌-◌, ◌%◌, ◌^◌, ◌<◌, min, max, Bool, cond, List, [], ◌∷◌, length, map}
-use Rattle.std.proofs.Common.{get_or, inl, inr, refl, ap, sym, ◌∙◌, arith, leb, ltb, ◌≤◌, replicate, subst}
+use Rattle.std.proofs.Common.{get_or, refl, ap, sym, ◌∙◌, arith, leb, ltb, ◌≤◌, replicate}
 use Rattle.std.proofs.Math.Nat.{add-mod_right, mod-eq_of_lt}
 use Rattle.std.proofs.lemmas.Bool.{cases_lt}
 use Rattle.std.proofs.lemmas.Bool.Decides.{nat_tests}
@@ -16,8 +16,7 @@ waits_told w least heads = map (top (hbits w)) (zip2 (λ a b. cond (leb a b) (2 
 
 pub waits_told_is : (w : Width) (n least : ℕ) (heads : List ℕ) → length heads ≡ n
     → waits_told w (replicate n least) heads ≡ map (leb least) heads
-waits_told_is w n least heads e =
-    tops_compared w leb (replicate n least) heads ∙ zip2_splat_left leb least n heads e
+waits_told_is w n least heads e = tops_compared w leb (replicate n least) heads ∙ zip2_splat_left leb least n heads e
 
 pub waiting_told_is : (w : Width) (xs heads least : List ℕ) → length heads ≡ 8 → least ≡ replicate 8 (get_or least 0 0)
     → sel_l (waits_told w least heads) xs (replicate 8 0) ≡ waiting (get_or least 0 0) heads xs

@@ -1,6 +1,6 @@
 -- The lanes of parts of rows are parts of the lanes.
 use Rattle.std.proofs.Common.{◌≡◌, ℕ, zero, suc, ◌+◌, ◌-◌, ◌*◌, ◌<◌, ◌≤◌, List, [], ◌∷◌, length, take, drop, get_or}
-use Rattle.std.proofs.Common.{refl, ap, arith, length-take, length-drop}
+use Rattle.std.proofs.Common.{refl, arith, length-take, length-drop}
 use Rattle.shop_lanes.specs.Rows.{Lane, lanes, blocks}
 
 pub lanes-drop : (n : ℕ) (hs ts qs : List ℕ) → length ts ≡ length hs → length qs ≡ length hs

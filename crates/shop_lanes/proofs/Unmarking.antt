@@ -1,9 +1,10 @@
 -- One position unmarked: in bits, and by the head that is set to 0 there.
-use Rattle.std.proofs.Common.{◌≡◌, ℕ, zero, suc, ◌+◌, ◌-◌, ◌*◌, ◌/◌, ◌%◌, ◌<◌, Bool, false, inl, inr, List, [], ◌⊎◌}
-use Rattle.std.proofs.Common.{◌∷◌, length, get_or, set, drop, refl, ap, sym, ◌∙◌, arith}
+use Rattle.std.proofs.Common.{◌≡◌, ℕ, zero, suc, ◌+◌, ◌*◌, ◌/◌, ◌%◌, ◌<◌, Bool, false, inl, inr, List, [], ◌⊎◌}
+use Rattle.std.proofs.Common.{◌∷◌, length, get_or, set, refl, ap, sym, ◌∙◌, arith}
 use Rattle.std.proofs.lemmas.Bool.{cases_Bool, cases_eq, cases_lt, eq-eqb, ne_eqb}
 use Rattle.std.proofs.lemmas.Grind.{get_or-set_at}
-use Rattle.std.proofs.lemmas.List.{get_or-drop, get_or-set_other, get_or-take, get_or_past, length-drop, length-set, length-take}
+use Rattle.std.proofs.lemmas.List.{get_or-drop, get_or-set_other, get_or-take, get_or_past, length-drop, length-set}
+use Rattle.std.proofs.lemmas.List.{length-take}
 use Rattle.std.specs.Int.{bit_at}
 use Rattle.std.proofs.lemmas.Nat.Bits.{bit_at-suc, bit_at_lowest}
 use Rattle.shop_lanes.specs.Marks.{marked, positions_among, waits_below, without}

@@ -15,8 +15,7 @@ waits_below limit head = nat_lt 0 head && nat_lt head limit
 -- the positions from block `from` on and before block `to` where something waits with a head below
 -- the limit
 abbrev pub positions_below : Rows → ℕ → ℕ → ℕ → List ℕ
-positions_below rows from to limit =
-    marked (waits_below limit) (8 * from) (blocks from to rows.heads)
+positions_below rows from to limit = marked (waits_below limit) (8 * from) (blocks from to rows.heads)
 
 abbrev pub positions_among : List ℕ → ℕ → ℕ → ℕ → List ℕ
 positions_among heads from to limit = marked (waits_below limit) (8 * from) (blocks from to heads)

@@ -50,8 +50,7 @@ abbrev pub by_columns : {A : Type 0} → ℕ → List A → List A
 by_columns count xs = first_ranks count xs (8 * count)
 
 abbrev pub lanes_between : Rows → ℕ → ℕ → List Lane
-lanes_between rows from to =
-    by_columns (to - from) (blocks from to (lanes rows.heads rows.times rows.tails))
+lanes_between rows from to = by_columns (to - from) (blocks from to (lanes rows.heads rows.times rows.tails))
 
 abbrev pub lanes_of : List ℕ → List ℕ → List ℕ → ℕ → ℕ → List Lane
 lanes_of heads times tails from to = by_columns (to - from) (blocks from to (lanes heads times tails))

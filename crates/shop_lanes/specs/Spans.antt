@@ -39,8 +39,7 @@ pub record IsRaisedBelow (limit most r : ℕ) : Type 0 where
 
 -- the start, all times and the greatest tail together are at most `greatest`
 abbrev pub FitsSpan : ℕ → ℕ → List Lane → Type 0
-FitsSpan greatest start xs =
-    start + sum_by (λ x. x.time) xs + greatest_by (λ x. x.tail) xs ≤ greatest
+FitsSpan greatest start xs = start + sum_by (λ x. x.time) xs + greatest_by (λ x. x.tail) xs ≤ greatest
 
 pub record FitOwnSpans (greatest : ℕ) (xs : List Lane) : Type 0 where
   pub whole : FitsSpan greatest 0 xs

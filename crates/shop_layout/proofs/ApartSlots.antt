@@ -35,7 +35,8 @@ range_rises a (suc n) = grind (arith, all_map, range_within, range_rises (a + 1)
 pairs_mapped : {A B : Type 0} (R : A → A → Type 0) (S : B → B → Type 0) (g : A → B)
     → ((x y : A) → R x y → S (g x) (g y)) → (xs : List A) → Pairwise R xs → Pairwise S (map g xs)
 pairs_mapped R S g f [] h = tt
-pairs_mapped R S g f (x ∷ xs) h = (all_mapped (S (g x)) g xs (all_map (R x) (λ y. S (g x) (g y)) (f x) xs h.0), pairs_mapped R S g f xs h.1)
+pairs_mapped R S g f (x ∷ xs) h =
+    (all_mapped (S (g x)) g xs (all_map (R x) (λ y. S (g x) (g y)) (f x) xs h.0), pairs_mapped R S g f xs h.1)
 
 all_of : {A B : Type 0} (Q : B → Type 0) (g : A → B) → ((x : A) → Q (g x)) → (xs : List A)
     → AllByRecursion Q (map g xs)

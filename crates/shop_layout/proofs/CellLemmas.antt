@@ -1,6 +1,6 @@
 -- The lists of the machines one after another, each down the columns of its blocks.
 use Rattle.std.proofs.Common.{◌≡◌, ℕ, ◌+◌, ◌-◌, ◌*◌, ◌/◌, ◌%◌, ◌^◌, ◌≤◌, ◌<◌, inl, inr, List, [], ◌∷◌, ◌++◌}
-use Rattle.std.proofs.Common.{length, get_or, sym, ◌∙◌, ap, subst, arith}
+use Rattle.std.proofs.Common.{length, get_or, sym, ◌∙◌, ap, arith}
 use Rattle.std.specs.Int.{div_ceil}
 use Rattle.std.proofs.lemmas.Bool.{cases_eq}
 use Rattle.std.proofs.lemmas.Grind.{div_ceil_times}
@@ -10,7 +10,7 @@ use Rattle.shop_lanes.specs.Rows.{place_at_rank}
 use Rattle.shop_lanes.proofs.Columns.{place_fits, rank_of_place}
 use Rattle.shop_layout.specs.declared.slots.Slot.{Slot}
 use Rattle.shop_layout.specs.Positions.{position_at_rank}
-use Rattle.shop_layout.specs.inner.Layings.{AreAdded, AreCells, AreShorter, IsListIn, no_slot}
+use Rattle.shop_layout.specs.inner.Layings.{AreAdded, AreCells, AreShorter, no_slot}
 use Rattle.shop_layout.proofs.Ranks.{position_within}
 
 -- one more list

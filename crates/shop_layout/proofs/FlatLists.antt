@@ -8,7 +8,8 @@ pub all_mapped : {A B : Type 0} (P : B → Type 0) (g : A → B) (xs : List A) �
 all_mapped P g [] h = tt
 all_mapped P g (x ∷ xs) h = (h.0, all_mapped P g xs h.1)
 
-pub all_flat : {A : Type 0} (P : A → Type 0) (f : ℕ → List A) (js : List ℕ) → AllByRecursion (λ j. AllByRecursion P (f j)) js
+pub all_flat : {A : Type 0} (P : A → Type 0) (f : ℕ → List A) (js : List ℕ)
+    → AllByRecursion (λ j. AllByRecursion P (f j)) js
     → AllByRecursion P (flat_map f js)
 all_flat P f [] h = tt
 all_flat P f (j ∷ js) h = all_append P (f j) (flat_map f js) h.0 (all_flat P f js h.1)

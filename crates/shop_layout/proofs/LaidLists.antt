@@ -1,16 +1,16 @@
 -- The lists of the machines, laid out.
 use Rattle.std.proofs.Common.{◌≡◌, ℕ, zero, suc, ◌+◌, ◌-◌, ◌*◌, ◌≤◌, ◌<◌, inl, inr, List, []}
-use Rattle.std.proofs.Common.{length, map, get_or, refl, sym, ◌∙◌, ap, subst, arith}
+use Rattle.std.proofs.Common.{length, map, get_or, refl, ap, arith}
 use Rattle.std.specs.List.{All}
 use Rattle.std.proofs.lemmas.Bool.{cases_eq, cases_lt}
 use Rattle.std.proofs.lemmas.List.{get_or-map, get_or_past, get_or_default, length-map}
 use Rattle.shop_model.specs.Limits.{IsWithinLimits}
-use Rattle.shop_model.specs.Shop.{Shop, machine_of}
+use Rattle.shop_model.specs.Shop.{Shop}
 use Rattle.shop_layout.specs.declared.slots.Slot.{Slot}
 use Rattle.shop_layout.specs.Slots.{AreMachineSlots, AreSlotsOf}
 use Rattle.shop_layout.specs.inner.Layings.{AreCells, AreNoted, ArePlaces, AreShorter, HasRoutes}
 use Rattle.shop_layout.specs.inner.Layings.{IsInRows, no_slot, place_after}
-use Rattle.shop_layout.specs.Positions.{AreMachinesOf, place_in, place_or, IsLaidOut, LayoutState, position_at_rank}
+use Rattle.shop_layout.specs.Positions.{AreMachinesOf, IsLaidOut, LayoutState}
 use Rattle.shop_layout.proofs.ApartSlots.{slots_few}
 use Rattle.shop_layout.proofs.Ranks.{rank_at}
 use Rattle.shop_layout.proofs.SlotFacts.{slots_are_operations}

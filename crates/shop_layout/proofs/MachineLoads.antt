@@ -1,6 +1,6 @@
 -- The times of a machine, its greatest tail included, stay small.
 use Rattle.std.proofs.Common.{◌≡◌, ℕ, zero, suc, ◌+◌, ◌-◌, ◌*◌, ◌^◌, ◌≤◌, ◌<◌, inl, inr, List, []}
-use Rattle.std.proofs.Common.{◌∷◌, length, get_or, drop, ◌∙◌, ap, arith}
+use Rattle.std.proofs.Common.{◌∷◌, length, get_or, ap, arith}
 use Rattle.std.specs.List.{sum_by}
 use Rattle.std.proofs.lemmas.Bool.{cases_lt}
 use Rattle.std.proofs.lemmas.List.{get_or-take, get_or-drop, get_or_past}

@@ -1,6 +1,5 @@
 -- Ranks of a machine and their positions.
-use Rattle.std.proofs.Common.{◌≡◌, ℕ, ◌+◌, ◌-◌, ◌*◌, ◌/◌, ◌%◌, ◌≤◌, ◌<◌, List, get_or, sym, ◌∙◌, ap, arith}
-use Rattle.shop_lanes.specs.Rows.{place_at_rank}
+use Rattle.std.proofs.Common.{◌≡◌, ℕ, ◌+◌, ◌-◌, ◌*◌, ◌/◌, ◌%◌, ◌≤◌, ◌<◌, List, get_or, ◌∙◌, ap, arith}
 use Rattle.shop_lanes.proofs.Columns.{place_fits, place_of_rank_of, rank_fits, rank_of_place}
 use Rattle.shop_layout.specs.Positions.{position_at_rank}
 

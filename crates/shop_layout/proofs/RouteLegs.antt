@@ -1,6 +1,6 @@
 -- The legs of all routes, and where those of each route stand among them.
 use Rattle.std.proofs.Common.{◌≡◌, ℕ, ◌+◌, ◌*◌, ◌^◌, ◌≤◌, ◌<◌, List, [], ◌∷◌, ◌++◌, drop, get_or, length, map, take}
-use Rattle.std.proofs.Common.{sym, ◌∙◌, ap, subst, arith, inl, inr}
+use Rattle.std.proofs.Common.{sym, ◌∙◌, ap, arith}
 use Rattle.std.specs.List.{All, flat_map}
 use Rattle.std.specs.Prelude.{Vec}
 use Rattle.std.specs.declared.alloc.Global.{Global}
@@ -93,7 +93,8 @@ module _ (l : LayoutState) where
         ∙ get_or_push (map (leg_of l.machines l.times) places) (end_of (length l.following)) d k
         (length-map places (leg_of l.machines l.times) ∙ sym last)
 
-  pub behind_is : {firsts behind : List ℕ} → AreFirsts (route_legs l.machines l.times (length l.following)) l.places firsts
+  pub behind_is : {firsts behind : List ℕ}
+      → AreFirsts (route_legs l.machines l.times (length l.following)) l.places firsts
       → AreBehind l.jobs l.steps firsts behind → length (all_legs l) < 2 ^ 64 → IsBehind l behind
   behind_is {firsts} {behind} begin are small = grind (arith, index_known)
 

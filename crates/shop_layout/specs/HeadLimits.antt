@@ -30,5 +30,4 @@ load_on l m = load_of (blocks (slice_index l.blocks m) (slice_index l.blocks (m 
     (blocks (slice_index l.blocks m) (slice_index l.blocks (m + 1)) l.tails)
 
 abbrev pub FitsLanes : ℕ → Shop → LayoutState → Type 0
-FitsLanes greatest shop l =
-    (m : ℕ) → m < shop.machines → latest_end shop + 1 + load_on l m < greatest
+FitsLanes greatest shop l = (m : ℕ) → m < shop.machines → latest_end shop + 1 + load_on l m < greatest

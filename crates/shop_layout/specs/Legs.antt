@@ -10,8 +10,7 @@ use Rattle.shop_layout.specs.Positions.{LayoutState}
 use Rattle.shop_layout.specs.declared.legs.Leg.{Leg}
 
 abbrev pub leg_of : List ℕ → List ℕ → ℕ → Leg
-leg_of machines times q =
-    record { position = q; machine = slice_index machines q; time = slice_index times q }
+leg_of machines times q = record { position = q; machine = slice_index machines q; time = slice_index times q }
 
 abbrev pub end_of : ℕ → Leg
 end_of n = record { position = n; machine = 0; time = 0 }
@@ -23,5 +22,4 @@ abbrev pub all_legs : LayoutState → List Leg
 all_legs l = flat_map (route_legs l.machines l.times (length l.following)) l.places
 
 abbrev pub leg_index : LayoutState → ℕ → ℕ → ℕ
-leg_index l j k =
-    length (flat_map (route_legs l.machines l.times (length l.following)) (take j l.places)) + k
+leg_index l j k = length (flat_map (route_legs l.machines l.times (length l.following)) (take j l.places)) + k

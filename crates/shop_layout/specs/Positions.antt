@@ -40,8 +40,7 @@ abbrev pub place_in : List (List ℕ) → ℕ → ℕ → ℕ
 place_in rows j k = slice_index (slice_index_or rows j []) k
 
 abbrev pub place_or : ℕ → List (List ℕ) → ℕ → ℕ → ℕ
-place_or n rows j k =
-    if nat_lt k (length (slice_index_or rows j [])) then place_in rows j k else n
+place_or n rows j k = if nat_lt k (length (slice_index_or rows j [])) then place_in rows j k else n
 
 pub record AreMachinesOf (blocks : List ℕ) (machines : ℕ) (ms : List ℕ) : Type 0 where
   pub positions : length ms ≡ 8 * slice_index blocks machines

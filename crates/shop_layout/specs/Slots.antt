@@ -11,8 +11,7 @@ use Rattle.shop_layout.specs.declared.slots.Slot.{Slot}
 
 -- step k of job j, which has this route, as its machine sees it
 abbrev pub slot_at : List Op → ℕ → ℕ → Slot
-slot_at route j k =
-    record { job = j; step = k; time = (slice_index_or route k no_op).time; tail = tail_in route k }
+slot_at route j k = record { job = j; step = k; time = (slice_index_or route k no_op).time; tail = tail_in route k }
 
 -- the operations of one job on machine m, and of all jobs
 abbrev pub operations_in : List Op → ℕ → ℕ → List Slot
@@ -20,8 +19,7 @@ operations_in route m j = map (slot_at route j)
     (filter (λ k. (slice_index_or route k no_op).machine == m) (range_with_len 0 (length route)))
 
 abbrev pub operations_on : Shop → ℕ → List Slot
-operations_on shop m =
-    flat_map (λ j. operations_in (route_of shop j) m j) (range_with_len 0 (length shop.jobs))
+operations_on shop m = flat_map (λ j. operations_in (route_of shop j) m j) (range_with_len 0 (length shop.jobs))
 
 pub record AreSlotsOf (shop : Shop) (m : ℕ) (slots : List Slot) : Type 0 where
   pub same : IsPermutation (operations_on shop m) slots

@@ -13,8 +13,8 @@ use std::alloc::{AllocError as NoMemory, Global};
 use std::marker::Model;
 
 /// The operations of an instance by position: machine after machine by rank, each in whole blocks of eight positions
-/// with padding. A machine's operations run by nonincreasing tail down the columns of its blocks. All rows call a machine
-/// by its rank.
+/// with padding. A machine's operations run by nonincreasing tail down the columns of its blocks. All rows call a
+/// machine by its rank.
 #[derive(Drop)]
 pub(crate) struct Positions {
     /// the job of the operation at each position, 0 at padding

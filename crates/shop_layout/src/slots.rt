@@ -22,8 +22,8 @@ pub struct Slot {
     pub tail: u64,
 }
 
-/// Adds the operations of `route`, the route of `job`, to the lists of their machines, each at its machine's rank. Fails
-/// with `NoMemory` if memory runs out.
+/// Adds the operations of `route`, the route of `job`, to the lists of their machines, each at its machine's rank.
+/// Fails with `NoMemory` if memory runs out.
 fn add_operations(
     lists: &mut [Vec<Slot>],
     route: &[Op],

@@ -25,8 +25,7 @@ IsWord-take shop w k word i = let a = sum_by-take-le (λ x. cond (eqb x i) 1 0) 
 -- one more entry is placed
 pub placing-take : (shop : Shop) (w : List ℕ) (i : ℕ) → i < length w
     → placing shop (take (i + 1) w) ≡ place_next shop (placing shop (take i w)) (get_or w i 0)
-placing-take shop w i below =
-    ap (placing shop) (take_more w i 0 below) ∙ placing-snoc shop (take i w) (get_or w i 0)
+placing-take shop w i below = ap (placing shop) (take_more w i 0 below) ∙ placing-snoc shop (take i w) (get_or w i 0)
 
 -- what nothing placed looks like
 pub none_is : (shop : Shop) (s : PlacementState) → s.steps ≡ replicate (length shop.jobs) 0

@@ -1,10 +1,10 @@
 -- What holds of a placing, and of a table that completes it.
 use Rattle.std.proofs.Common.{◌≡◌, ℕ, zero, suc, ◌+◌, ◌≤◌, ◌<◌, max, ◌⊎◌, inl, inr, refl}
-use Rattle.std.proofs.Common.{sym, ◌∙◌, ap, subst, arith, add-one, cond, ltb}
+use Rattle.std.proofs.Common.{sym, ap, subst, arith, add-one, cond, ltb}
 use Rattle.std.proofs.lemmas.Bool.{cases_eq, cases_lt, le-ltb, lt-ltb}
 use Rattle.shop_model.specs.Shop.{Shop, Starts, machine_of, time_of, IsOperation, IsFeasible, finish_of, end_of}
 use Rattle.shop_model.proofs.Ends.{AreDifferent, le-end_of, end_of-le, feasible-in_time, feasible_from}
-use Rattle.shop_model.specs.Word.{Placing, place_next, with_value}
+use Rattle.shop_model.specs.Word.{Placing, place_next}
 use Rattle.shop_model.specs.Checking.{earliest_of, NoneEarly}
 
 -- one more step of job j is placed

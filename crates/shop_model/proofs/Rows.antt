@@ -1,5 +1,5 @@
 -- Worked rows, computed from the definitions.
-use Rattle.std.proofs.Common.{◌≡◌, ℕ, inl, List, [], ◌∷◌, refl, arith, lit<}
+use Rattle.std.proofs.Common.{◌≡◌, ℕ, List, [], ◌∷◌, refl, arith, lit<}
 use Rattle.shop_model.specs.declared.ops.Op.{Op}
 use Rattle.shop_model.specs.declared.ops.OperationId.{OperationId}
 use Rattle.shop_model.specs.declared.checking.Verdict.TheVariants.{Feasible, WrongSize, Unreleased, Early, Overlap}
@@ -39,8 +39,7 @@ abbrev pub shop_r : Shop
 shop_r = record {
   machines = 2;
   jobs = job (op 0 3 ∷ op 1 2 ∷ []) ∷ record { release = 4; route = op 1 2 ∷ op 0 4 ∷ [] } ∷ record {
-    release =
-        7;
+    release = 7;
     route = [];
   } ∷ [];
 }

@@ -8,7 +8,7 @@ use Rattle.shop_model.proofs.Ends.{IsOperation-job}
 use Rattle.std.proofs.lemmas.List.Sums.{sum_by_push, sum_by-cons}
 use Rattle.std.proofs.lemmas.List.{append-nil, get_or_past}
 use Rattle.std.proofs.lemmas.Bool.Decides.{eqb_tells}
-use Rattle.shop_model.specs.Word.{count_of, with_value, IsWord, IsFull}
+use Rattle.shop_model.specs.Word.{count_of, IsWord, IsFull}
 use Rattle.shop_model.specs.Shop.{Shop, ShopJob, no_job, route_of}
 
 -- a word is built from the empty one, one entry after another

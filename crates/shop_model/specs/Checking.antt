@@ -72,8 +72,7 @@ pub record IsFirstOverlap (shop : Shop) (starts : Starts) (j k i l : ℕ) : Type
 abbrev pub IsVerdict : Shop → List (List ℕ) → Verdict → Type 0
 IsVerdict shop rows (Feasible c) = EndsAt shop rows c
 IsVerdict shop rows WrongSize = HasShape shop rows → ⊥
-IsVerdict shop rows (Unreleased j) =
-    HasShape shop rows × IsFirstEarly shop (starts_of rows) j 0
+IsVerdict shop rows (Unreleased j) = HasShape shop rows × IsFirstEarly shop (starts_of rows) j 0
 IsVerdict shop rows (Early j k) = HasShape shop rows × (0 < k)
     × IsFirstEarly shop (starts_of rows) j k
 IsVerdict shop rows (Overlap m p q) = HasShape shop rows × NoneEarly shop (starts_of rows)

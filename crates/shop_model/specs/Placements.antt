@@ -31,8 +31,7 @@ pub record HasNext (shop : Shop) (j : ℕ) (s : PlacementState) : Type 0 where
 
 -- whatever was placed, t is the placement with the next step of j
 abbrev pub PlacesNext : Shop → ℕ → PlacementState → PlacementState → Type 0
-PlacesNext shop j s t =
-    (p : Placing) → IsPlacement shop p s → IsPlacement shop (place_next shop p j) t
+PlacesNext shop j s t = (p : Placing) → IsPlacement shop p s → IsPlacement shop (place_next shop p j) t
 
 -- whatever was placed, the next step of j begins then
 abbrev pub TellsNextStart : Shop → ℕ → PlacementState → ℕ → Type 0

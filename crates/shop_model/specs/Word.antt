@@ -41,8 +41,7 @@ pub record Placing : Type 0 where
   pub begins : Starts
 
 abbrev pub none_placed : Shop → Placing
-none_placed shop =
-    record { steps = λ j. 0; ready = λ j. release_of shop j; free = λ m. 0; begins = λ j k. 0 }
+none_placed shop = record { steps = λ j. 0; ready = λ j. release_of shop j; free = λ m. 0; begins = λ j k. 0 }
 
 -- The next step of job j begins as soon as the job and its machine can.
 abbrev pub place_next : Shop → Placing → ℕ → Placing

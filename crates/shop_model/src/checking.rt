@@ -82,8 +82,8 @@ pub fn makespan(instance: &Instance, table: &Table) -> u64
     end
 }
 
-/// Answers the verdict on a table of the right shape in which no operation begins too early. `overlap` is its first pair
-/// of operations that overlap, if there is one.
+/// Answers the verdict on a table of the right shape in which no operation begins too early. `overlap` is its first
+/// pair of operations that overlap, if there is one.
 fn verdict_of(
     instance: &Instance,
     table: &Table,

@@ -128,8 +128,7 @@ module _ (shop : Shop) (w : List ℕ) (starts : Starts) (word : IsWord shop w) (
       in let others : next_end shop p c ≤ starts i l → HasChild shop w (conflict_among shop p (j ∷ js))
       starts = (λ late.
       let r = moved c op (λ a b ab h mm different. elim (cases_same a b i l) [
-        | inl s ↦ subst (λ x. next_end shop p c ≤ starts x b) (sym s.0)
-            (subst (λ y. next_end shop p c ≤ starts i y) (sym s.1) late)
+        | inl s ↦ grind arith
         | inr d ↦ (let x = first.first a b ab h mm d in omega arith)
       ])
       in record {

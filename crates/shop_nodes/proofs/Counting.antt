@@ -1,6 +1,6 @@
 -- How many operations a word holds: it is full exactly where it lacks none, and no word is long.
 use Rattle.std.proofs.Common.{◌≡◌, ℕ, zero, suc, ◌+◌, ◌≤◌, ◌<◌, inl, inr, cond, List, [], ◌∷◌, length, get_or}
-use Rattle.std.proofs.Common.{refl, ◌∙◌, ap, arith, eqb}
+use Rattle.std.proofs.Common.{refl, ap, arith, eqb}
 use Rattle.std.specs.List.{sum_by}
 use Rattle.std.proofs.lemmas.Bool.{cases_eq, cases_lt}
 use Rattle.std.proofs.lemmas.Bool.Decides.{eqb_tells}
@@ -76,8 +76,7 @@ count_sum shop (x ∷ w) word =
     in let word' : IsWord shop w = (λ j. let a = cons j in let b = word j in omega arith)
     in let first : 0 < length (route_of shop x) = (let a = cons x in let b = word x
     in elim (eqb_tells x x) [
-      | inl e ↦ (let c : count_of x (x ∷ w) ≡ 1 + count_of x w = a
-          ∙ ap (λ t. cond t 1 0 + count_of x w) e.0 in omega arith)
+      | inl e ↦ grind arith
       | inr e ↦ absurd (e.1 refl)
     ])
     in let below = IsOperation-job shop x 0 first

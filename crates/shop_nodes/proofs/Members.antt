@@ -66,8 +66,7 @@ module _ {A : Type 0} where
     | inl e ↦ rw e (elim h [ inl s ↦ inl s | inr g ↦ inr (in_filter test x ys g t) ])
     | inr e ↦ rw e (elim h [
       | inl s ↦ (let u : test x ≡ test y = ap test s in absurd (cc))
-      | inr g ↦
-          in_filter test x ys g t
+      | inr g ↦ grind (arith, in_filter test x ys g t)
     ])
   ]
 
@@ -123,6 +122,5 @@ pub in_range : (a n j : ℕ) → a ≤ j → j < a + n → In j (range_with_len 
 in_range a zero j h k = absurd (omega arith)
 in_range a (suc n) j h k = elim (cases_eq j a) [
   | inl e ↦ inl e
-  | inr ne ↦
-      inr (in_range (a + 1) n j (omega arith) (omega arith))
+  | inr ne ↦ grind (arith, in_range (a + 1) n j (omega arith) (omega arith))
 ]

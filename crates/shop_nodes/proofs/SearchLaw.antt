@@ -1,7 +1,6 @@
 -- A walk loses no table: its best is at most the end of each table under its word, or one that ends no later lies under
 -- a word left.
-use Rattle.std.proofs.Common.{◌≡◌, ℕ, zero, suc, ◌≤◌, ◌⊎◌, inl, inr, Bool, true, false, List, [], ◌∷◌, refl, subst}
-use Rattle.std.proofs.Common.{arith, leb}
+use Rattle.std.proofs.Common.{◌≡◌, ℕ, zero, suc, ◌≤◌, ◌⊎◌, inl, inr, Bool, true, false, List, [], ◌∷◌, refl, arith, leb}
 use Rattle.std.specs.List.{fold}
 use Rattle.std.proofs.lemmas.Bool.{leb-true, leb-false}
 use Rattle.shop_model.specs.Shop.{Shop, Starts, end_of}
@@ -41,8 +40,7 @@ cut_goes_on true s go h = record { best = omega arith; left = λ v k. k }
 cut_goes_on false s go h = h refl
 
 pub walk_goes_on : (shop : Shop) (n : ℕ) (s : Walk) (w : List ℕ) → GoesOn s (walk_within shop n s w)
-walk_goes_on shop zero s w = taking_goes_on s.budget s w _ (λ t. cut_goes_on (leb t.best (lb shop w)) t _
-    (λ e. record { best = (let a = leb-false t.best (lb shop w) e in omega arith); left = λ v k. k }))
+walk_goes_on shop zero s w = grind (arith, taking_goes_on, cut_goes_on, leb-false)
 walk_goes_on shop (suc n) s w = taking_goes_on s.budget s w _ (λ t. cut_goes_on (leb t.best (lb shop w)) t _
     (λ e. fold_goes_on (walk_within shop n) (walk_goes_on shop n) t (branch shop w)))
 
@@ -83,8 +81,7 @@ pub fold_reaches : (shop : Shop) (f : Walk → List ℕ → Walk) (starts : Star
     → (s : Walk) (ws : List (List ℕ)) → In v ws → Reaches shop (fold f s ws) starts
 fold_reaches shop f starts v g r s [] h = absurd h
 fold_reaches shop f starts v g r s (w ∷ ws) h = elim h [
-  | inl e ↦ reaches_on shop (f s w) (fold f (f s w) ws) starts (fold_goes_on f g (f s w) ws)
-      (subst (λ x. Reaches shop (f s x) starts) e (r s))
+  | inl e ↦ grind (arith, reaches_on, fold_goes_on)
   | inr k ↦ fold_reaches shop f starts v g r (f s w) ws k
 ]
 

@@ -13,8 +13,7 @@ use Rattle.shop_nodes.specs.Walking.{Walk, sheet}
 use Rattle.shop_nodes.specs.declared.pieces.Piece.{Piece}
 
 abbrev pub walk_told : Option (List ℕ) → ℕ → List (List ℕ) → ℕ → Walk
-walk_told found best left budget =
-    record { found = found; best = best; left = left; budget = budget }
+walk_told found best left budget = record { found = found; best = best; left = left; budget = budget }
 
 abbrev pub words_below : Shop → ℕ → List (List ℕ) → List (List ℕ)
 words_below shop c ws = filter (λ w. nat_lt (lb shop w) c) ws

@@ -80,8 +80,7 @@ IsWithoutFirst hs rest = (h : Waiting) → h ≡ slice_index_or hs 0 h → IsPer
 -- the operation that is taken out is released by the clock; none where all come later
 abbrev pub TakesReleased : ℕ → List Coming → List Coming → Option ℕ → Type 0
 TakesReleased clock cs rest None = (rest ≡ cs) × ComeLater clock cs
-TakesReleased clock cs rest (Some k) =
-    (c : Coming) × IsPermutation cs (c ∷ rest) × (c.0.0 ≤ clock) × (c.1 ≡ k)
+TakesReleased clock cs rest (Some k) = (c : Coming) × IsPermutation cs (c ∷ rest) × (c.0.0 ≤ clock) × (c.1 ≡ k)
 
 -- both heaps have room for n operations
 pub record HasRoom (n : ℕ) (q : Queue) : Type 0 where

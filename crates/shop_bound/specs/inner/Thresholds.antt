@@ -25,5 +25,4 @@ tail_at ts i = (slice_index_or ts i no_triple).tail
 
 -- the greatest span over all pairs of a head and a tail that occur
 abbrev pub greatest_span_of : List Triple → ℕ
-greatest_span_of ts =
-    greatest_of (λ first. greatest_of (λ last. span_above ts first.head last.tail) ts) ts
+greatest_span_of ts = greatest_of (λ first. greatest_of (λ last. span_above ts first.head last.tail) ts) ts

@@ -18,8 +18,7 @@ abbrev pub AreReplaced : Shop → Placing → List ℕ → List Replaced → Typ
 AreReplaced shop p [] [] = Unit {0}
 AreReplaced shop p [] (r ∷ rs) = ⊥
 AreReplaced shop p (j ∷ js) [] = ⊥
-AreReplaced shop p (j ∷ js) (r ∷ rs) =
-    IsReplaced shop p j r × AreReplaced shop (place_next shop p j) js rs
+AreReplaced shop p (j ∷ js) (r ∷ rs) = IsReplaced shop p j r × AreReplaced shop (place_next shop p j) js rs
 
 pub record IsDesk (d : Inside) : Type 0 where
   pub limits : IsWithinLimits d.instance.now

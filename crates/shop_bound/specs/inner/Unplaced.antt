@@ -38,5 +38,4 @@ bound_on shop p m = max (p.free m) (one (triples_on m (waiting shop p)))
 
 -- for every placing with these ends, b is the greatest of the machines' bounds
 abbrev pub IsGreatestBound : Shop → PlacementState → ℕ → Type 0
-IsGreatestBound shop s b =
-    (p : Placing) → IsPlacement shop p s → b ≡ greatest_below shop.machines (bound_on shop p)
+IsGreatestBound shop s b = (p : Placing) → IsPlacement shop p s → b ≡ greatest_below shop.machines (bound_on shop p)

@@ -18,17 +18,14 @@ abbrev pub rank_of : ℕ → ℕ → ℕ
 rank_of count p = p % 8 * count + p / 8
 
 abbrev pub AreClocks : {B : Type 0} → (B → List ℕ) → ℕ → List Lane → ℕ → B → Type 0
-AreClocks numbers count xs j clocks =
-    numbers clocks ≡ eight (λ k. clock_after 1 0 (take (k * count + j) xs))
+AreClocks numbers count xs j clocks = numbers clocks ≡ eight (λ k. clock_after 1 0 (take (k * count + j) xs))
 
 abbrev pub AreLoadsBefore : {B : Type 0} → (B → List ℕ) → ℕ → List Lane → B → Type 0
-AreLoadsBefore numbers count xs most =
-    numbers most ≡ eight (λ k. span 1 0 (take (k * count) xs))
+AreLoadsBefore numbers count xs most = numbers most ≡ eight (λ k. span 1 0 (take (k * count) xs))
 
 -- `end` is the greatest end behind rank r; any number up to the clock if nothing waits there
 abbrev pub IsLoadBehind : List Lane → ℕ → ℕ → Type 0
-IsLoadBehind xs r end =
-    max (clock_after 1 0 (take r xs)) end ≡ clock_after 1 0 (take r xs) + span 1 0 (drop r xs)
+IsLoadBehind xs r end = max (clock_after 1 0 (take r xs)) end ≡ clock_after 1 0 (take r xs) + span 1 0 (drop r xs)
 
 pub record AreLoadsBehind {B : Type 0} (numbers : B → List ℕ) (count : ℕ) (xs : List Lane) (j : ℕ)
     (behind : B) : Type 0 where

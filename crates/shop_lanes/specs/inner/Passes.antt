@@ -31,8 +31,7 @@ pub record AreColumns {B : Type 0} (numbers : B → List ℕ) (count : ℕ) (xs 
 
 -- the times of the lanes that wait, 0 in the others
 abbrev pub times_served : {B : Type 0} → (B → List ℕ) → B → B → B → List ℕ
-times_served numbers heads times least =
-    waiting (first_of (numbers least)) (numbers heads) (numbers times)
+times_served numbers heads times least = waiting (first_of (numbers least)) (numbers heads) (numbers times)
 
 -- no sum is above what a lane holds
 pub record FitServed {B : Type 0} (limit : ℕ) (numbers : B → List ℕ)

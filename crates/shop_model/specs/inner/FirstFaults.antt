@@ -50,5 +50,4 @@ TellsFirstOverlapOf shop starts j (Some p) = IsFirstOverlapOf shop starts j p.0 
 -- the first pair of operations that aren't apart, if there is one
 abbrev pub TellsFirstOverlap : Shop → Starts → Option (OperationId × OperationId) → Type 0
 TellsFirstOverlap shop starts None = AllApart shop starts
-TellsFirstOverlap shop starts (Some p) =
-    IsFirstOverlap shop starts p.0.job p.0.step p.1.job p.1.step
+TellsFirstOverlap shop starts (Some p) = IsFirstOverlap shop starts p.0.job p.0.step p.1.job p.1.step

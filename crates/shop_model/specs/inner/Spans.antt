@@ -11,8 +11,7 @@ abbrev pub span_at : List Op → List ℕ → ℕ → Occupied
 span_at route row k = record {
   machine = machine_at route k;
   start = slice_index row k;
-  finish =
-      finish_at route row k;
+  finish = finish_at route row k;
 }
 
 -- those of a job, and those of all jobs

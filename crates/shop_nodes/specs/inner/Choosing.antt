@@ -33,12 +33,10 @@ IsNextIfAny shop w j None = length (route_of shop j) ≤ (placing shop w).steps 
 IsNextIfAny shop w j (Some n) = IsNext shop (placing shop w) j n
 
 abbrev pub is_in_conflict : NextOperation → NextOperation → Bool
-is_in_conflict n chosen =
-    n.job == chosen.job || (n.machine == chosen.machine && nat_lt n.head chosen.end)
+is_in_conflict n chosen = n.job == chosen.job || (n.machine == chosen.machine && nat_lt n.head chosen.end)
 
 abbrev pub open_below : Shop → Placing → ℕ → List ℕ
-open_below shop p n =
-    filter (λ j. nat_lt (p.steps j) (length (route_of shop j))) (range_with_len 0 n)
+open_below shop p n = filter (λ j. nat_lt (p.steps j) (length (route_of shop j))) (range_with_len 0 n)
 
 abbrev pub IsChoice : Shop → Placing → List ℕ → Option NextOperation → Type 0
 IsChoice shop p [] None = Unit {0}

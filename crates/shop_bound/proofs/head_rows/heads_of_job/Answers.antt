@@ -1,6 +1,5 @@
 use Rattle.std.proofs.Common.{List, length, ◌∙◌, sym, ap, arith, rules}
 use Rattle.shop_model.specs.declared.ops.Op.{Op}
-use Rattle.shop_bound.specs.Heads.{head_if_left}
 use Rattle.shop_bound.proofs.Filled.{filled_more}
 use Rattle.shop_bound.proofs.HeadTurns.{ends_of_word, ready_first, placed_turn, left_turn, left_small}
 use Rattle.shop_bound.proofs.head_rows.heads_of_job.Goals as goal

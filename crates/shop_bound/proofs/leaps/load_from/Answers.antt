@@ -20,7 +20,8 @@ loop-t-preserved c =
     in subst (λ (ys : List Triple). IsLoadOf ys c.args.from c.if-from-t.time c.if-from-t.load)
     (sym (take_more ts k no_triple c.loop-t-test.true))
     (elim c.if-from-t.branch [
-      | then-from-t w ↦ (let more : w.max-load.result ≡ max c.loop-t.load (c.loop-t.time + x.time + x.tail) = search rules
+      | then-from-t w ↦ (let more : w.max-load.result ≡ max c.loop-t.load
+          (c.loop-t.time + x.time + x.tail) = search rules
           in rw (w.time-is, w.load-is) (later us x c.args.from c.loop-t.time c.loop-t.load w.max-load.result is more))
       | else-from-t w ↦ rw (w.time-is, w.load-is)
           (earlier us x c.args.from c.loop-t.time c.loop-t.load is (let a = w.if-from-t.false in omega arith))

@@ -1,4 +1,4 @@
-use Rattle.std.proofs.Common.{◌≡◌, max, arith, rules}
+use Rattle.std.proofs.Common.{arith}
 use Rattle.shop_bound.proofs.LeapTurns.{small_in_order, one_in_order}
 use Rattle.shop_bound.proofs.lower.raise.Goals as goal
 

@@ -1,6 +1,5 @@
-use Rattle.std.proofs.Common.{◌+◌, arith, get_or}
+use Rattle.std.proofs.Common.{arith}
 use Rattle.std.proofs.lemmas.List.{length-set}
-use Rattle.shop_model.specs.Shop.{no_op}
 use Rattle.shop_bound.proofs.MachineListTurns.{one_counted, visits_few}
 use Rattle.shop_bound.proofs.machine_lists.add_visits.Goals as goal
 

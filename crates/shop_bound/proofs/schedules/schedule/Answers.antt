@@ -37,13 +37,15 @@ loop-chosen-preserved c = record {
 
 pub returns-clause-bound : goal.returns-clause-bound
 returns-clause-bound c = elim c.loop-chosen.invariant.ready [
-  | inl w ↦ (absurd (none_waits _ _ _ _ c.loop-chosen.invariant.queue.are c.loop-chosen.invariant.later c.in_default.ensures w.0 w.1))
+  | inl w ↦ (absurd (none_waits _ _ _ _ c.loop-chosen.invariant.queue.are c.loop-chosen.invariant.later
+      c.in_default.ensures w.0 w.1))
   | inr d ↦ all_done c.loop-chosen.works c.loop-chosen.clock c.loop-chosen.best c.loop-chosen.invariant.run d
       ∙ ap (λ (ts : List Triple). one ts) c.loop-chosen.invariant.same
 ]
 
 pub returns-clause-each : goal.returns-clause-each
 returns-clause-each c = elim c.loop-chosen.invariant.ready [
-  | inl w ↦ (absurd (none_waits _ _ _ _ c.loop-chosen.invariant.queue.are c.loop-chosen.invariant.later c.in_default.ensures w.0 w.1))
+  | inl w ↦ (absurd (none_waits _ _ _ _ c.loop-chosen.invariant.queue.are c.loop-chosen.invariant.later
+      c.in_default.ensures w.0 w.1))
   | inr d ↦ (let e = undone-none c.loop-chosen.works d in omega (arith, c.loop-chosen.invariant.each))
 ]

@@ -9,31 +9,38 @@ use Rattle.shop_bound.proofs.schedules.serve.Goals as goal
 
 pub overflow_add-end : goal.overflow_add-end
 overflow_add-end c =
-    let h = end_small c.args.works.now c.args.clock c.args.best.now c.args.chosen c.requires.run (first_served _ _ _ _ c.requires.queue.are c.requires.later c.args.chosen c.requires.chosen)
+    let h = end_small c.args.works.now c.args.clock c.args.best.now c.args.chosen c.requires.run (first_served _ _ _ _
+    c.requires.queue.are c.requires.later c.args.chosen c.requires.chosen)
     c.requires.small in omega arith
 
 pub returns-then-stop-end-clause-run : goal.returns-then-stop-end-clause-run
 returns-then-stop-end-clause-run c =
     held_run c.args.works.now c.args.clock c.args.best.now c.args.chosen c.stop_of_turn-stop.result c.requires.run
-    (first_served _ _ _ _ c.requires.queue.are c.requires.later c.args.chosen c.requires.chosen) (c.stop_of_turn-stop.ensures c.args.works.now c.args.clock c.requires.queue c.requires.later (omega arith))
+    (first_served _ _ _ _ c.requires.queue.are c.requires.later c.args.chosen c.requires.chosen)
+    (c.stop_of_turn-stop.ensures c.args.works.now c.args.clock c.requires.queue c.requires.later (omega arith))
 
 pub returns-then-stop-end-clause-same : goal.returns-then-stop-end-clause-same
 returns-then-stop-end-clause-same c = grind (arith, triples-set, held)
 
 pub returns-then-stop-end-clause-fewer : goal.returns-then-stop-end-clause-fewer
 returns-then-stop-end-clause-fewer c =
-    held_fewer c.args.works.now c.args.clock c.args.chosen c.stop_of_turn-stop.result (first_served _ _ _ _ c.requires.queue.are c.requires.later c.args.chosen c.requires.chosen)
-    (c.stop_of_turn-stop.ensures c.args.works.now c.args.clock c.requires.queue c.requires.later (omega arith)) c.if-stop-end.true
+    held_fewer c.args.works.now c.args.clock c.args.chosen c.stop_of_turn-stop.result (first_served _ _ _ _
+    c.requires.queue.are c.requires.later c.args.chosen c.requires.chosen)
+    (c.stop_of_turn-stop.ensures c.args.works.now c.args.clock c.requires.queue c.requires.later (omega arith))
+    c.if-stop-end.true
 
 pub overflow_add-reached : goal.overflow_add-reached
 overflow_add-reached c =
-    let h = end_small c.args.works.now c.args.clock c.args.best.now c.args.chosen c.requires.run (first_served _ _ _ _ c.requires.queue.are c.requires.later c.args.chosen c.requires.chosen)
+    let h = end_small c.args.works.now c.args.clock c.args.best.now c.args.chosen c.requires.run (first_served _ _ _ _
+    c.requires.queue.are c.requires.later c.args.chosen c.requires.chosen)
     c.requires.small in omega arith
 
 pub returns-clause-run : goal.returns-clause-run
 returns-clause-run c =
     let h = finished_run c.args.works.now c.args.clock c.args.best.now c.args.chosen c.stop_of_turn-stop.result
-    c.requires.run (first_served _ _ _ _ c.requires.queue.are c.requires.later c.args.chosen c.requires.chosen) (c.stop_of_turn-stop.ensures c.args.works.now c.args.clock c.requires.queue c.requires.later (omega arith)) c.if-stop-end.false
+    c.requires.run (first_served _ _ _ _ c.requires.queue.are c.requires.later c.args.chosen c.requires.chosen)
+    (c.stop_of_turn-stop.ensures c.args.works.now c.args.clock c.requires.queue c.requires.later (omega arith))
+    c.if-stop-end.false
     in let m : c.max.result ≡ max (c.args.clock + left_of c.args.works.now
     c.args.chosen + (work_at c.args.works.now c.args.chosen).triple.tail) c.args.best.now = search rules
     in subst (λ (b : ℕ). IsRun (set c.args.works.now c.args.chosen (finished c.args.works.now c.args.chosen))
@@ -43,7 +50,8 @@ pub returns-clause-same : goal.returns-clause-same
 returns-clause-same c = triples-set c.args.works.now c.args.chosen (finished c.args.works.now c.args.chosen) refl
 
 pub returns-clause-fewer : goal.returns-clause-fewer
-returns-clause-fewer c = finished_fewer c.args.works.now c.args.clock c.args.chosen (first_served _ _ _ _ c.requires.queue.are c.requires.later c.args.chosen c.requires.chosen)
+returns-clause-fewer c = finished_fewer c.args.works.now c.args.clock c.args.chosen (first_served _ _ _ _
+    c.requires.queue.are c.requires.later c.args.chosen c.requires.chosen)
 
 pub returns-then-stop-end-clause-single : goal.returns-then-stop-end-clause-single
 returns-then-stop-end-clause-single c = grind (arith, undone-set, held, first_served)

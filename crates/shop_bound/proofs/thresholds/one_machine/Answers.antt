@@ -37,7 +37,6 @@ loop-first-preserved c =
 pub returns : goal.returns
 returns c =
     let ts = c.args.triples.now
+    in let most_of : Triple → ℕ = λ (s : Triple). greatest_of (λ (t : Triple). span_above ts s.head t.tail) ts
     in let all = take_all c.loop-first.first-index ts (omega (arith, c.loop-first-test.false))
-    in c.loop-first.invariant
-    ∙ (ap (λ (us : List Triple). greatest_of (λ (s : Triple). greatest_of (λ (t : Triple). span_above ts s.head t.tail) ts) us) all
-    ∙ thresholds ts)
+    in c.loop-first.invariant ∙ (ap (greatest_of most_of) all ∙ thresholds ts)

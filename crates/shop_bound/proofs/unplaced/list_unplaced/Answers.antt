@@ -1,9 +1,6 @@
-use Rattle.std.proofs.Common.{◌≡◌, ◌∙◌, ℕ, List, length, ◌<◌, ap, arith, rules}
-use Rattle.std.specs.List.{flat_map, range_with_len}
+use Rattle.std.proofs.Common.{List, length, ◌<◌, ap, arith, rules}
 use Rattle.std.proofs.lemmas.List.Sums.{sum_by-take-le}
-use Rattle.shop_bound.specs.Bound.{waiting_of, triples_on}
 use Rattle.shop_model.specs.declared.ops.Op.{Op}
-use Rattle.shop_bound.specs.inner.MachineLists.{visits}
 use Rattle.shop_bound.proofs.MachineListTurns.{none_listed, one_listed, room_for_rest}
 use Rattle.shop_bound.proofs.UnplacedTurns.{steps_within, can_go_on, unplaced_of_job, rest_is}
 use Rattle.shop_bound.proofs.unplaced.list_unplaced.Goals as goal

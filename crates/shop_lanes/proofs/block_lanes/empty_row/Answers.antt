@@ -1,4 +1,4 @@
-use Rattle.std.proofs.Common.{◌≡◌, ◌∙◌, ◌+◌, ◌-◌, ◌*◌, ◌/◌, ◌++◌, sym, ap, length, map, drop, take, replicate, arith}
+use Rattle.std.proofs.Common.{arith}
 use Rattle.std.proofs.lemmas.List.{length-map, length-replicate, take-replicate}
 use Rattle.shop_lanes.proofs.EmptyRows.{is_cleared}
 use Rattle.shop_lanes.proofs.block_lanes.empty_row.Goals as goal

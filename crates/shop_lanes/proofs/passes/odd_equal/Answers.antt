@@ -1,6 +1,5 @@
-use Rattle.std.proofs.Common.{◌*◌, ◌/◌, ◌==◌, ◌∙◌, ap, arith, map}
+use Rattle.std.proofs.Common.{arith}
 use Rattle.std.proofs.lemmas.List.{length-map}
-use lib.Lanes.{mask_l}
 use Rattle.shop_lanes.proofs.BlockMasks.{no_odd, odd_block}
 use Rattle.shop_lanes.proofs.passes.odd_equal.Goals as goal
 

@@ -1,5 +1,5 @@
 use Rattle.std.proofs.lemmas.List.Sorted.{All-permutation}
-use Rattle.std.proofs.Common.{arith, get_or, ◌+◌}
+use Rattle.std.proofs.Common.{arith}
 use Rattle.shop_model.specs.inner.Spans.{spans_of}
 use Rattle.shop_model.specs.inner.ClearSpans.{ArePartedSpans}
 use Rattle.shop_model.proofs.SwappedPairs.{AllPairs-permutation}

@@ -22,7 +22,8 @@ loop-job-preserved-then-not-conflicts_with c =
     in let test : conflicts_with shop p chosen.job now.job ≡ false =
     sym (conflicts-is shop p chosen.job now.job chosen c.in-Some.next c.requires c.in-Some.ensures)
     ∙ sym c.if-not-conflicts_with.ensures
-    in now.invariant ∙ sym (conflict-step shop p chosen.job now.job false c.in-Some.ensures.operation test ∙ append-nil _)
+    in now.invariant ∙ sym (conflict-step shop p chosen.job now.job false c.in-Some.ensures.operation test
+    ∙ append-nil _)
 
 pub loop-job-preserved : goal.loop-job-preserved
 loop-job-preserved c =

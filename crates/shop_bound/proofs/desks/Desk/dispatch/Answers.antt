@@ -44,7 +44,8 @@ pub unwrap-requires-2 : goal.unwrap-requires-2
 unwrap-requires-2 c =
     let left = room_left c.self.inside.instance.now c.self.inside.jobs.items c.args.job
     (subst (λ (s : DeskState). IsWord s.shop (s.word ++ c.args.job ∷ [])) (sym c.self.view_is) c.requires)
-    in let many = replaced_many c.self.inside.instance.now (none_placed c.self.inside.instance.now) c.self.inside.jobs.items
+    in let many = replaced_many c.self.inside.instance.now (none_placed c.self.inside.instance.now)
+    c.self.inside.jobs.items
     c.self.inside.replaced.items c.self.invariant.replaced
     in let long = c.self.inside.replaced.ok.0 in let room = c.self.invariant.replaced_room
     in c.push-2.ensures.succeeds (omega arith)
@@ -55,6 +56,7 @@ invariant_of-self c =
     in dispatched c.self.inside c.args.job c.self.invariant fits _ refl
     (rw c.unwrap.ensures at c.push.ensures.items) (record { ready = c.ready-ready.result; free = c.free-free.result })
     (rw c.unwrap-2.ensures at c.push-2.ensures.items)
-    (replaced_is c.self.inside c.args.job c.self.invariant fits c.route.result.now c.route.ensures.route c.steps-step.result
+    (replaced_is c.self.inside c.args.job c.self.invariant fits c.route.result.now c.route.ensures.route
+    c.steps-step.result
     c.steps-step.ensures c.ready-ready.result c.ready-ready.ensures c.free-free.result c.free-free.ensures)
     c.place_next-start.ensures.placed c.push.ensures.capacity c.push-2.ensures.capacity refl

@@ -1,6 +1,5 @@
-use Rattle.std.proofs.Common.{ℕ, List, ap, arith, get_or, length}
+use Rattle.std.proofs.Common.{arith}
 use Rattle.std.proofs.lemmas.List.{length-map}
-use Rattle.std.specs.Prelude.{vec_capacity}
 use Rattle.shop_bound.proofs.Lists.{get_or-le-greatest_of}
 use Rattle.shop_bound.proofs.lower.BoundRoom.of.Goals as goal
 

@@ -13,7 +13,8 @@ pub returns-clause-queue : goal.returns-clause-queue
 returns-clause-queue c =
     let v = c.loop-i.invariant in let r = c.requires
     in record {
-      are = subst (λ (hs : List Waiting). AreQueued (map fresh c.args.triples.now) 0 (heap_items c.loop-i.self.coming) hs)
+      are = subst (λ (hs : List Waiting).
+          AreQueued (map fresh c.args.triples.now) 0 (heap_items c.loop-i.self.coming) hs)
           (sym v.waiting)
           (queued_all c.args.triples.now c.loop-i.i (heap_items c.loop-i.self.coming) (omega arith) v.listed);
       room = omega arith;

@@ -1,4 +1,4 @@
-use Rattle.std.proofs.Common.{◌≡◌, ◌<◌, arith, length, refl, rules}
+use Rattle.std.proofs.Common.{◌≡◌, arith, refl}
 use Rattle.std.specs.BinaryHeap.{heap_capacity}
 use Rattle.shop_bound.proofs.QueueTurns.{queue_more, taken_here}
 use Rattle.shop_bound.proofs.queues.Queue.release.Goals as goal
@@ -18,7 +18,8 @@ loop-position-preserved c =
     in let same : heap_capacity c.pop_released.new.self.waiting ≡ heap_capacity c.loop-position.self.waiting =
     rw t.waiting refl
     in record {
-      queue = queue_more c.args.works.now c.args.clock c.in-Some.position c.loop-position.self c.pop_released.new.self _ v.queue
+      queue = queue_more c.args.works.now c.args.clock c.in-Some.position c.loop-position.self
+          c.pop_released.new.self _ v.queue
           t.taken t.fewer t.waiting refl _ (rw c.unwrap.ensures at p.permutation) refl refl
           (rw c.unwrap.ensures at p.len) p.capacity;
       room = record { coming = omega arith; waiting = omega arith };

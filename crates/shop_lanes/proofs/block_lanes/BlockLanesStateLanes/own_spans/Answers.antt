@@ -1,5 +1,4 @@
-use Rattle.std.proofs.Common.{arith, subst, sym}
-use Rattle.shop_lanes.specs.Spans.{FitOwnSpans}
+use Rattle.std.proofs.Common.{arith}
 use Rattle.shop_lanes.proofs.OwnRows.{owns_of_cut}
 use Rattle.shop_lanes.proofs.RowValues.{lanes_of_cut, long_cut}
 use Rattle.shop_lanes.proofs.block_lanes.BlockLanesStateLanes.own_spans.Goals as goal

@@ -1,4 +1,4 @@
-use Rattle.std.proofs.Common.{◌∙◌, sym, arith}
+use Rattle.std.proofs.Common.{arith}
 use Rattle.shop_lanes.proofs.MarkLemmas.{set_bits-lowest, set_bits-zero}
 use Rattle.shop_lanes.proofs.marking.Marks.pop_first.Goals as goal
 

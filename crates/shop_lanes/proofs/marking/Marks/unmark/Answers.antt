@@ -1,4 +1,4 @@
-use Rattle.std.proofs.Common.{◌≡◌, ℕ, ◌+◌, ◌-◌, ◌%◌, ◌*◌, ◌^◌, ◌≤◌, ◌<◌, ap, arith, refl, sym, ◌∙◌, bit_and, w64}
+use Rattle.std.proofs.Common.{◌≡◌, ℕ, ◌+◌, ◌-◌, ◌%◌, ◌*◌, ◌^◌, ◌≤◌, ◌<◌, ap, arith, refl, ◌∙◌, bit_and, w64}
 use Rattle.std.specs.Int.{bit_at, bit_not}
 use Rattle.std.proofs.lemmas.Nat.Bits.{bit_at_clear_other, bit_at_clear_same}
 use Rattle.shop_lanes.specs.Marks.{without}
@@ -21,7 +21,8 @@ returns-then-place-lt64 c =
     in let at = place_at position first place c.ranges.position.fits c.self.invariant.0 refl inside
     in set_bits-without 64 first bits _ position
     (λ i here ne. bit_at_clear_other w64 bits place inside i here (λ e. ne (ap (λ k. first + k) e ∙ at)))
-    (λ i here e. ap (bit_at (bit_and bits (bit_not w64 (1 * 2 ^ place % 2 ^ 64)))) (place_is position first place c.ranges.position.fits c.self.invariant.0 refl i here e)
+    (λ i here e. ap (bit_at (bit_and bits (bit_not w64 (1 * 2 ^ place % 2 ^ 64)))) (place_is position first place
+    c.ranges.position.fits c.self.invariant.0 refl i here e)
     ∙ bit_at_clear_same w64 bits place inside)
     ∙ ap (without position) c.self.view_is
 

@@ -1,4 +1,4 @@
-use Rattle.std.proofs.Common.{◌≡◌, ◌∙◌, ℕ, ◌≤◌, ◌<◌, ◌^◌, List, ap, arith, length, subst, sym}
+use Rattle.std.proofs.Common.{◌≡◌, ◌∙◌, ℕ, ◌≤◌, ◌<◌, ◌^◌, List, ap, arith, length, subst}
 use Rattle.std.specs.List.{All, flat_map}
 use Rattle.shop_model.specs.Shop.{Shop}
 use Rattle.shop_layout.specs.LaidOuts.{IsReady}
