@@ -67,8 +67,7 @@ pub cut_to_end : (line : List ℕ) (start value n : ℕ) → position (λ b. not
     (take (length (take (length line - start) (drop start line)) - length
     (take (length line - start) (drop start line)))
     (drop (length (take (length line - start) (drop start line))) (take (length line - start) (drop start line))))
-cut_to_end line start value n e l h =
-    grind (arith, common_steps, take_all, tokens_to_end, no_end, value_fits, l.are, l.is, l.fits)
+cut_to_end line start value n e l h = grind (arith, common_steps, take_all, tokens_to_end, no_end, value_fits)
 
 pub cut_at : (line : List ℕ) (start value n : ℕ) → position (λ b. not (is_separator b)) line ≡ Some start
     → AreLeadingDigits (take (length line - start) (drop start line)) value n
@@ -77,4 +76,4 @@ pub cut_at : (line : List ℕ) (start value n : ℕ) → position (λ b. not (is
     → IsNumberCut line (Some value)
     (take (length (take (length line - start) (drop start line)) - (n + 1))
     (drop (n + 1) (take (length line - start) (drop start line))))
-cut_at line start value n e l h here = grind (arith, common_steps, tokens_at, end_here, value_fits, l.are, l.is, l.fits)
+cut_at line start value n e l h here = grind (arith, common_steps, tokens_at, end_here, value_fits)

@@ -35,8 +35,7 @@ ok_since (Err e) h p = absurd (h.0 refl p)
 pub all_there : (wanted machines : ℕ) (times : List (Vec ℕ Global)) (old jobs : List Job) (job : Job)
     → IsDraftWithin wanted machines times old → 0 < wanted → IsJobWithin machines job → jobs ≡ old ++ job ∷ []
     → AreJobsWithin machines jobs
-all_there wanted machines times old jobs job w some within e =
-    grind (arith, common_steps, length-append, w.room, w.few_jobs, w.some_machine, w.few_machines, w.each_job)
+all_there wanted machines times old jobs job w some within e = grind (arith, common_steps, length-append)
 
 -- ---- the job of a row
 
@@ -186,22 +185,7 @@ taillard_next draft n held row r some all at h (size ∷ rows) written d e =
 pub taillard_lens : (draft : Draft) (size : Row) (rows : List Row) → HoldsRows Taillard draft size rows
     → (length draft.times.items ≡ min draft.jobs_wanted (length rows)) × (length rows
     ≡ length draft.times.items + length draft.jobs.items)
-taillard_lens draft size rows d =
-    grind (
-      arith,
-      common_steps,
-      length-map,
-      length-take,
-      length-drop,
-      length-zip,
-      draft.within.room,
-      d.some_job,
-      draft.times.items,
-      d.times,
-      draft.jobs.items,
-      d.jobs,
-      d.wanted,
-    )
+taillard_lens draft size rows d = grind (arith, common_steps, length-map, length-take, length-drop, length-zip)
 
 -- in the other formats, by the jobs
 pub rows_lens : (job_of : Row → ShopJob) (jobs : List Job) (rows : List Row) → map job_as_given jobs ≡ map job_of rows
@@ -210,11 +194,10 @@ rows_lens job_of jobs rows e = sym (length-map rows job_of) ∙ sym (ap length e
 
 pub skips_full : (draft : Draft) → 0 < length draft.times.items → length draft.jobs.items ≡ 0 → (rows : List Row)
     → IsDraft Taillard draft rows → eqb (length draft.times.items) draft.jobs_wanted ≡ taillard.skips rows
-skips_full draft some none [] d = grind (arith, common_steps, draft.within.no_times)
-skips_full draft some none (size ∷ rows) d =
-    grind (arith, common_steps, taillard_lens, ne_eqb, draft.times.items, d.wanted)
+skips_full draft some none [] d = grind (arith, common_steps)
+skips_full draft some none (size ∷ rows) d = grind (arith, common_steps, taillard_lens, ne_eqb)
 
 pub skips_not : (draft : Draft) → 0 < length draft.jobs.items → (rows : List Row) → IsDraft Taillard draft rows
     → false ≡ taillard.skips rows
-skips_not draft some [] d = grind (arith, common_steps, draft.within.no_jobs)
-skips_not draft some (size ∷ rows) d = grind (arith, common_steps, taillard_lens, ne_eqb, d.wanted, d.some_job)
+skips_not draft some [] d = grind (arith, common_steps)
+skips_not draft some (size ∷ rows) d = grind (arith, common_steps, taillard_lens, ne_eqb)

@@ -29,7 +29,7 @@ pub size_failed : (p : Format) (draft : Draft) (most n : ℕ) (row : Row) (e : R
     → most ≡ (fields_of p).most_in_size → Fails e n (size_line_fault most row) → (rows : List Row) (written : Row)
     → IsDraft p draft rows → row ≡ map capped written → Fails e n ((grammar_of p).refuses rows written)
 size_failed p draft most n row e none em h [] written d er = grind (arith, common_steps, size_line_capped, size_line_is)
-size_failed p draft most n row e none em h (size ∷ rows) written d er = grind (arith, common_steps, d.some_job)
+size_failed p draft most n row e none em h (size ∷ rows) written d er = grind (arith, common_steps)
 
 -- ---- a row of times
 
@@ -41,19 +41,7 @@ times_failed Orlib draft n row e some w h rows written d er = absurd cc
 times_failed Routes draft n row e some w h rows written d er = absurd cc
 times_failed Taillard draft n row e some w h [] written d er = absurd (omega arith)
 times_failed Taillard draft n row e some w h (size ∷ rows) written d er =
-    grind (
-      arith,
-      common_steps,
-      ltb-true,
-      taillard_lens,
-      times_capped,
-      times_refused,
-      draft.times.items,
-      draft.jobs_wanted,
-      d.wanted,
-      draft.machines,
-      d.machines,
-    )
+    grind (arith, common_steps, ltb-true, taillard_lens, times_capped, times_refused)
 
 -- a row of times more
 record IsTimesMore (old new : Draft) (row : Vec ℕ Global) : Type 0 where
@@ -122,22 +110,10 @@ whole_after : (p : Format) (draft : Draft) (job : Job) (size : Row) (rows : List
     → map job_as_given (draft.jobs.items ++ job ∷ []) ≡ jobs_drafted p ((size ∷ rows) ++ written ∷ [])
     → (grammar_of p).is_whole ((size ∷ rows) ++ written ∷ [])
     ≡ eqb (length (draft.jobs.items ++ job ∷ [])) draft.jobs_wanted
-whole_after Orlib draft job size rows written d w e = grind (arith, common_steps, rows_lens, draft.jobs.items, d.wanted)
-whole_after Routes draft job size rows written d w e =
-    grind (arith, common_steps, rows_lens, draft.jobs.items, d.wanted)
+whole_after Orlib draft job size rows written d w e = grind (arith, common_steps, rows_lens)
+whole_after Routes draft job size rows written d w e = grind (arith, common_steps, rows_lens)
 whole_after Taillard draft job size rows written d w e =
-    grind (
-      arith,
-      common_steps,
-      ltb-false,
-      taillard_lens,
-      length-append,
-      same_count,
-      draft.times.items,
-      draft.jobs_wanted,
-      d.wanted,
-      draft.jobs.items,
-    )
+    grind (arith, common_steps, ltb-false, taillard_lens, length-append, same_count)
 
 times_kept : (p : Format) (old new : Draft) (size : Row) (rows : List Row) (written : Row) → HoldsRows p old size rows
     → wants_times p old.jobs_wanted (length old.times.items) ≡ false → new.times ≡ old.times
@@ -145,17 +121,7 @@ times_kept : (p : Format) (old new : Draft) (size : Row) (rows : List Row) (writ
 times_kept Orlib old new size rows written d w e = tt
 times_kept Routes old new size rows written d w e = tt
 times_kept Taillard old new size rows written d w e =
-    grind (
-      arith,
-      common_steps,
-      ltb-false,
-      times_there,
-      take-append-le,
-      old.times.items,
-      old.jobs_wanted,
-      d.wanted,
-      d.times,
-    )
+    grind (arith, common_steps, ltb-false, times_there, take-append-le)
 
 shop_whole : (p : Format) (machines : ℕ) (jobs : List ShopJob) (size : Row) (rows : List Row)
     → machines ≡ machines_in size → jobs ≡ jobs_drafted p (size ∷ rows)

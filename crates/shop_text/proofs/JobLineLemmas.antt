@@ -90,7 +90,7 @@ as_many shop lines rows good = grind (arith, common_steps, length-enumerate_from
 pub good_more : (shop : Shop) (lines : List (ℕ × Tokens)) (rows : List (List ℕ)) (line : ℕ × Tokens) (row : List ℕ)
     → AreJobLines shop lines rows
     → row_in shop (length rows) line.1 ≡ Some row → AreJobLines shop (lines ++ line ∷ []) (rows ++ row ∷ [])
-good_more shop lines rows line row good is = grind (arith, common_steps, enumerate_push, map-append, as_many, line.1)
+good_more shop lines rows line row good is = grind (arith, common_steps, enumerate_push, map-append, as_many)
 
 pub chosen : {X : Type 0} (b : Bool) (x : Option X) (y : X) → cond b x None ≡ Some y → (b ≡ true) × (x ≡ Some y)
 chosen true x y e = (refl, e)
@@ -98,7 +98,7 @@ chosen false x y e = absurd cc
 
 pub is_job_of : (shop : Shop) (j : ℕ) (tokens : Tokens) (row : List ℕ) → row_in shop j tokens ≡ Some row
     → j < length shop.jobs
-is_job_of shop j tokens row e = grind (arith, common_steps, ltb-true, chosen, shop.jobs)
+is_job_of shop j tokens row e = grind (arith, common_steps, ltb-true, chosen)
 
 -- a counted line that is none of the job that waits
 pub bad_line : (shop : Shop) (text : List ℕ) (passed : ℕ) (rest line after : List ℕ) (behind : Tokens)
@@ -106,14 +106,13 @@ pub bad_line : (shop : Shop) (text : List ℕ) (passed : ℕ) (rest line after :
     → lines_of rest ≡ line ∷ lines_of after → tokens_of line ≡ codes "job" ∷ behind
     → None ≡ row_in shop (length rows) (codes "job" ∷ behind) → IsBadAt shop text (passed + 1)
 bad_line shop text passed rest line after behind rows so_far cut is none =
-    grind (arith, common_steps, counted_here, as_many, so_far.before, so_far.cut, so_far.good)
+    grind (arith, common_steps, counted_here, as_many)
 
 -- a line is missed at the end
 pub missed_line : (shop : Shop) (text : List ℕ) (passed : ℕ) (rest : List ℕ) (rows : List (List ℕ))
     → IsReadSoFar shop text passed rest rows
     → length rest ≡ 0 → length rows < length shop.jobs → IsBadAt shop text (passed + 1)
-missed_line shop text passed [] rows so_far none few =
-    grind (arith, common_steps, as_many, so_far.before, so_far.cut, so_far.good, so_far.behind.lines)
+missed_line shop text passed [] rows so_far none few = grind (arith, common_steps, as_many)
 missed_line shop text passed (b ∷ rest) rows so_far none few = absurd (omega arith)
 
 -- a line of the job that waits
@@ -134,4 +133,4 @@ one_more shop text passed rest line after behind rows row so_far cut shorter is 
 
 pub rows_push : (before after : Vec (Vec ℕ Global) Global) (row : Vec ℕ Global)
     → after.items ≡ before.items ++ row ∷ [] → rows_held after ≡ rows_held before ++ row.items ∷ []
-rows_push before after row e = grind (arith, common_steps, map-append, before.items)
+rows_push before after row e = grind (arith, common_steps, map-append)

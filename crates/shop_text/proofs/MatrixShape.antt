@@ -45,7 +45,7 @@ times_row_from size done row few e =
 
 times_row_to : (size : Row) (done : List Row) (row : Row) → length done < jobs_in size
     → TimesRow size row → taillard_refuses (size ∷ done) row ≡ None
-times_row_to size done row few h = grind (arith, common_steps, eq-eqb, lt-ltb, each_to, le-leb, h.len, h.each)
+times_row_to size done row few h = grind (arith, common_steps, eq-eqb, lt-ltb, each_to, le-leb)
 
 machines_row_from : (size : Row) (done : List Row) (row : Row) → jobs_in size ≤ length done
     → taillard_refuses (size ∷ done) row ≡ None → MachinesRow size row
@@ -54,8 +54,7 @@ machines_row_from size done row many e =
 
 machines_row_to : (size : Row) (done : List Row) (row : Row) → jobs_in size ≤ length done
     → MachinesRow size row → taillard_refuses (size ∷ done) row ≡ None
-machines_row_to size done row many h =
-    grind (arith, common_steps, eq-eqb, le-ltb, each_to, and_from, le-leb, h.len, h.each)
+machines_row_to size done row many h = grind (arith, common_steps, eq-eqb, le-ltb, each_to, and_from, le-leb)
 
 -- ---- the rows behind a size line
 
@@ -75,19 +74,15 @@ machines_on_from size done (e ∷ rows) many a =
       no_text,
       machines_row_from,
       length-append,
-      e.before,
-      a.0.text,
-      e.row,
-      a.0.row,
-      a.1,
-      machines_on_from size (done ++ e.row ∷ []) rows (omega (arith, length-append done (e.row ∷ []))) a.1,
+      machines_on_from size (done ++ e.row ∷ [])
+          rows (omega (arith, length-append done (e.row ∷ []))) a.1,
     )
 
 machines_from : (size : Row) (done : List Row) (rows : List Entry) → length done ≡ jobs_in size
     → AreAccepted taillard (size ∷ done) rows → IsMatrix (MachinesRow size) rows
 machines_from size done [] full a = tt
 machines_from size done (e ∷ rows) full a =
-    grind (arith, common_steps, machines_row_from, machines_on_from, length-append, a.0.text.0, e.row, a.0.row, a.1)
+    grind (arith, common_steps, machines_row_from, machines_on_from, length-append)
 
 record IsCut (size : Row) (more : ℕ) (rows : List Entry) : Type 0 where
   times : List Entry
@@ -141,35 +136,15 @@ machines_on_to size done (e ∷ rows) many len h =
       ne_eqb,
       machines_row_to,
       length-append,
-      h.0.no_text,
-      e.row,
-      h.0.is_row,
-      h.1,
-      machines_on_to size (done ++ e.row ∷ []) rows (omega (arith, length-append done (e.row ∷ []))) (omega (
-        arith,
-        len,
-        length-append done (e.row ∷ []),
-      )) h.1,
+      machines_on_to size (done ++ e.row ∷ []) rows
+          (omega (arith, length-append done (e.row ∷ []))) (omega (arith, len, length-append done (e.row ∷ []))) h.1,
     )
 
 machines_to : (size : Row) (done : List Row) (rows : List Entry) → length done ≡ jobs_in size
     → length rows ≡ jobs_in size → IsMatrix (MachinesRow size) rows → AreAccepted taillard (size ∷ done) rows
 machines_to size done [] full len h = tt
 machines_to size done (e ∷ rows) full len h =
-    grind (
-      arith,
-      common_steps,
-      ne_eqb,
-      or_right,
-      eq-eqb,
-      machines_row_to,
-      machines_on_to,
-      length-append,
-      h.0,
-      e.row,
-      h.1,
-      h.2,
-    )
+    grind (arith, common_steps, ne_eqb, or_right, eq-eqb, machines_row_to, machines_on_to, length-append)
 
 times_on_to : (size : Row) (done : List Row) (times machines : List Entry) → 0 < length done
     → length done + length times ≡ jobs_in size → length machines ≡ jobs_in size
@@ -183,16 +158,9 @@ times_on_to size done (e ∷ times) machines some left len h g =
       ne_eqb,
       times_row_to,
       length-append,
-      h.0.no_text,
-      e.row,
-      h.0.is_row,
-      h.1,
-      times_on_to
-          size (done ++ e.row ∷ []) times machines (omega (arith, length-append done (e.row ∷ []))) (omega (
-            arith,
-            left,
-            length-append done (e.row ∷ []),
-          )) len h.1 g,
+      times_on_to size (done ++ e.row ∷ []) times
+          machines (omega (arith, length-append done (e.row ∷ []))) (omega (arith, left, length-append done (e.row ∷ [])))
+          len h.1 g,
     )
 
 -- ---- parts
@@ -244,30 +212,7 @@ behind_to size (top ∷ times) machines some len count h g = (
 )
 
 plain_to : (part : Part) → IsTaillardPart part → IsPart taillard part
-plain_to part p =
-    grind (
-      arith,
-      common_steps,
-      le-leb,
-      size_to,
-      behind_to,
-      eq-eqb,
-      length-map,
-      length-append,
-      p.cut,
-      p.text,
-      p.first.row,
-      p.least,
-      p.most,
-      p.size,
-      p.times,
-      p.machines,
-      p.size.some_job,
-      p.times_count,
-      p.machines_count,
-      p.are_times,
-      p.are_machines,
-    )
+plain_to part p = grind (arith, common_steps, le-leb, size_to, behind_to, eq-eqb, length-map, length-append)
 
 pub taillard_shape : TaillardShape
 taillard_shape part = (plain_from part, plain_to part)

@@ -67,9 +67,8 @@ read_text f begun text ((n, Words words) ∷ more) lines are skips =
       arith,
       common_steps,
       append_assoc,
-      are.1,
-      read_text f begun (text ++ (n, Words words) ∷ []) more lines
-          are.1 skips,
+      read_text f begun (text ++ (n, Words words) ∷ []) more lines are.1
+          skips,
     )
 read_text f begun text ((n, Numbers row) ∷ more) lines are skips = absurd are.0
 read_text f begun text ((n, Blank) ∷ more) lines are skips = absurd are.0
@@ -82,8 +81,7 @@ read_skipped f begun more lines (are, inr skips) = read_text f begun [] more lin
 read_entry : (f : Grammar) (begun : List Entry) (e : Entry) (lines : List Numbered) → IsAccepted f (entry_rows begun) e
     → read f begun [] (lines_of_entry e ++ lines)
     ≡ on_row None e.line (f.is_whole (entry_rows (begun ++ e ∷ []))) (begun ++ e ∷ []) (λ o. read f o [] lines)
-read_entry f begun e lines a =
-    grind (arith, common_steps, append_assoc, read_skipped, e.before, e.line, e.row, a.text, f.is_whole, a.row)
+read_entry f begun e lines a = grind (arith, common_steps, append_assoc, read_skipped)
 
 rows_more : (begun : List Entry) (e : Entry) → entry_rows (begun ++ e ∷ []) ≡ entry_rows begun ++ e.row ∷ []
 rows_more begun e = map-append (λ (e : Entry). e.row) begun (e ∷ [])
@@ -125,20 +123,9 @@ pub record IsGrammar (f : Grammar) : Type 0 where
 read_parts : (f : Grammar) → IsGrammar f → (parts : List Part) (lines : List Numbered) → AllByRecursion (IsPart f) parts
     → read f [] [] (lines_of_parts parts ++ lines) ≡ onto parts (read f [] [] lines)
 read_parts f is [] lines h = refl
-read_parts f is ([] ∷ parts) lines h = grind (arith, common_steps, h.0.1, is.none_whole)
+read_parts f is ([] ∷ parts) lines h = grind (arith, common_steps)
 read_parts f is ((e ∷ part) ∷ parts) lines h =
-    grind (
-      arith,
-      common_steps,
-      flat_map-cons,
-      append_assoc,
-      read_entries,
-      h.0.0,
-      h.0.1,
-      h.1,
-      read_parts f is parts
-          lines h.1,
-    )
+    grind (arith, common_steps, flat_map-cons, append_assoc, read_entries, read_parts f is parts lines h.1)
 
 pub read_good : (f : Grammar) → IsGrammar f → (lines : List Numbered) (parts : List Part) → IsGood f lines parts
     → read f [] [] lines ≡ (parts, Outside)
@@ -179,8 +166,8 @@ read_line : (f : Grammar) (begun : List Entry) (text : List Numbered) (n : ℕ) 
     (name : LineFault) → refusal f (entry_rows begun) line ≡ Some name
     → read f begun text ((n, line) ∷ later) ≡ ([], Refused (fault_at n name))
 read_line f begun text n Blank later name e = absurd cc
-read_line f begun text n (Words words) later name e = grind (arith, common_steps, f.skips)
-read_line f begun text n (Numbers row) later name e = grind (arith, common_steps, f.is_whole)
+read_line f begun text n (Words words) later name e = grind (arith, common_steps)
+read_line f begun text n (Numbers row) later name e = grind (arith, common_steps)
 
 pub read_refused : (f : Grammar) → IsGrammar f → (lines : List Numbered) (fault : ReadFault) → IsRefused f lines fault
     → (read f [] [] lines).1 ≡ Refused fault
@@ -220,7 +207,7 @@ at_refused last r fault e = ap (λ (end : End). fault_of last (r.0, end)) e
 
 at_inside : (last : ℕ) (r : Reading) (fault : ReadFault) → r.1 ≡ Inside → fault ≡ Truncated (last + 1)
     → fault_of last r ≡ Some fault
-at_inside last r fault e told = grind (arith, common_steps, r.0)
+at_inside last r fault e told = grind (arith, common_steps)
 
 pub fault_read : (f : Grammar) → IsGrammar f → (last : ℕ) (lines : List Numbered) (fault : ReadFault)
     → IsFault f last lines fault → fault_of last (read f [] [] lines) ≡ Some fault

@@ -20,7 +20,7 @@ use Rattle.shop_text.specs.declared.instance_readers.Reader.{Reader}
 
 pub one_behind : (whole : List ℕ) (n : ℕ) (text bytes rest : List ℕ) → IsBehind whole n text
     → lines_of text ≡ bytes ∷ lines_of rest → length rest < length text → IsBehind whole (n + 1) rest
-one_behind whole n text bytes rest f cut shorter = grind (arith, common_steps, f.lines, f.bytes)
+one_behind whole n text bytes rest f cut shorter = grind (arith, common_steps)
 
 -- the lines of a rest, by its first one
 abbrev numbered : ℕ → List (List ℕ) → List Numbered
@@ -44,7 +44,7 @@ pub line_taken : (text : List ℕ) (n : ℕ) (rest bytes after : List ℕ) (p : 
     → new.format ≡ old.format → IsReadUpTo new (w.front ++ left_of (n + 1) (line_of bytes))
     → IsOnTheWay text (n + 1) after p new
 line_taken text n rest bytes after p old new w cut shorter same read =
-    grind (arith, common_steps, after_cut, append_assoc, one_behind, w.front, w.cut, w.same, w.behind)
+    grind (arith, common_steps, after_cut, append_assoc, one_behind)
 
 pub line_refused : (text : List ℕ) (n : ℕ) (rest bytes after : List ℕ) (p : Format) (reader : Reader) (e : ReadFault)
     (w : IsOnTheWay text n rest p reader) → length text ≤ 16777216 → lines_of rest ≡ bytes ∷ lines_of after

@@ -51,8 +51,7 @@ entry_cut parts begun after n row front cut = grind (arith, common_steps, append
 pub one_more : (f : Grammar) (front : List Numbered) (begun : List Entry) (s : IsBegun f front begun) (n : ℕ)
     (row : Row)
     → f.refuses (entry_rows begun) row ≡ None → AreAccepted f [] (with_row begun s.after n row)
-one_more f front begun s n row free =
-    grind (arith, common_steps, accepted_more, entry, s.after, s.begun_good, s.room, s.after_skipped)
+one_more f front begun s n row free = grind (arith, common_steps, accepted_more, entry)
 
 -- a text line that is skipped
 unfoldable pub words_on : (f : Grammar) (front : List Numbered) (begun : List Entry) (s : IsBegun f front begun) (n : ℕ)

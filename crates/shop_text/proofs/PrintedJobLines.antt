@@ -69,7 +69,7 @@ label_read j fits =
 pub row_read : (shop : Shop) (j : ℕ) (row : List ℕ) → j < length shop.jobs → j < 2 ^ 64
     → length row ≡ length (route_of shop j) → AreSmallStarts row → row_in shop j (job_line j row) ≡ Some row
 row_read shop j row job fits steps small =
-    grind (arith, common_steps, lt-ltb, label_read, and_from, eq-eqb, length-map, starts_read, values_read, shop.jobs)
+    grind (arith, common_steps, lt-ltb, label_read, and_from, eq-eqb, length-map, starts_read, values_read)
 
 -- ---- the tokens of a job's line
 
@@ -128,8 +128,7 @@ skip_line n line lines other = grind (arith, common_steps)
 pub skip_lines : (n : ℕ) (others lines : List Tokens) → AreOther others
     → read_from n (others ++ lines) ≡ read_from (n + length others) lines
 skip_lines n [] lines are = grind (arith, common_steps)
-skip_lines n (line ∷ others) lines are =
-    grind (arith, common_steps, skip_line, are.0, are.1, skip_lines (n + 1) others lines are.1)
+skip_lines n (line ∷ others) lines are = grind (arith, common_steps, skip_line, skip_lines (n + 1) others lines are.1)
 
 pub skip_all : (n : ℕ) (others : List Tokens) → AreOther others → read_from n others ≡ []
 skip_all n [] are = refl

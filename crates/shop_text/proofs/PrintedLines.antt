@@ -53,7 +53,7 @@ pub lines_of_front : (lines : List Tokens) (rest : List ℕ) → AreLines lines
     → lines_of (text_of lines ++ rest) ≡ map (join_with_byte 32) lines ++ lines_of rest
 lines_of_front [] rest are = refl
 lines_of_front (line ∷ lines) rest are =
-    grind (arith, common_steps, append_assoc, line_cut, are.0, are.1, lines_of_front lines rest are.1)
+    grind (arith, common_steps, append_assoc, line_cut, lines_of_front lines rest are.1)
 
 pub lines_of_text : (lines : List Tokens) → AreLines lines → lines_of (text_of lines) ≡ map (join_with_byte 32) lines
 lines_of_text lines are = ap lines_of (sym (append-nil (text_of lines))) ∙ lines_of_front lines [] are
@@ -73,7 +73,7 @@ pub joined_free : (p : ℕ → Bool) → p 32 ≡ false → (tokens : Tokens) �
 joined_free p space [] free = refl
 joined_free p space (token ∷ []) free = free.0
 joined_free p space (token ∷ next ∷ tokens) free =
-    grind (arith, common_steps, free_append, free.0, free.1, joined_free p space (next ∷ tokens) free.1)
+    grind (arith, common_steps, free_append, joined_free p space (next ∷ tokens) free.1)
 
 -- ---- tokens
 
@@ -96,9 +96,9 @@ first_token token rest free some = grind (arith, common_steps, cut_at, kept)
 
 pub tokens_of_joined : (tokens : Tokens) → AreTokens tokens → tokens_of (join_with_byte 32 tokens) ≡ tokens
 tokens_of_joined [] are = refl
-tokens_of_joined (token ∷ []) are = grind (arith, common_steps, cut_none, kept, are.0, are.1)
+tokens_of_joined (token ∷ []) are = grind (arith, common_steps, cut_none, kept)
 tokens_of_joined (token ∷ next ∷ tokens) are =
-    grind (arith, common_steps, first_token, are.0, are.1, are.2, tokens_of_joined (next ∷ tokens) are.2)
+    grind (arith, common_steps, first_token, tokens_of_joined (next ∷ tokens) are.2)
 
 -- ---- numbers
 

@@ -55,11 +55,11 @@ last_push otherwise name (next ∷ names) = last_push next name names
 
 header_none : (f : Grammar) (lines : List Numbered) (n : ℕ) (line : Line) → f.header line ≡ None
     → headers_of f (lines ++ (n, line) ∷ []) ≡ headers_of f lines
-header_none f lines n line e = grind (arith, common_steps, filter_map-append, append-nil, f.header)
+header_none f lines n line e = grind (arith, common_steps, filter_map-append, append-nil)
 
 header_some : (f : Grammar) (lines : List Numbered) (n : ℕ) (line : Line) (name : List ℕ) → f.header line ≡ Some name
     → headers_of f (lines ++ (n, line) ∷ []) ≡ headers_of f lines ++ name ∷ []
-header_some f lines n line name e = grind (arith, common_steps, filter_map-append, f.header)
+header_some f lines n line name e = grind (arith, common_steps, filter_map-append)
 
 texts_more : (begun : List Entry) (after : List Numbered) (n : ℕ) (row : Row)
     → texts_of (with_row begun after n row) ≡ texts_of begun ++ after
@@ -68,8 +68,8 @@ texts_more begun after n row = grind (arith, common_steps, flat_map-append, entr
 named_push : (f : Grammar) (n : ℕ) (parts : List Part) (part : Part)
     → named_from f n (parts ++ part ∷ [])
     ≡ named_from f n parts ++ record { name = name_of f (n + length parts) part; shop = f.shop (entry_rows part) } ∷ []
-named_push f n [] part = grind (arith, common_steps, f.shop)
-named_push f n (p ∷ parts) part = grind (arith, common_steps, f.shop, named_push f (n + 1) parts part)
+named_push f n [] part = grind (arith, common_steps)
+named_push f n (p ∷ parts) part = grind (arith, common_steps, named_push f (n + 1) parts part)
 
 named_len : (f : Grammar) (n : ℕ) (parts : List Part) → length (named_from f n parts) ≡ length parts
 named_len f n [] = refl
@@ -101,8 +101,7 @@ pub no_header : (reader : Reader) (n : ℕ) (words : List (List ℕ)) (front : L
     → (grammar_of reader.format).header (Words words) ≡ None
     → IsLast reader.name (headers_of (grammar_of reader.format)
     ((texts_of r.begun ++ r.place.after) ++ (n, Words words) ∷ []))
-no_header reader n words front r e =
-    grind (arith, common_steps, header_none, reader.format, r.begun, r.place.after, r.name_is)
+no_header reader n words front r e = grind (arith, common_steps, header_none)
 
 -- that gives one
 pub one_header : (reader : Reader) (n : ℕ) (words : List (List ℕ)) (front : List Numbered) (r : IsReadUpTo reader front)
@@ -218,24 +217,7 @@ cut_outside f lines (x ∷ begun) s e = absurd cc
 
 pub all_read : (reader : Reader) (lines : List Numbered) → IsReadUpTo reader lines → reader.draft.jobs_wanted ≡ 0
     → 0 < length reader.named.items → AreRead (grammar_of reader.format) lines reader.named
-all_read reader lines r fresh some =
-    grind (
-      arith,
-      common_steps,
-      parts_len,
-      cut_outside,
-      fresh_begun,
-      reader.format,
-      reader.named.items,
-      r.place.parts,
-      r.named_are,
-      r.place.after,
-      r.begun,
-      r.place,
-      r.draft_holds,
-      r.place.parts_good,
-      r.place.after_skipped.0,
-    )
+all_read reader lines r fresh some = grind (arith, common_steps, parts_len, cut_outside, fresh_begun)
 
 no_parts : (f : Grammar) (lines : List Numbered) (parts : List Part) (after : List Numbered)
     → lines ≡ lines_of_parts parts ++ after → length parts ≡ 0 → AreText after → AreText lines
@@ -244,21 +226,4 @@ no_parts f lines (p ∷ parts) after cut none text = absurd (omega arith)
 
 pub none_read : (reader : Reader) (lines : List Numbered) → IsReadUpTo reader lines → reader.draft.jobs_wanted ≡ 0
     → length reader.named.items ≡ 0 → IsWithoutInstance lines NoInstance
-none_read reader lines r fresh none =
-    grind (
-      arith,
-      common_steps,
-      parts_len,
-      no_parts,
-      cut_outside,
-      fresh_begun,
-      reader.format,
-      reader.named.items,
-      r.place.parts,
-      r.named_are,
-      r.place.after,
-      r.begun,
-      r.place,
-      r.draft_holds,
-      r.place.after_skipped.0,
-    )
+none_read reader lines r fresh none = grind (arith, common_steps, parts_len, no_parts, cut_outside, fresh_begun)

@@ -50,40 +50,10 @@ number_free word n free = grind (arith, common_steps, joined_free, decimal_free,
 
 pub answer_is_lines : (r : Reported) → list_all is_visible r.name ≡ true → AreLines (answer_lines r)
 answer_is_lines r visible =
-    grind (
-      arith,
-      common_steps,
-      joined_free,
-      visible_free,
-      decimal_free,
-      no_line_feed,
-      number_free,
-      status_free,
-      r.name,
-      r.shop.jobs,
-      r.shop.machines,
-      r.makespan,
-      r.bound,
-      r.open_nodes,
-      r.rounds,
-      r.nodes,
-    )
+    grind (arith, common_steps, joined_free, visible_free, decimal_free, no_line_feed, number_free, status_free)
 
 answer_is_other : (r : Reported) → AreOther (answer_lines r)
-answer_is_other r =
-    grind (
-      arith,
-      common_steps,
-      other_line,
-      r.name,
-      r.shop.jobs,
-      r.shop.machines,
-      r.makespan,
-      r.bound,
-      r.open_nodes,
-      r.rounds,
-      r.nodes,
-    )
+answer_is_other r = grind (arith, common_steps, other_line)
 
 -- ---- Gantt texts
 
@@ -104,7 +74,7 @@ map_free p f (x ∷ xs) none = ap (λ (b : Bool). b || list_any p (map f xs)) (n
 machine_free : (shop : Shop) (starts : Starts) (machine : ℕ)
     → IsFree is_line_feed (join_with_byte 32 (machine_line shop starts machine))
 machine_free shop starts machine =
-    grind (arith, common_steps, map_free, shown_free, joined_free, decimal_free, no_line_feed, free_append, shop.jobs)
+    grind (arith, common_steps, map_free, shown_free, joined_free, decimal_free, no_line_feed, free_append)
 
 machines_are_lines : (shop : Shop) (starts : Starts) (machines : List ℕ)
     → AreLines (map (machine_line shop starts) machines)

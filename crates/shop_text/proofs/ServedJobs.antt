@@ -94,8 +94,7 @@ serves_step shop starts machine instant j k h =
 
 pub one_job : (shop : Shop) (starts : Starts) → IsFeasible shop starts → (machine instant i j : ℕ)
     → serves shop starts machine instant i ≡ true → serves shop starts machine instant j ≡ true → i ≡ j
-one_job shop starts feasible machine instant i j e f =
-    grind (arith, common_steps, served_step, cases_eq, feasible.apart)
+one_job shop starts feasible machine instant i j e f = grind (arith, common_steps, served_step, cases_eq)
 
 -- ---- what is shown
 
@@ -113,7 +112,7 @@ shown_job shop starts feasible machine instant j e =
 
 pub shown_none : (shop : Shop) (starts : Starts) (machine instant : ℕ)
     → ((i : ℕ) → serves shop starts machine instant i ≡ false) → shown_at shop starts machine instant ≡ 46
-shown_none shop starts machine instant none = grind (arith, common_steps, none_found, shop.jobs)
+shown_none shop starts machine instant none = grind (arith, common_steps, none_found)
 
 last_job : (shop : Shop) (starts : Starts) → IsFeasible shop starts → (machine instant j n : ℕ) → j < n
     → serves shop starts machine instant j ≡ true → last_shown shop starts machine instant n ≡ character_of j

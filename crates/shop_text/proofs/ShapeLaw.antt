@@ -36,8 +36,7 @@ pairs_from machines (m ∷ p ∷ rest) (suc half) len e =
 pairs_to : (machines : ℕ) (row : Row) → ArePairs machines row → pairs_fault machines row ≡ None
 pairs_to machines [] h = refl
 pairs_to machines (m ∷ []) h = refl
-pairs_to machines (m ∷ p ∷ rest) h =
-    grind (arith, common_steps, lt-ltb, le-leb, h.0, h.1, h.2, pairs_to machines rest h.2)
+pairs_to machines (m ∷ p ∷ rest) h = grind (arith, common_steps, lt-ltb, le-leb, pairs_to machines rest h.2)
 
 -- ---- a size line
 
@@ -45,7 +44,7 @@ pub size_from : (row : Row) → size_fault row ≡ None → IsSize (jobs_in row)
 size_from row e = grind (arith, common_steps, and_parts, no_fault_if, leb-true)
 
 pub size_to : (row : Row) → IsSize (jobs_in row) (machines_in row) → size_fault row ≡ None
-size_to row s = grind (arith, common_steps, le-leb, s.some_job, s.few_jobs, s.some_machine, s.few_machines)
+size_to row s = grind (arith, common_steps, le-leb)
 
 -- ---- rows of `orlib` and `routes`
 
@@ -56,7 +55,7 @@ orlib_row_from machines row e =
     in record { len = len; pairs = pairs_from machines row machines len counted.1 }
 
 orlib_row_to : (machines : ℕ) (row : Row) → IsOrlibRow machines row → orlib_fault machines row ≡ None
-orlib_row_to machines row h = grind (arith, common_steps, eq-eqb, pairs_to, h.len, h.pairs)
+orlib_row_to machines row h = grind (arith, common_steps, eq-eqb, pairs_to)
 
 -- pairs are an even count
 half_of : ℕ → Row → ℕ
@@ -113,18 +112,7 @@ rows_from : (fault : ℕ → Row → Option LineFault) (job : Row → ShopJob) (
     → AllByRecursion (IsRowLine (IsRow (machines_in size))) rows
 rows_from fault job IsRow from size done [] a = tt
 rows_from fault job IsRow from size done (e ∷ rows) a =
-    grind (
-      arith,
-      common_steps,
-      no_text,
-      e.before,
-      a.0.text,
-      e.row,
-      a.0.row,
-      a.1,
-      rows_from fault job IsRow from size
-          (done ++ e.row ∷ []) rows a.1,
-    )
+    grind (arith, common_steps, no_text, rows_from fault job IsRow from size (done ++ e.row ∷ []) rows a.1)
 
 rows_to : (fault : ℕ → Row → Option LineFault) (job : Row → ShopJob) (IsRow : ℕ → Row → Type 0)
     → ((machines : ℕ) (row : Row) → IsRow machines row → fault machines row ≡ None)
@@ -138,12 +126,8 @@ rows_to fault job IsRow to size done (e ∷ rows) len h =
       common_steps,
       ne_eqb,
       length-append,
-      h.0.no_text,
-      e.row,
-      h.0.is_row,
-      h.1,
-      rows_to fault job IsRow to
-          size (done ++ e.row ∷ []) rows (omega (arith, length-append done (e.row ∷ []))) h.1,
+      rows_to fault job IsRow to size (done ++ e.row ∷ []) rows
+          (omega (arith, length-append done (e.row ∷ []))) h.1,
     )
 
 -- ---- parts

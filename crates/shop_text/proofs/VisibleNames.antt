@@ -73,7 +73,7 @@ named_visible p n (part ∷ parts) =
     grind (arith, common_steps, last_visible, decimal_visible, named_visible p (n + 1) parts)
 
 pub names_visible : (p : Format) → NamesAreVisible (grammar_of p)
-names_visible p text shops is = grind (arith, common_steps, named_visible, is.shops_are, is.parts)
+names_visible p text shops is = grind (arith, common_steps, named_visible)
 
 -- ---- the instance that is asked for
 
