@@ -6,7 +6,7 @@ use Rattle.std.specs.List.{list_all}
 use Rattle.std.proofs.lemmas.Bool.{cases_lt, ltb-true, leb-true, le-ltb, le-leb, lt-leb, and_parts}
 use Rattle.std.proofs.lemmas.List.{length-map}
 use Rattle.shop_text.specs.inner.LineReading.{capped, size_line_fault, times_row_fault, machines_row_fault}
-use Rattle.shop_text.specs.Grammar.{LineFault, WrongRow, WrongMachine, WrongTime}
+use Rattle.shop_text.specs.Grammar.{LineFault, WrongRow, WrongTime}
 use Rattle.shop_text.specs.Formats.{is_between, jobs_in, machines_in, size_fault, pairs_fault, pairs_of}
 use Rattle.shop_text.specs.Formats.{orlib_fault, orlib_job, routes_fault, routes_job}
 
@@ -57,15 +57,7 @@ pairs_same : (machines : ℕ) → machines ≤ 100 → (row : List ℕ) → pair
 pairs_same machines h [] e = refl
 pairs_same machines h (m ∷ []) e = refl
 pairs_same machines h (m ∷ p ∷ rest) e =
-    let first = no_fault_then (ltb m machines) WrongMachine
-    (cond (not (leb p 1000000000)) (Some WrongTime) (pairs_fault machines rest)) e
-    in let second = no_fault_then (leb p 1000000000) WrongTime (pairs_fault machines rest) first.1
-    in let below = ltb-true m machines first.0
-    in let short = leb-true p 1000000000 second.0
-    in let em : capped m ≡ m = capped_same m (omega arith)
-    in let ep : capped p ≡ p = capped_same p (omega arith)
-    in let rest_same : pairs_of (map capped rest) ≡ pairs_of rest = pairs_same machines h rest second.1
-    in rw (em, ep, rest_same) refl
+    grind (arith, common_steps, no_fault_then, ltb-true, leb-true, capped_same, pairs_same machines h rest)
 
 -- ---- rows of `orlib`
 
@@ -107,9 +99,7 @@ all_capped p h (n ∷ row) = rw (h n, all_capped p h row) refl
 all_same : (p : ℕ → Bool) → ((n : ℕ) → p n ≡ true → n ≤ 18446744073709551615) → (row : List ℕ)
     → list_all p row ≡ true → map capped row ≡ row
 all_same p h [] e = refl
-all_same p h (n ∷ row) e =
-    let both = and_parts (p n) (list_all p row) e
-    in rw (capped_same n (h n both.0), all_same p h row both.1) refl
+all_same p h (n ∷ row) e = grind (arith, common_steps, and_parts, capped_same, all_same p h row)
 
 pub times_capped : (machines : ℕ) (row : List ℕ)
     → times_row_fault machines (map capped row) ≡ times_row_fault machines row

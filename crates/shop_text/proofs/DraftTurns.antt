@@ -1,7 +1,7 @@
 -- What comes of a number line: a size line, a row of times, or the row of a job.
 use Rattle.std.proofs.lemmas.Grind.{common_steps}
 use Rattle.std.proofs.Common.{◌≡◌, ℕ, ◌+◌, ◌*◌, ◌<◌, ◌≤◌, inl, true, false, eqb, List, [], ◌∷◌, ◌++◌, length, map}
-use Rattle.std.proofs.Common.{take, drop, Option, Some, None, Result, Ok, Err, Vec, refl, sym, ap, ◌∙◌, arith}
+use Rattle.std.proofs.Common.{take, drop, Option, Some, None, Result, Ok, Err, Vec, refl, ap, ◌∙◌, arith}
 use Rattle.std.specs.List.{zip}
 use Rattle.std.specs.declared.alloc.Global.{Global}
 use Rattle.std.proofs.lemmas.Bool.{cases_eq, ltb-true, ltb-false, eq-eqb, ne_eqb}
@@ -13,7 +13,7 @@ use Rattle.shop_text.specs.Formats.{grammar_of, jobs_in, machines_in, taillard_j
 use Rattle.shop_text.specs.inner.Grammars.{fields_of}
 use Rattle.shop_text.specs.inner.LineReading.{capped, Fails, size_line_fault, times_row_fault}
 use Rattle.shop_text.specs.Grammar.{Row}
-use Rattle.shop_text.specs.inner.Drafts.{items_of, jobs_drafted, HoldsTimes, HoldsRows, IsDraft, wants_times, PushesJob}
+use Rattle.shop_text.specs.inner.Drafts.{jobs_drafted, HoldsTimes, HoldsRows, IsDraft, wants_times, PushesJob}
 use Rattle.shop_text.specs.inner.Drafts.{IsOneMore, TakesRow}
 use Rattle.shop_text.specs.declared.instance_drafts.Draft.{Draft}
 use Rattle.shop_text.specs.declared.faults.ReadFault.{ReadFault}
@@ -58,31 +58,18 @@ times_taken : (old new : Draft) (row : Row) (taken : Vec ℕ Global) (size : Row
     → taken.items ≡ row → HoldsRows Taillard old size rows → row ≡ map capped written
     → IsOneMore Taillard (size ∷ rows) written new
 times_taken old new row taken size rows written more few free is d er =
-    let len = length-append rows (written ∷ [])
-    in let some_job = d.some_job
-    in let judged : times_row_fault old.machines row ≡ times_row_fault old.machines written =
-    ap (times_row_fault old.machines) er ∙ times_capped old.machines written
-    in let free_written : times_row_fault old.machines written ≡ None = sym judged ∙ free
-    in let taken_is : taken.items ≡ written = is ∙ er ∙ times_same old.machines written free_written
-    in record {
-      accepted = times_refused size rows written few ∙ ap (λ (m : ℕ). times_row_fault m written) (sym d.machines)
-          ∙ free_written;
-      room = ne_eqb (length (rows ++ written ∷ [])) (2 * jobs_in size) (λ e. omega arith);
-      draft_holds = record {
-        some_job = (let e = more.wanted in omega arith);
-        wanted = more.wanted ∙ d.wanted;
-        machines = more.machines ∙ d.machines;
-        times = ap (map items_of) more.times ∙ map-append items_of old.times.items (taken ∷ [])
-            ∙ rw (
-              d.times,
-              take_all (jobs_in size) rows (omega arith),
-              taken_is,
-              take_all (jobs_in size) (rows ++ written ∷ []) (omega arith),
-            ) refl;
-        jobs = ap (λ v. map job_as_given v.items) more.jobs ∙ d.jobs ∙ no_matrices (jobs_in size) rows (omega arith)
-            ∙ sym (no_matrices (jobs_in size) (rows ++ written ∷ []) (omega arith));
-      };
-    }
+    grind (
+      arith,
+      common_steps,
+      length-append,
+      times_capped,
+      times_same,
+      times_refused,
+      ne_eqb,
+      map-append,
+      take_all,
+      no_matrices,
+    )
 
 pub times_accepted : (p : Format) (old new : Draft) (row : Row) (taken : Vec ℕ Global) → 0 < old.jobs_wanted
     → wants_times p old.jobs_wanted (length old.times.items) ≡ true → times_row_fault old.machines row ≡ None

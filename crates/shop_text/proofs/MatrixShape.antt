@@ -20,9 +20,7 @@ use Rattle.shop_text.proofs.ShapeLaw.{size_from, size_to}
 each_from : (p : ℕ → Bool) (Is : ℕ → Type 0) → ((n : ℕ) → p n ≡ true → Is n) → (row : Row)
     → list_all p row ≡ true → AllByRecursion Is row
 each_from p Is h [] e = tt
-each_from p Is h (n ∷ row) e =
-    let both = and_parts (p n) (list_all p row) e
-    in (h n both.0, each_from p Is h row both.1)
+each_from p Is h (n ∷ row) e = grind (arith, common_steps, and_parts, each_from p Is h row)
 
 each_to : (p : ℕ → Bool) (Is : ℕ → Type 0) → ((n : ℕ) → Is n → p n ≡ true) → (row : Row)
     → AllByRecursion Is row → list_all p row ≡ true

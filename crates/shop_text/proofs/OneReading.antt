@@ -2,7 +2,7 @@
 -- the only one.
 use Rattle.std.proofs.lemmas.Grind.{common_steps}
 use Rattle.std.proofs.Common.{◌≡◌, ℕ, ◌+◌, ◌<◌, inl, inr, Bool, true, false, List, [], ◌∷◌, ◌++◌, length}
-use Rattle.std.proofs.Common.{Option, Some, None, refl, sym, ap, subst, ◌∙◌, append_assoc, arith}
+use Rattle.std.proofs.Common.{Option, Some, None, refl, sym, ap, ◌∙◌, append_assoc, arith}
 use Rattle.std.specs.Prelude.{IsTrue}
 use Rattle.std.specs.List.{AllByRecursion}
 use Rattle.std.proofs.lemmas.List.{append-nil, map-append}
@@ -97,23 +97,18 @@ read_entries : (f : Grammar) (begun : List Entry) (e : Entry) (entries : List En
     → read f begun [] (lines_of_part (e ∷ entries) ++ lines)
     ≡ on_row None (last_line e entries) (f.is_whole (entry_rows (begun ++ e ∷ entries))) (begun ++ e ∷ entries)
     (λ o. read f o [] lines)
-read_entries f begun e [] lines a =
-    ap (λ (ls : List Numbered). read f begun [] (ls ++ lines)) (flat_map-cons lines_of_entry e []
-    ∙ append-nil (lines_of_entry e))
-    ∙ read_entry f begun e lines a.0
+read_entries f begun e [] lines a = grind (arith, common_steps, flat_map-cons, append-nil, read_entry)
 read_entries f begun e (next ∷ entries) lines a =
-    let accepted : AreAccepted f (entry_rows (begun ++ e ∷ [])) (next ∷ entries) =
-    subst (λ (rs : List Row). AreAccepted f rs (next ∷ entries)) (sym (rows_more begun e)) a.1
-    in let later : List Numbered = lines_of_part (next ∷ entries) ++ lines
-    in let regroup : lines_of_part (e ∷ next ∷ entries) ++ lines ≡ lines_of_entry e ++ later =
-    ap (λ (ls : List Numbered). ls ++ lines) (flat_map-cons lines_of_entry e (next ∷ entries))
-    ∙ append_assoc (lines_of_entry e) (lines_of_part (next ∷ entries)) lines
-    in let last : ℕ = last_line e (next ∷ entries)
-    in ap (read f begun []) regroup ∙ read_entry f begun e later a.0
-    ∙ ap (λ (b : Bool). on_row None e.line b (begun ++ e ∷ []) (λ o. read f o [] later)) accepted.0.room
-    ∙ read_entries f (begun ++ e ∷ []) next entries lines accepted
-    ∙ ap (λ (es : List Entry). on_row None last (f.is_whole (entry_rows es)) es (λ o. read f o [] lines))
-    (append_assoc begun (e ∷ []) (next ∷ entries))
+    grind (
+      arith,
+      common_steps,
+      rows_more,
+      flat_map-cons,
+      append_assoc,
+      read_entry,
+      read_entries f (begun ++ e ∷ [])
+          next entries lines,
+    )
 
 -- what each grammar is
 pub record IsGrammar (f : Grammar) : Type 0 where

@@ -1,5 +1,5 @@
 -- Where in a part the lines stand after one more: a skipped text line, a row of the part, or its last row.
-use Rattle.std.proofs.Common.{arith, ◌≡◌, ℕ, inl, inr, true, false, List, [], ◌∷◌, ◌++◌, None, refl, sym, ap, subst}
+use Rattle.std.proofs.Common.{arith, ◌≡◌, ℕ, inl, inr, true, false, List, [], ◌∷◌, ◌++◌, None, refl, sym, ap}
 use Rattle.std.proofs.Common.{◌∙◌, append_assoc}
 use Rattle.std.proofs.lemmas.Grind.{common_steps, flat_map-append}
 use Rattle.std.specs.Prelude.{IsTrue}
@@ -17,11 +17,9 @@ text_more (l ∷ t) n words h = (h.0, text_more t n words h.1)
 
 pub accepted_more : (f : Grammar) (rows : List Row) (es : List Entry) (e : Entry) → AreAccepted f rows es
     → IsAccepted f (rows ++ entry_rows es) e → AreAccepted f rows (es ++ e ∷ [])
-accepted_more f rows [] e a h = (subst (λ (rs : List Row). IsAccepted f rs e) (append-nil rows) h, tt)
+accepted_more f rows [] e a h = grind (arith, common_steps, append-nil)
 accepted_more f rows (x ∷ es) e a h =
-    let regrouped =
-    subst (λ (rs : List Row). IsAccepted f rs e) (sym (append_assoc rows (x.row ∷ []) (entry_rows es))) h
-    in (a.0, accepted_more f (rows ++ x.row ∷ []) es e a.1 regrouped)
+    grind (arith, common_steps, append_assoc, accepted_more f (rows ++ x.row ∷ []) es e a.1)
 
 pub parts_more : (f : Grammar) (parts : List Part) (p : Part) → AllByRecursion (IsPart f) parts → IsPart f p
     → AllByRecursion (IsPart f) (parts ++ p ∷ [])

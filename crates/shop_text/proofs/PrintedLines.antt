@@ -3,7 +3,7 @@ use Rattle.std.proofs.lemmas.Grind.{common_steps}
 use Rattle.std.proofs.Common.{◌≡◌, ℕ, zero, suc, ◌+◌, ◌-◌, ◌*◌, ◌^◌, ◌/◌, ◌%◌, ◌<◌, ◌≤◌, Bool, true, false, not, ◌||◌}
 use Rattle.std.proofs.Common.{cond, eqb, ltb, List, [], ◌∷◌, ◌++◌, length, map, refl, sym, ap, ◌∙◌, arith, rules}
 use Rattle.std.specs.Prelude.{filter, fold}
-use Rattle.std.specs.List.{slice_split, onto_first, list_any, join_with_byte}
+use Rattle.std.specs.List.{slice_split, list_any, join_with_byte}
 use Rattle.std.specs.Fmt.{decimal, digits, digits_onto}
 use Rattle.std.proofs.lemmas.Bool.{eqb-true, or_parts}
 use Rattle.std.proofs.lemmas.Fmt.{decimal_nonempty, digits_decimal, digits_value-decimal}
@@ -29,15 +29,11 @@ free_append p xs ys e f = list_any-append p xs ys ∙ ap (λ (b : Bool). b || li
 cut_at : (p : ℕ → Bool) (xs : List ℕ) (y : ℕ) (ys : List ℕ) → IsFree p xs → p y ≡ true
     → slice_split p (xs ++ y ∷ ys) ≡ xs ∷ slice_split p ys
 cut_at p [] y ys free here = slice_split-cons_yes p y ys here
-cut_at p (x ∷ xs) y ys free here =
-    let f = or_parts (p x) (list_any p xs) free
-    in slice_split-cons_no p x (xs ++ y ∷ ys) f.0 ∙ ap (onto_first x) (cut_at p xs y ys f.1 here)
+cut_at p (x ∷ xs) y ys free here = grind (arith, common_steps, or_parts, slice_split-cons_no, cut_at p xs y ys)
 
 cut_none : (p : ℕ → Bool) (xs : List ℕ) → IsFree p xs → slice_split p xs ≡ xs ∷ []
 cut_none p [] free = refl
-cut_none p (x ∷ xs) free =
-    let f = or_parts (p x) (list_any p xs) free
-    in slice_split-cons_no p x xs f.0 ∙ ap (onto_first x) (cut_none p xs f.1)
+cut_none p (x ∷ xs) free = grind (arith, common_steps, or_parts, slice_split-cons_no, cut_none p xs)
 
 pub line_cut : (line rest : List ℕ) → IsFree is_line_feed line
     → lines_of ((line ++ 10 ∷ []) ++ rest) ≡ line ∷ lines_of rest

@@ -47,13 +47,7 @@ any_at p a n k low high e = at (list_any p (range_with_len a n)) refl
 only_found : (p : ℕ → Bool) (a n j : ℕ) → a ≤ j → j < a + n → p j ≡ true → ((i : ℕ) → p i ≡ true → i ≡ j)
     → find p (range_with_len a n) ≡ Some j
 only_found p a zero j low high e only = absurd (omega arith)
-only_found p a (suc n) j low high e only = at (p a) refl (λ later. only_found p (a + 1) n j later (omega arith) e only)
-  where
-    at : (b : Bool) → p a ≡ b → (a + 1 ≤ j → find p (range_with_len (a + 1) n) ≡ Some j)
-        → cond b (Some a) (find p (range_with_len (a + 1) n)) ≡ Some j
-    at true here later = ap Some (only a here)
-    at false here later =
-        later (elim (cases_eq a j) [ inl same ↦ absurd (let other = ap p same in cc) | inr ne ↦ omega arith ])
+only_found p a (suc n) j low high e only = grind (arith, common_steps, cases_eq, only_found p (a + 1) n j)
 
 none_found : (p : ℕ → Bool) (a n : ℕ) → ((i : ℕ) → p i ≡ false) → find p (range_with_len a n) ≡ None
 none_found p a zero none = refl

@@ -1,13 +1,13 @@
 -- The parts of `orlib` and `routes` are those in plain words.
 use Rattle.std.proofs.lemmas.Grind.{common_steps}
-use Rattle.std.proofs.Common.{◌≡◌, ℕ, zero, suc, ◌+◌, ◌*◌, ◌%◌, ◌/◌, inl, inr, cond, not, ◌&&◌, leb, ltb}
+use Rattle.std.proofs.Common.{◌≡◌, ℕ, zero, suc, ◌+◌, ◌*◌, ◌%◌, ◌/◌, inl, inr, cond, not, ◌&&◌, leb}
 use Rattle.std.proofs.Common.{eqb, List, [], ◌∷◌, ◌++◌, length, Option, Some, None, refl, sym, ◌∙◌, subst, arith}
 use Rattle.std.specs.List.{AllByRecursion}
 use Rattle.std.proofs.lemmas.Bool.{and_parts, leb-true, le-leb, ltb-true, lt-ltb, eqb-true, eq-eqb, ne_eqb, true≢false}
 use Rattle.std.proofs.lemmas.List.{length-map, length-append}
 use Rattle.shop_model.specs.Shop.{ShopJob}
 use Rattle.shop_text.specs.Lines.{Numbered}
-use Rattle.shop_text.specs.Grammar.{Row, LineFault, WrongShape, WrongRow, WrongMachine, WrongTime, Entry}
+use Rattle.shop_text.specs.Grammar.{Row, LineFault, WrongShape, WrongRow, WrongTime, Entry}
 use Rattle.shop_text.specs.Grammar.{Part, entry_rows, AreSkipped, AreAccepted, IsPart}
 use Rattle.shop_text.specs.Formats.{orlib_fault, orlib_job, routes_fault, routes_job, grammar_of_rows}
 use Rattle.shop_text.specs.Formats.{pairs_fault, size_fault, jobs_in, machines_in}
@@ -23,15 +23,7 @@ pairs_from machines [] half len e = tt
 pairs_from machines (m ∷ []) half len e = absurd (omega arith)
 pairs_from machines (m ∷ p ∷ rest) zero len e = absurd (omega arith)
 pairs_from machines (m ∷ p ∷ rest) (suc half) len e =
-    let later : Option LineFault = pairs_fault machines rest
-    in let first = no_fault_then (ltb m machines) WrongMachine (cond (not (leb p 1000000000)) (Some WrongTime) later) e
-    in let second = no_fault_then (leb p 1000000000) WrongTime later first.1
-    in (
-      ltb-true m machines first.0,
-      leb-true p 1000000000 second.0,
-      pairs_from machines rest half (omega arith)
-          second.1,
-    )
+    grind (arith, common_steps, no_fault_then, ltb-true, leb-true, pairs_from machines rest half (omega arith))
 
 pairs_to : (machines : ℕ) (row : Row) → ArePairs machines row → pairs_fault machines row ≡ None
 pairs_to machines [] h = refl
