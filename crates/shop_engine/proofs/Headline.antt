@@ -1,32 +1,25 @@
 -- What was read, made and written is a transfer, also where the bytes of source and sink are known.
-use Rattle.std.proofs.Common.{◌≡◌, ℕ, inr, List, ◌++◌, Option, Some, None, Result, Ok, Err, OnOk, IfErr}
-use Rattle.std.proofs.Common.{subst, rules, arith}
+use Rattle.std.proofs.Common.{◌≡◌, ℕ, List, ◌++◌, Option, Some, None, Result, Ok, Err, OnOk, IfErr}
+use Rattle.std.proofs.Common.{rules, arith}
 use Rattle.std.proofs.lemmas.Grind.{common_steps}
 use Rattle.std.specs.Io.KnownBytes.{Consumes, Appends, IsAtEnd}
 use Rattle.shop_text.specs.declared.faults.ReadFault.{ReadFault}
 use Rattle.shop_engine.specs.declared.faults.Fault.{Fault}
-use Rattle.shop_engine.specs.Devices.{Device, IsReadToEnd, IsWritten, IsCutOff, IsUnwritten, Passes, IsTransfer}
+use Rattle.shop_engine.specs.Devices.{Device, IsReadToEnd, IsWritten, IsUnwritten, Passes, IsTransfer}
 use Rattle.shop_engine.specs.Headline.{WhereKnown}
 
 -- what was made of a text goes out
 passes : {s s' : Device} {text out written : List ℕ} (Gives : List ℕ → List ℕ → Type 0) (Goes : List ℕ → Type 0)
     → IsReadToEnd s s' text → Gives text out → written ≡ out → Goes written → Passes s s' Gives Goes
-passes {text = text} {out = out} Gives Goes read gives same goes = record {
-  text = text;
-  read = read;
-  out = out;
-  gives = gives;
-  goes = subst Goes same goes;
-}
+passes {text = text} {out = out} Gives Goes read gives same goes = grind (arith, common_steps)
 
 pub transferred : {s s' : Device} {text out written : List ℕ} (Gives : List ℕ → List ℕ → Type 0)
     (IsBad : List ℕ → ReadFault → Type 0) (k k' : Device)
     → IsReadToEnd s s' text → Gives text out → written ≡ out
     → (r : Result (Unit {0}) Fault) → OnOk r (IsWritten k k' written) → IfErr r (λ e. IsUnwritten k k' written e)
     → IsTransfer Gives IsBad s s' k k' r
-transferred Gives IsBad k k' read gives same (Ok done) ok err = passes Gives (IsWritten k k') read gives same ok
-transferred Gives IsBad k k' read gives same (Err fault) ok err =
-    inr (err.0, passes Gives (IsCutOff k k') read gives same err.1)
+transferred Gives IsBad k k' read gives same (Ok done) ok err = grind (arith, common_steps, passes)
+transferred Gives IsBad k k' read gives same (Err fault) ok err = grind (arith, common_steps, passes, err.0, err.1)
 
 -- known bytes that are read to the end are the text
 pub known_read : (old new : Option (List ℕ)) (text known : List ℕ)
@@ -47,10 +40,18 @@ pub where_known : (Gives Written : List ℕ → List ℕ → Type 0) (IsBad : Li
     (r : Result (Unit {0}) Fault) → ((text out : List ℕ) → Gives text out → Written text out)
     → IsTransfer Gives IsBad s s' k k' r → WhereKnown Written s k k' r
 where_known Gives Written IsBad s s' k k' (Ok done) says h text held known holding ok =
-    let same = known_read s.bytes s'.bytes h.text text h.read.taken h.read.end known
-    in record {
-      written = h.out;
-      is_written = subst (λ (bytes : List ℕ). Written bytes h.out) same (says h.text h.out h.gives);
-      holds = known_held k.bytes k'.bytes h.out held h.goes.took holding;
-    }
+    grind (
+      arith,
+      common_steps,
+      known_read,
+      known_held,
+      s.bytes,
+      h.text,
+      h.read.taken,
+      h.read.end,
+      h.out,
+      h.gives,
+      k.bytes,
+      h.goes.took,
+    )
 where_known Gives Written IsBad s s' k k' (Err fault) says h text held known holding ok = absurd (search rules)

@@ -12,10 +12,8 @@ use Rattle.shop_bound.proofs.Lists.{all_append, all_filter}
 use Rattle.shop_nodes.specs.Walking.{Walk}
 use Rattle.shop_nodes.proofs.Members.{all_contains}
 use Rattle.shop_runs.specs.Round.{Planned, Stand, Told, least_bound, sheet_in, sheets_of, up_to_hit, best_word}
-use Rattle.shop_runs.specs.Round.{words_of_round, after_round, cut_of, round, opening}
-use Rattle.shop_runs.specs.Answers.{unless_closed}
-use Rattle.shop_runs.specs.Answers.{rounds_from, answer, bound_of}
-use Rattle.shop_runs.specs.Round.{makespan_of}
+use Rattle.shop_runs.specs.Round.{words_of_round, after_round, cut_of, round, opening, makespan_of}
+use Rattle.shop_runs.specs.Answers.{unless_closed, rounds_from, answer, bound_of}
 use Rattle.shop_runs.specs.Laws.{IsStanding, IsRound, StandsCovering}
 use Rattle.shop_runs.specs.Exact.{with_rounds}
 use Rattle.shop_runs.proofs.Covering.{cut_is_round, round_covers, opens_covering}

@@ -1,4 +1,5 @@
 -- The search ends, so there is a least makespan; and no other.
+use Rattle.std.proofs.lemmas.Grind.{common_steps}
 use Rattle.std.proofs.Common.{◌≡◌, ℕ, arith}
 use Rattle.shop_model.specs.Shop.{Shop, IsLeast}
 use Rattle.shop_runs.specs.Round.{Planned, makespan_of}
@@ -13,11 +14,18 @@ plan = record { rounds = 0; budget = 1; piece = 1; order = Kept }
 
 one : (shop : Shop) (c d : ℕ) → IsLeast shop c → IsLeast shop d → c ≡ d
 one shop c d first second =
-    let a = first.least second.table second.feasible
-    in let b = second.least first.table first.feasible
-    in let e = first.ends
-    in let g = second.ends
-    in omega arith
+    grind (
+      arith,
+      common_steps,
+      first.least,
+      second.table,
+      second.feasible,
+      second.least,
+      first.table,
+      first.feasible,
+      first.ends,
+      second.ends,
+    )
 
 pub each_has_one_least : EachHasOneLeast
 each_has_one_least shop = record {

@@ -1,7 +1,6 @@
 -- A schedule that ends at a bound is a least one.
-use Rattle.std.proofs.Common.{◌≡◌, ℕ, ◌<◌, ◌^◌, Bool, List, [], ◌∷◌, Option, get_or, drop, sym, ◌∙◌}
-use Rattle.std.proofs.Common.{ap, subst, arith}
-use Rattle.std.specs.Fmt.{decimal}
+use Rattle.std.proofs.lemmas.Grind.{common_steps}
+use Rattle.std.proofs.Common.{◌≡◌, ℕ, ◌<◌, ◌^◌, Bool, List, Option, get_or, subst, arith}
 use Rattle.std.proofs.lemmas.Fmt.{decimal_injective}
 use Rattle.std.proofs.lemmas.List.{append_cancel_right}
 use Rattle.shop_model.specs.Shop.{Shop, end_of, IsLeast}
@@ -23,15 +22,11 @@ use Rattle.shop_engine.proofs.TextLimits.{asked_within}
 -- a table of small starts ends early enough for its end to be printed in full
 end_small : (shop : Shop) (rows : List (List ℕ)) → IsWithinLimits shop → AreStarts rows
     → end_of shop (starts_of rows) < 2 ^ 64
-end_small shop rows limits small =
-    let a = end_of-le shop (starts_of rows) 1000001000000000
-    (λ i l op. let s = small i l in let t = limits.times i l in omega arith)
-    in omega arith
+end_small shop rows limits small = grind (arith, common_steps, end_of-le, limits.times)
 
 -- the line of a feasible table is no other's
 feasible_line : (c d : ℕ) → c < 2 ^ 64 → d < 2 ^ 64 → verdict_text (Feasible d) ≡ verdict_text (Feasible c) → d ≡ c
-feasible_line c d small low e = decimal_injective d c low small
-    (append_cancel_right (decimal d) (decimal c) (10 ∷ []) (ap (λ (line : List ℕ). drop 9 line) e))
+feasible_line c d small low e = grind (arith, common_steps, decimal_injective, append_cancel_right)
 
 first_byte : List ℕ → ℕ
 first_byte line = get_or line 0 0
@@ -40,25 +35,16 @@ ends_at : (shop : Shop) (rows : List (List ℕ)) (v : Verdict) (c : ℕ) → IsV
     → end_of shop (starts_of rows) < 2 ^ 64 → c < 2 ^ 64 → verdict_text v ≡ verdict_text (Feasible c)
     → EndsAt shop rows c
 unfolding first_byte
-ends_at shop rows (Feasible d) c h low small e =
-    let same = feasible_line c d small (let x = h.2 in omega arith) e
-    in (h.0, h.1, sym same ∙ h.2)
-ends_at shop rows WrongSize c h low small e = absurd (let x : 105 ≡ 102 = ap first_byte e in omega arith)
-ends_at shop rows (Unreleased j) c h low small e = absurd (let x : 105 ≡ 102 = ap first_byte e in omega arith)
-ends_at shop rows (Early j k) c h low small e = absurd (let x : 105 ≡ 102 = ap first_byte e in omega arith)
-ends_at shop rows (Overlap m p q) c h low small e = absurd (let x : 105 ≡ 102 = ap first_byte e in omega arith)
+ends_at shop rows (Feasible d) c h low small e = grind (arith, common_steps, feasible_line, h.2, h.0, h.1)
+ends_at shop rows WrongSize c h low small e = grind (arith, common_steps, first_byte)
+ends_at shop rows (Unreleased j) c h low small e = grind (arith, common_steps, first_byte)
+ends_at shop rows (Early j k) c h low small e = grind (arith, common_steps, first_byte)
+ends_at shop rows (Overlap m p q) c h low small e = grind (arith, common_steps, first_byte)
 
 met : (shop : Shop) (schedule line : List ℕ) (feasible : Bool) (c : ℕ) → IsWithinLimits shop → c < 2 ^ 64
     → IsVerdictOn shop schedule feasible line → line ≡ verdict_text (Feasible c) → IsBound shop c → IsLeast shop c
 met shop schedule line feasible c limits small v e bound =
-    let ends = ends_at shop v.rows v.verdict c v.is_verdict
-    (end_small shop v.rows limits (table_within shop schedule v.rows v.is_table)) small (sym v.says ∙ e)
-    in record {
-      table = starts_of v.rows;
-      feasible = ends.1;
-      ends = sym ends.2;
-      least = bound;
-    }
+    grind (arith, common_steps, ends_at, end_small, table_within, v.rows, v.verdict, v.is_verdict, v.is_table, v.says)
 
 checked : (format : Format) (name : Option (List ℕ)) (text schedule line : List ℕ) (feasible : Bool) (c : ℕ)
     → IsCheckOf format name text schedule feasible line → line ≡ verdict_text (Feasible c)

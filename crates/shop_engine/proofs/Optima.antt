@@ -1,5 +1,6 @@
 -- An open node of an answer has a bound below the makespan.
-use Rattle.std.proofs.Common.{◌≡◌, ℕ, ◌<◌, inl, List, [], ◌∷◌, length, refl, ap, arith}
+use Rattle.std.proofs.lemmas.Grind.{common_steps}
+use Rattle.std.proofs.Common.{◌≡◌, ℕ, ◌<◌, List, [], ◌∷◌, length, refl, ap, arith}
 use Rattle.shop_model.specs.Shop.{Shop}
 use Rattle.shop_bound.specs.Bound.{lb}
 use Rattle.shop_nodes.proofs.Members.{In, contains_in}
@@ -13,8 +14,7 @@ use Rattle.shop_engine.specs.AnswerLaws.{OptimalWhereBoundIsMakespan}
 none_open : (shop : Shop) (c : ℕ) (ws : List (List ℕ)) → ((w : List ℕ) → In w ws → lb shop w < c)
     → least_bound shop c ws ≡ c → length ws ≡ 0
 none_open shop c [] below e = refl
-none_open shop c (w ∷ ws) below e =
-    absurd (let a = (least_bound-le shop c (w ∷ ws)).1 w (inl refl) in let b = below w (inl refl) in omega arith)
+none_open shop c (w ∷ ws) below e = grind (arith, common_steps, least_bound-le)
 
 pub optimal_where_bound_is_makespan : OptimalWhereBoundIsMakespan
 optimal_where_bound_is_makespan asked plan =

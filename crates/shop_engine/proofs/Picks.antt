@@ -1,5 +1,7 @@
 -- The instance that was picked is the one that is asked for.
-use Rattle.std.proofs.Common.{◌≡◌, ℕ, List, Option, Some, subst}
+use Rattle.std.proofs.Common.{arith}
+use Rattle.std.proofs.lemmas.Grind.{common_steps}
+use Rattle.std.proofs.Common.{◌≡◌, ℕ, List, Option, Some}
 use Rattle.shop_text.specs.Texts.{NamedShop, IsText}
 use Rattle.shop_text.specs.Names.{first_named, shops_of}
 use Rattle.shop_text.specs.declared.names.Named.{Named}
@@ -10,13 +12,10 @@ use Rattle.shop_engine.specs.Asking.{IsAsked}
 pub is_asked : {text : List ℕ} {named slice : List Named} {asked : NamedShop} (format : Format) (name : Option (List ℕ))
     → IsText (grammar_of format) text (shops_of named) → slice ≡ named → first_named (shops_of slice) name ≡ Some asked
     → IsAsked format name text asked
-is_asked {named = named} format name is_text same picked =
-    record { shops = shops_of named; is_text = is_text; picked = rw (← same) picked }
+is_asked {named = named} format name is_text same picked = grind (arith, common_steps)
 
 -- the text was seen as a slice
 pub is_asked_in : {text seen : List ℕ} {named slice : List Named} {asked : NamedShop} (format : Format)
     (name : Option (List ℕ)) → IsText (grammar_of format) seen (shops_of named) → seen ≡ text → slice ≡ named
     → first_named (shops_of slice) name ≡ Some asked → IsAsked format name text asked
-is_asked_in {named = named} format name is_text seen same picked =
-    is_asked format name (subst (λ (bytes : List ℕ). IsText (grammar_of format) bytes (shops_of named)) seen is_text)
-    same picked
+is_asked_in {named = named} format name is_text seen same picked = grind (arith, common_steps, is_asked)

@@ -1,6 +1,6 @@
 -- A source of known bytes that are refused is answered by that refusal.
-use Rattle.std.proofs.Common.{◌≡◌, ℕ, ◌<◌, ◌⊎◌, inl, inr, List, ◌++◌, length, length-append, Bool, Option}
-use Rattle.std.proofs.Common.{Some, None, Ok, Err, refl, sym, ap, ◌∙◌, subst, rules, arith}
+use Rattle.std.proofs.Common.{◌≡◌, ℕ, ◌<◌, inl, inr, List, length, length-append, Bool, Option}
+use Rattle.std.proofs.Common.{Some, None, Ok, Err, refl, sym, ◌∙◌, subst, rules, arith}
 use Rattle.std.proofs.lemmas.Grind.{common_steps}
 use Rattle.std.specs.Io.KnownBytes.{Consumes}
 use Rattle.shop_model.specs.Shop.{Shop}
@@ -14,7 +14,6 @@ use Rattle.shop_text.specs.declared.formats.Format.{Format}
 use Rattle.shop_engine.specs.declared.args.CheckArgs.{CheckArgs}
 use Rattle.shop_engine.specs.declared.args.SolveArgs.{SolveArgs}
 use Rattle.shop_engine.specs.declared.faults.Fault.{Fault}
-use Rattle.shop_engine.specs.Faults.{fault_of}
 use Rattle.shop_engine.specs.Devices.{Device, IsReadToEnd, IsSourceRefused, Passes}
 use Rattle.shop_engine.specs.Asking.{name_in, IsAsked, IsAskFault}
 use Rattle.shop_engine.specs.Listing.{IsListOf}
@@ -32,15 +31,13 @@ known_longer : (old new : Option (List ℕ)) (text known : List ℕ) → Consume
     → old ≡ Some known → 16777216 < length known
 known_longer None new text known taken long e = absurd (search rules)
 known_longer (Some xs) None text known taken long e = absurd taken
-known_longer (Some xs) (Some ys) text known taken long e =
-    let same : known ≡ text ++ ys = grind (arith, common_steps)
-    in rw (same, length-append text ys) (omega arith)
+known_longer (Some xs) (Some ys) text known taken long e = grind (arith, common_steps, common_steps, length-append)
 
 -- what goes out is made of the known bytes
 known_gives : {old new : Device} {Goes : List ℕ → Type 0} (Gives : List ℕ → List ℕ → Type 0) (known : List ℕ)
     → old.bytes ≡ Some known → Passes old new Gives Goes → (out : List ℕ) × Gives known out
-known_gives {old = old} {new = new} Gives known same h =
-    (h.out, subst (λ (text : List ℕ). Gives text h.out) (known_text old new h.text known h.read same) h.gives)
+known_gives {old =
+    old} {new = new} Gives known same h = grind (arith, common_steps, known_text, h.out, h.text, h.read, h.gives)
 
 -- ---- a text has one refusal
 
@@ -77,13 +74,10 @@ refused : (A : Type 0) (IsBad : List ℕ → ReadFault → Type 0) (old new : De
     → IsSourceRefused old new IsBad told → IsRefusal {A = A} e (Err told)
 refused A IsBad old new known e told one long same bad (inl none) = inl none.0
 refused A IsBad old new known e told one long same bad (inr (inl left)) =
-    let h = left.1
-    in let more = long (known_longer old.bytes new.bytes h.text known h.taken h.one_more same)
-    in inr (inr (left.0 ∙ ap (λ (x : ReadFault). fault_of x) (one TooLong e more bad)))
+    grind (arith, common_steps, known_longer, left.1, old.bytes, new.bytes, left.0)
 refused A IsBad old new known e told one long same bad (inr (inr (inl failed))) = inr (inl failed.0)
 refused A IsBad old new known e told one long same bad (inr (inr (inr h))) =
-    let found = subst (λ (text : List ℕ). IsBad text h.found) (known_text old new h.text known h.read same) h.is_bad
-    in inr (inr (h.told ∙ ap (λ (x : ReadFault). fault_of x) (one h.found e found bad)))
+    grind (arith, common_steps, known_text, h.found, h.text, h.read, h.is_bad, h.told)
 
 ask_refused : (A : Type 0) (format : Format) (name : Option (List ℕ)) (old new : Device) (known : List ℕ)
     (e : ReadFault) (told : Fault) → old.bytes ≡ Some known → IsAskFault format name known e

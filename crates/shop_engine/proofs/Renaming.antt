@@ -1,4 +1,5 @@
 -- Machines under other names, and jobs in another order.
+use Rattle.std.proofs.lemmas.Grind.{common_steps}
 use Rattle.std.proofs.Common.{◌≡◌, ℕ, zero, suc, ◌<◌, cond, eqb, inl, inr, List, [], ◌∷◌, length, get_or}
 use Rattle.std.proofs.Common.{map, refl, sym, ap, ◌∙◌, arith}
 use Rattle.std.specs.List.{swap}
@@ -100,16 +101,7 @@ turned a b j = cond (eqb j a) b (cond (eqb j b) a j)
 
 turned_back : (a b j : ℕ) → turned a b (turned a b j) ≡ j
 unfolding turned
-turned_back a b j = elim (cases_eq j a) [
-  | inl e ↦ (let x = eq-eqb j a e in elim (cases_eq b a) [
-    | inl g ↦ (let y = eq-eqb b a g in rw (x, y) (g ∙ sym e))
-    | inr n ↦ (let y = ne_eqb b a n in let z = eq-eqb b b refl in rw (x, y, z) (sym e))
-  ])
-  | inr n ↦ (let x = ne_eqb j a n in elim (cases_eq j b) [
-    | inl e ↦ (let y = eq-eqb j b e in let z = eq-eqb a a refl in rw (x, y, z) (sym e))
-    | inr m ↦ (let y = ne_eqb j b m in rw (x, y, x, y) refl)
-  ])
-]
+turned_back a b j = grind (arith, common_steps, cases_eq, eq-eqb, ne_eqb)
 
 turned_one : (a b j i : ℕ) → turned a b j ≡ turned a b i → j ≡ i
 turned_one a b j i e = sym (turned_back a b j) ∙ ap (turned a b) e ∙ turned_back a b i

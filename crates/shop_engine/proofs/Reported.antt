@@ -1,12 +1,13 @@
 -- What is printed of an answer that can be trusted is right, and is the report of the plan's answer.
-use Rattle.std.proofs.Common.{◌≡◌, ℕ, List, [], length, Bool, refl, ◌∙◌, ap}
+use Rattle.std.proofs.Common.{arith}
+use Rattle.std.proofs.lemmas.Grind.{common_steps}
+use Rattle.std.proofs.Common.{◌≡◌, ℕ, List, [], Bool}
 use Rattle.std.specs.Prelude.{if◌then◌else◌}
-use Rattle.shop_model.specs.Shop.{Shop}
 use Rattle.shop_model.specs.Checking.{starts_of}
 use Rattle.shop_text.specs.Texts.{NamedShop}
 use Rattle.shop_text.specs.Writing.{Reported, gantt_text, text_with_gantt}
-use Rattle.shop_runs.specs.Round.{Planned, makespan_of}
-use Rattle.shop_runs.specs.Answers.{answer, bound_of}
+use Rattle.shop_runs.specs.Round.{Planned}
+use Rattle.shop_runs.specs.Answers.{answer}
 use Rattle.shop_runs.specs.Runs.{Says, IsTrusted}
 use Rattle.shop_runs.specs.declared.runs.Answer.{Answer}
 use Rattle.shop_engine.specs.inner.Told.{told_by}
@@ -18,40 +19,30 @@ chart_of r gantt = if gantt then gantt_text r.shop (starts_of r.table) else []
 
 pub right : (asked : NamedShop) (a : Answer) (gantt : Bool) (written : List ℕ) → IsTrusted asked.shop a
     → IsPrintable (told_by asked a) → written ≡ text_with_gantt (told_by asked a) gantt → IsRight asked gantt written
-right asked a gantt written t printable e = record {
-  report = told_by asked a;
-  named = refl;
-  on = refl;
-  text = e;
-  printable = printable;
-  shape = t.shape;
-  feasible = t.feasible;
-  ends = t.ends;
-  bound = t.answer_is.bound;
-  optimal = λ none. (t.answer_is.least none).least;
-}
+right asked a gantt written t printable e =
+    grind (arith, common_steps, t.shape, t.feasible, t.ends, t.answer_is.bound, t.answer_is.least)
 
 -- reports of equal parts are equal
 pub same_report : (r s : Reported) → r.name ≡ s.name → r.shop ≡ s.shop → r.table ≡ s.table → r.makespan ≡ s.makespan
     → r.bound ≡ s.bound → r.open_nodes ≡ s.open_nodes → r.rounds ≡ s.rounds → r.nodes ≡ s.nodes → r ≡ s
-same_report r s a b c d e f g h = λ i. record {
-  name = a i;
-  shop = b i;
-  table = c i;
-  makespan = d i;
-  bound = e i;
-  open_nodes = f i;
-  rounds = g i;
-  nodes = h i;
-}
+same_report r s a b c d e f g h = grind (arith, common_steps)
 
 told_is : (asked : NamedShop) (plan : Planned) (a : Answer) → Says asked.shop (answer asked.shop plan) a
     → told_by asked a ≡ answer_of asked plan
-told_is asked plan a says = same_report (told_by asked a) (answer_of asked plan) refl refl
-    says.table says.makespan says.bound says.open_nodes says.rounds says.nodes
+told_is asked plan a says =
+    grind (
+      arith,
+      common_steps,
+      same_report,
+      says.table,
+      says.makespan,
+      says.bound,
+      says.open_nodes,
+      says.rounds,
+      says.nodes,
+    )
 
 pub determined : (asked : NamedShop) (plan : Planned) (a : Answer) (gantt : Bool) (written : List ℕ)
     → Says asked.shop (answer asked.shop plan) a
     → written ≡ text_with_gantt (told_by asked a) gantt → IsDetermined asked plan gantt written
-determined asked plan a gantt written says e =
-    e ∙ ap (λ (r : Reported). text_with_gantt r gantt) (told_is asked plan a says)
+determined asked plan a gantt written says e = grind (arith, common_steps, told_is)

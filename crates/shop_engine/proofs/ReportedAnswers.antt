@@ -1,4 +1,5 @@
 -- A report that is right, and determined by a plan's answer, has the numbers of that answer.
+use Rattle.std.proofs.lemmas.Grind.{common_steps}
 use Rattle.std.proofs.Common.{◌≡◌, ℕ, zero, suc, ◌≤◌, Bool, List, [], ◌++◌, get_or, drop, map}
 use Rattle.std.proofs.Common.{refl, sym, ◌∙◌, ap, subst, arith}
 use Rattle.std.specs.Prelude.{IsTrue}
@@ -43,8 +44,7 @@ placed_small shop w limits full =
 -- the word of a status says whether a node is open
 same_status : (n m : ℕ) → status_word n ≡ status_word m → n ≡ 0 → m ≡ 0
 same_status zero zero e h = refl
-same_status zero (suc m) e h =
-    absurd (let x : 116 ≡ 101 = ap (λ (word : List ℕ). get_or word 2 0) e in omega arith)
+same_status zero (suc m) e h = grind (arith, common_steps)
 same_status (suc n) m e h = absurd (omega arith)
 
 tells : (asked : NamedShop) (plan : Planned) (gantt : Bool) (written : List ℕ) → IsWithinLimits asked.shop

@@ -1,13 +1,12 @@
 -- A table of an instance, from its end to its beginning.
+use Rattle.std.proofs.lemmas.Grind.{common_steps}
 use Rattle.std.proofs.Common.{◌≡◌, ℕ, zero, suc, ◌+◌, ◌-◌, ◌≤◌, ◌<◌, inl, inr, List, [], ◌∷◌, length, get_or, map, refl}
 use Rattle.std.proofs.Common.{sym, ap, ◌∙◌, subst, arith, reverse}
 use Rattle.std.proofs.lemmas.List.{get_or-reverse, length-reverse, reverse-reverse}
 use Rattle.shop_model.specs.declared.ops.Op.{Op}
-use Rattle.shop_model.specs.Shop.{Shop, ShopJob, Starts, no_job, no_op, release_of, route_of, op_of}
-use Rattle.shop_model.specs.Shop.{machine_of, time_of}
-use Rattle.shop_model.specs.Shop.{IsOperation, IsFeasible, finish_of}
-use Rattle.shop_model.proofs.Ends.{AreDifferent}
-use Rattle.shop_model.proofs.Ends.{le-end_of, end_of-le}
+use Rattle.shop_model.specs.Shop.{Shop, ShopJob, Starts, no_job, no_op, release_of, route_of, op_of, machine_of}
+use Rattle.shop_model.specs.Shop.{time_of, IsOperation, IsFeasible, finish_of}
+use Rattle.shop_model.proofs.Ends.{AreDifferent, le-end_of, end_of-le}
 use Rattle.shop_engine.specs.Easier.{EndsBy}
 use Rattle.shop_engine.specs.Reversing.{reversed_job, reversed, ReversingAsksTheSame}
 
@@ -115,10 +114,7 @@ module _ (shop : Shop) where
 
 twice : (js : List ShopJob) → map reversed_job (map reversed_job js) ≡ js
 twice [] = refl
-twice (x ∷ js) =
-    ap (λ (os : List Op). record { release = x.release; route = os } ∷ map reversed_job (map reversed_job js))
-    (reverse-reverse x.route)
-    ∙ ap (λ (xs : List ShopJob). x ∷ xs) (twice js)
+twice (x ∷ js) = grind (arith, common_steps, reverse-reverse, x.release, x.route, twice js)
 
 pub reversing_asks_the_same : ReversingAsksTheSame
 reversing_asks_the_same shop none = (

@@ -1,21 +1,18 @@
 -- What `solve` writes, read as a schedule and checked.
-use Rattle.std.proofs.Common.{◌≡◌, ℕ, ◌≤◌, inl, inr, Bool, true, false, List, length}
+use Rattle.std.proofs.lemmas.Grind.{common_steps}
+use Rattle.std.proofs.Common.{◌≡◌, ℕ, ◌≤◌, inl, inr, Bool, List, length}
 use Rattle.std.proofs.Common.{Option, Some, sym, ap, ◌∙◌, subst, arith}
 use Rattle.std.specs.Prelude.{IsTrue}
-use Rattle.std.specs.List.{list_all}
-use Rattle.std.proofs.lemmas.List.{append-nil}
 use Rattle.shop_model.specs.Shop.{Shop, Starts, IsFeasible}
-use Rattle.shop_model.proofs.Ends.{AreDifferent}
+use Rattle.shop_model.proofs.Ends.{AreDifferent, feasible-in_time}
 use Rattle.shop_model.specs.Limits.{AreStarts}
-use Rattle.shop_model.specs.Checking.{EndsAt, IsVerdict, IsBefore, IsFirstEarly, IsFirstOverlap, starts_of}
+use Rattle.shop_model.specs.Checking.{EndsAt, IsVerdict, IsBefore, IsFirstEarly, IsFirstOverlap}
 use Rattle.shop_model.specs.declared.checking.Verdict.{Verdict}
 use Rattle.shop_model.specs.declared.checking.Verdict.TheVariants.{Feasible, WrongSize, Unreleased, Early, Overlap}
-use Rattle.shop_model.proofs.Ends.{feasible-in_time}
-use Rattle.shop_text.specs.Formats.{is_visible}
 use Rattle.shop_text.specs.Texts.{NamedShop}
 use Rattle.shop_text.specs.Names.{first_named}
 use Rattle.shop_text.specs.Schedules.{IsTable, IsTableFault}
-use Rattle.shop_text.specs.Writing.{Reported, report_text, verdict_text, text_with_gantt}
+use Rattle.shop_text.specs.Writing.{verdict_text, text_with_gantt}
 use Rattle.shop_text.specs.declared.formats.Format.{Format}
 use Rattle.shop_text.proofs.ReaderTurns.{one_reading}
 use Rattle.shop_text.proofs.ReportReading.{reports_are_schedules}
@@ -50,10 +47,7 @@ gives_schedule asked a gantt written t small e visible short =
 -- ---- and is found feasible
 
 not_early : (shop : Shop) (starts : Starts) (j k : ℕ) → IsFeasible shop starts → IsFirstEarly shop starts j k → ⊥
-not_early shop starts j k feasible h =
-    let kept = feasible-in_time shop starts feasible j k h.operation
-    in let early = h.early
-    in omega arith
+not_early shop starts j k feasible h = grind (arith, common_steps, feasible-in_time, h.operation, h.early)
 
 not_same : (j k i l : ℕ) → IsBefore j k i l → AreDifferent j k i l
 not_same j k i l (inl lower) both = let same = both.0 in omega arith
@@ -62,23 +56,17 @@ not_same j k i l (inr later) both = let same = both.1 in let less = later.1 in o
 not_overlapping : (shop : Shop) (starts : Starts) (j k i l : ℕ) → IsFeasible shop starts
     → IsFirstOverlap shop starts j k i l → ⊥
 not_overlapping shop starts j k i l feasible h =
-    let second = h.second
-    in let first_begins = second.first_begins
-    in let second_begins = second.second_begins
-    in elim (feasible.apart j k i l h.operation second.operation second.same_machine (not_same j k i l second.after)) [
-      | inl before ↦ omega arith
-      | inr behind ↦ omega arith
-    ]
+    grind (arith, common_steps, not_same, h.second, feasible.apart, h.operation)
 
 -- the verdict on a feasible table names its end
 feasible_verdict : (shop : Shop) (rows : List (List ℕ)) (c : ℕ) (v : Verdict) → EndsAt shop rows c
     → IsVerdict shop rows v → v ≡ Feasible c
-feasible_verdict shop rows c (Feasible d) ends h = ap (λ (n : ℕ). Feasible n) (h.2 ∙ sym ends.2)
+feasible_verdict shop rows c (Feasible d) ends h = grind (arith, common_steps, h.2, ends.2)
 feasible_verdict shop rows c WrongSize ends h = absurd (h ends.0)
-feasible_verdict shop rows c (Unreleased j) ends h = absurd (not_early shop (starts_of rows) j 0 ends.1 h.1)
-feasible_verdict shop rows c (Early j k) ends h = absurd (not_early shop (starts_of rows) j k ends.1 h.2)
+feasible_verdict shop rows c (Unreleased j) ends h = grind (arith, common_steps, not_early, ends.1, h.1)
+feasible_verdict shop rows c (Early j k) ends h = grind (arith, common_steps, not_early, ends.1, h.2)
 feasible_verdict shop rows c (Overlap m p q) ends h =
-    absurd (not_overlapping shop (starts_of rows) p.job p.step q.job q.step ends.1 h.3)
+    grind (arith, common_steps, not_overlapping, p.job, p.step, q.job, q.step, ends.1, h.3)
 
 found_feasible : (shop : Shop) (written line : List ℕ) (rows : List (List ℕ)) (c : ℕ) (feasible : Bool)
     → IsTable shop written rows → EndsAt shop rows c → IsVerdictOn shop written feasible line

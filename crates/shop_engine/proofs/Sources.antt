@@ -1,5 +1,7 @@
 -- Why no text came of a source.
-use Rattle.std.proofs.Common.{◌≡◌, ℕ, ◌≤◌, inl, inr, List, length, Result, Ok, Err, refl, sym, ap, subst}
+use Rattle.std.proofs.Common.{arith}
+use Rattle.std.proofs.lemmas.Grind.{common_steps}
+use Rattle.std.proofs.Common.{◌≡◌, ℕ, ◌≤◌, inl, inr, List, length, Result, Ok, Err, sym, subst}
 use Rattle.std.specs.Result.{IsErrAnd}
 use Rattle.shop_text.specs.Texts.{OrNoMemory}
 use Rattle.shop_text.specs.declared.faults.ReadFault.{ReadFault}
@@ -24,13 +26,5 @@ unread IsBad (inr (inr failed)) = inr (inr (inl failed))
 pub bad_text : {old new : Device} {text : List ℕ} (IsBad : List ℕ → ReadFault → Type 0) (found : ReadFault)
     → IsReadToEnd old new text → length text ≤ 16777216 → OrNoMemory IsBad text found
     → IsSourceRefused old new IsBad (fault_of found)
-bad_text IsBad found read short (inl none) =
-    inl (ap (λ (x : ReadFault). fault_of x) none.0, record { worked = read.worked; once = inr read.told })
-bad_text {text = text} IsBad found read short (inr bad) = inr (inr (inr (record {
-  text = text;
-  short = short;
-  read = read;
-  found = found;
-  is_bad = bad;
-  told = refl;
-})))
+bad_text IsBad found read short (inl none) = grind (arith, common_steps, none.0, read.worked, read.told)
+bad_text {text = text} IsBad found read short (inr bad) = grind (arith, common_steps)

@@ -1,9 +1,8 @@
 -- The instances of a good text are within the limits.
-use Rattle.std.proofs.Common.{◌≡◌, ℕ, zero, suc, ◌+◌, ◌*◌, ◌≤◌, ◌<◌, Bool, true, false, List, [], ◌∷◌, ◌++◌, length}
-use Rattle.std.proofs.Common.{get_or, take, drop, map, Option, Some, None, refl, sym, ◌∙◌, subst, arith}
-use Rattle.std.specs.Prelude.{find}
+use Rattle.std.proofs.lemmas.Grind.{common_steps}
+use Rattle.std.proofs.Common.{◌≡◌, ℕ, zero, suc, ◌+◌, ◌*◌, ◌≤◌, ◌<◌, List, [], ◌∷◌, ◌++◌, length}
+use Rattle.std.proofs.Common.{get_or, take, drop, map, Option, refl, sym, ◌∙◌, subst, arith}
 use Rattle.std.specs.List.{AllByRecursion, zip}
-use Rattle.std.specs.Str.{bytes_eq}
 use Rattle.std.proofs.lemmas.List.{length-map, map-append}
 use Rattle.std.proofs.lemmas.Slice.Zip.{length-zip}
 use Rattle.std.proofs.Math.Seq.{take-append_seam, drop-append_seam}
@@ -16,7 +15,6 @@ use Rattle.shop_text.specs.Formats.{taillard_job, taillard_shop, grammar_of}
 use Rattle.shop_text.specs.Shapes.{IsSize, ArePairs, IsOrlibRow, IsRoutesRow, IsRowLine, IsPartOfRows, IsRowOf, IsTime}
 use Rattle.shop_text.specs.Shapes.{IsMachineNumber, IsMatrix, IsTaillardPart}
 use Rattle.shop_text.specs.Texts.{NamedShop, named_from}
-use Rattle.shop_text.specs.Names.{first_named}
 use Rattle.shop_text.specs.declared.formats.Format.{Format}
 use Rattle.shop_text.specs.declared.formats.Format.TheVariants.{Orlib, Taillard, Routes}
 use Rattle.shop_text.proofs.ShapeLaw.{orlib_shape, routes_shape}
@@ -49,18 +47,8 @@ module _ (machines : ℕ) (some : 1 ≤ machines) where
 
 within : (machines : ℕ) (jobs : List ShopJob) → IsSize (length jobs) machines
     → AllByRecursion (IsSmallJob machines) jobs → IsWithinLimits (record { machines = machines; jobs = jobs })
-within machines jobs size all = record {
-  some_machine = size.some_machine;
-  machines = size.few_machines;
-  some_job = size.some_job;
-  jobs = size.few_jobs;
-  releases = λ j. (job_at machines size.some_machine jobs j all).release;
-  routes = λ j. (job_at machines size.some_machine jobs j all).steps;
-  on_machines = λ j k. (op_at machines size.some_machine (get_or jobs j no_job).route k
-      (job_at machines size.some_machine jobs j all).ops).0;
-  times = λ j k. (op_at machines size.some_machine (get_or jobs j no_job).route k
-      (job_at machines size.some_machine jobs j all).ops).1;
-}
+within machines jobs size all =
+    grind (arith, common_steps, size.some_machine, size.few_machines, size.some_job, size.few_jobs)
 
 -- ---- `orlib` and `routes`
 
@@ -76,19 +64,12 @@ pairs_count machines (m ∷ p ∷ rest) h = let e = pairs_count machines rest h.
 
 orlib_small : (machines : ℕ) (row : Row) → machines ≤ 100 → IsOrlibRow machines row
     → IsSmallJob machines (orlib_job row)
-orlib_small machines row few h = record {
-  release = omega arith;
-  steps = (let e = pairs_count machines row h.pairs in let len = h.len in omega arith);
-  ops = pairs_small machines row h.pairs;
-}
+orlib_small machines row few h = grind (arith, common_steps, pairs_count, pairs_small, h.pairs, h.len)
 
 routes_small : (machines : ℕ) (row : Row) → machines ≤ 100 → IsRoutesRow machines row
     → IsSmallJob machines (routes_job row)
-routes_small machines row few h = subst (λ (r : Row). IsSmallJob machines (routes_job r)) (sym h.cut) (record {
-  release = h.small;
-  steps = (let e = pairs_count machines h.rest h.pairs in let most = h.few in omega arith);
-  ops = pairs_small machines h.rest h.pairs;
-})
+routes_small machines row few h =
+    grind (arith, common_steps, pairs_count, pairs_small, h.cut, h.small, h.rest, h.pairs, h.few)
 
 module _ (IsRow : ℕ → Row → Type 0) (job_of : Row → ShopJob) (small : (machines : ℕ) (row : Row) → machines ≤ 100
     → IsRow machines row → IsSmallJob machines (job_of row)) where
@@ -119,16 +100,12 @@ ops_small : (machines : ℕ) (times row : Row) → AllByRecursion IsTime times
 ops_small machines [] row a b = tt
 ops_small machines (t ∷ times) [] a b = tt
 ops_small machines (t ∷ times) (m ∷ row) a b =
-    let low = b.0.0 in let high = b.0.1 in ((omega arith, a.0), ops_small machines times row a.1 b.1)
+    grind (arith, common_steps, b.0.0, b.0.1, a.0, a.1, b.1, ops_small machines times row a.1 b.1)
 
 taillard_small : (machines : ℕ) (times row : Row) → machines ≤ 100 → IsRowOf IsTime machines times
     → IsRowOf (IsMachineNumber machines) machines row → IsSmallJob machines (taillard_job (times, row))
-taillard_small machines times row few a b = record {
-  release = omega arith;
-  steps = (let e = length-map (zip times row) taillard_op ∙ length-zip times row
-      in let len = a.len in omega arith);
-  ops = ops_small machines times row a.each b.each;
-}
+taillard_small machines times row few a b =
+    grind (arith, common_steps, length-map, length-zip, ops_small, a.len, a.each, b.each)
 
 abbrev AreRows : (Row → Type 0) → List Entry → Type 0
 AreRows IsRow rows = AllByRecursion IsRow (entry_rows rows)

@@ -1,6 +1,7 @@
 -- What the steps of `check_text` and `check_bytes` say of their answers.
+use Rattle.std.proofs.Common.{arith}
+use Rattle.std.proofs.lemmas.Grind.{common_steps}
 use Rattle.std.proofs.Common.{◌≡◌, ℕ, ◌≤◌, length, inl, inr, List, Option, Some, None, Err, Bool}
-use Rattle.std.proofs.Common.{refl, sym, ap, ◌∙◌, subst}
 use Rattle.shop_text.specs.Schedules.{IsTableFault}
 use Rattle.shop_text.specs.Texts.{NamedShop, OrNoMemory}
 use Rattle.shop_text.specs.declared.faults.ReadFault.{ReadFault}
@@ -26,34 +27,42 @@ unread_schedule text shop (Some old) (Some new) e h = unread (IsTableFault shop)
 bad_schedule : (text schedule : List ℕ) (shop : Shop) (t t' : Second) → IsScheduleRead text t t' schedule
     → length schedule ≤ 16777216 → (found : ReadFault) → OrNoMemory (IsTableFault shop) schedule found
     → IsScheduleRefused t t' (fault_of found) text shop
-bad_schedule text schedule shop None None read short found (inl none) = inl (ap (λ (x : ReadFault). fault_of x) none.0)
-bad_schedule text schedule shop None None read short found (inr bad) =
-    inr (found, subst (λ (bytes : List ℕ). IsTableFault shop bytes found) read bad, refl)
+bad_schedule text schedule shop None None read short found (inl none) = grind (arith, common_steps, none.0)
+bad_schedule text schedule shop None None read short found (inr bad) = grind (arith, common_steps)
 bad_schedule text schedule shop None (Some new) read short found h = absurd read
 bad_schedule text schedule shop (Some old) None read short found h = absurd read
-bad_schedule text schedule shop (Some old) (Some new) read short found h =
-    bad_text (IsTableFault shop) found read short h
+bad_schedule text schedule shop (Some old) (Some new) read short found h = grind (arith, common_steps, bad_text)
 
 pub refused_after : (args : CheckArgs) {s s' : Device} {text : List ℕ} {asked : NamedShop} (t t' : Second) (k : Device)
     → IsReadToEnd s s' text → IsAsked args.format (name_in args.name) text asked → (e : Fault)
     → IsScheduleRefused t t' e text asked.shop → IsChecking args s s' t t' k k (Err e)
-refused_after args {text = text} {asked = asked} t t' k read is_asked e h =
-    inr (inl (record { text = text; read = read; asked = asked; is_asked = is_asked; after = h }, refl))
+refused_after args {text = text} {asked = asked} t t' k read is_asked e h = grind (arith, common_steps)
 
 pub unread_after : (args : CheckArgs) {s s' : Device} {text : List ℕ} {asked : NamedShop} (t t' : Second) (k : Device)
     → IsReadToEnd s s' text → IsAsked args.format (name_in args.name) text asked → (e : Fault) → IsSecondUnread t t' e
     → IsChecking args s s' t t' k k (Err e)
-unread_after args {text = text} {asked = asked} t t' k read is_asked e h =
-    refused_after args t t' k read is_asked e (unread_schedule text asked.shop t t' e h)
+unread_after args {text =
+    text} {asked = asked} t t' k read is_asked e h = grind (
+      arith,
+      common_steps,
+      refused_after,
+      unread_schedule,
+      asked.shop,
+    )
 
 pub faulty_after : (args : CheckArgs) {s s' : Device} {text schedule judged : List ℕ} {asked : NamedShop}
     (t t' : Second) (k : Device)
     → IsReadToEnd s s' text → IsAsked args.format (name_in args.name) text asked → IsScheduleRead text t t' schedule
     → length schedule ≤ 16777216 → judged ≡ schedule → (e : ReadFault) → OrNoMemory (IsTableFault asked.shop) judged e
     → IsChecking args s s' t t' k k (Err (fault_of e))
-faulty_after args {text = text} {schedule = schedule} {asked = asked} t t' k read is_asked had short same e h =
-    refused_after args t t' k read is_asked (fault_of e) (bad_schedule text schedule asked.shop t t' had short e
-    (subst (λ (bytes : List ℕ). OrNoMemory (IsTableFault asked.shop) bytes e) same h))
+faulty_after args {text =
+    text} {schedule = schedule} {asked = asked} t t' k read is_asked had short same e h = grind (
+      arith,
+      common_steps,
+      refused_after,
+      bad_schedule,
+      asked.shop,
+    )
 
 -- ---- the schedule is judged
 
@@ -64,19 +73,7 @@ pub judged : {args : CheckArgs} {s s' : Device} {text schedule seen line written
     → seen ≡ schedule → IsVerdictOn asked.shop seen feasible line → written ≡ line → Goes written
     → Checks args s s' t t' feasible Goes
 judged {text = text} {schedule = schedule} {line = line} {asked = asked} {feasible = feasible} t t' Goes read is_asked
-    had same judges is goes = record {
-      text = text;
-      read = read;
-      asked = asked;
-      is_asked = is_asked;
-      after = record {
-        schedule = schedule;
-        schedule_read = had;
-        line = line;
-        judges = subst (λ (bytes : List ℕ). IsVerdictOn asked.shop bytes feasible line) same judges;
-        out = subst Goes is goes;
-      };
-    }
+    had same judges is goes = grind (arith, common_steps, asked.shop)
 
 -- ---- over bytes
 
@@ -87,20 +84,12 @@ pub check_refused : (format : Format) (name : Option (List ℕ)) (given : Option
     → OrNoMemory (IsTableFault asked.shop) schedule e
     → OrNoMemory (λ bytes. IsCheckFault format name bytes (schedule_in bytes given)) text e
 check_refused format name given text schedule asked e is_asked same (inl none) =
-    inl (none.0, is_asked.is_text.short)
-check_refused format name given text schedule asked e is_asked same (inr bad) = inr (inr (record {
-  asked = asked;
-  is_asked = is_asked;
-  says = subst (λ (bytes : List ℕ). IsTableFault asked.shop bytes e) same bad;
-}))
+    grind (arith, common_steps, none.0, is_asked.is_text.short)
+check_refused format name given text schedule asked e is_asked same (inr bad) = grind (arith, common_steps, asked.shop)
 
 pub checked : (format : Format) (name : Option (List ℕ)) (given : Option (List ℕ)) (text schedule : List ℕ)
     (asked : NamedShop) (feasible : Bool) (line : List ℕ)
     → IsAsked format name text asked → schedule ≡ schedule_in text given
     → IsVerdictOn asked.shop schedule feasible line
     → IsCheckOf format name text (schedule_in text given) feasible line
-checked format name given text schedule asked feasible line is_asked same h = record {
-  asked = asked;
-  is_asked = is_asked;
-  says = subst (λ (bytes : List ℕ). IsVerdictOn asked.shop bytes feasible line) same h;
-}
+checked format name given text schedule asked feasible line is_asked same h = grind (arith, common_steps, asked.shop)

@@ -1,8 +1,7 @@
 -- What the getters of clap's matches read, by the rows of the matches.
 use Rattle.std.specs.Str.Parse.{IsNumeral, digits_value, without_leading_plus}
-use Rattle.std.proofs.Common.{arith, ◌<◌, ◌^◌}
-use Rattle.std.proofs.Common.{◌≡◌, ◌∙◌, ℕ, sym, ap, subst, Option, Some, None, Bool, true, false, refl, codes}
-use Rattle.std.proofs.Common.{Result, Ok, Err}
+use Rattle.std.proofs.Common.{arith, ◌<◌, ◌^◌, ◌≡◌, ◌∙◌, ℕ, sym, ap, subst, Option, Some, None, Bool, true, false, refl}
+use Rattle.std.proofs.Common.{codes, Result, Ok, Err}
 use Rattle.std.specs.Result.{IsErrAnd}
 use Rattle.clap.specs.Words.{Text, first_value, one_of, one_text, rows_of}
 use Rattle.clap.specs.declared.parser.matches.Found.{Found}

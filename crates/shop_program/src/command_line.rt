@@ -2,12 +2,10 @@
 ghost use Rattle.std.specs.Prelude.{IfOk, codes};
 ghost use Rattle.clap.specs.Words.{App, Rule, new_app, with_rule, with_subcommand};
 ghost use Rattle.clap.specs.declared.builder.value_parser.ValueParser.TheVariants.{Names};
-ghost use Rattle.shop_program.specs.CommandLine.{option_rule, choice_rule, format_rule, number_rule};
-ghost use Rattle.shop_program.specs.CommandLine.{flag_rule, path_rule};
-ghost use Rattle.shop_program.specs.CommandLine.{IsCommandOf, IsCommandLine};
+ghost use Rattle.shop_program.specs.CommandLine.{option_rule, choice_rule, format_rule, number_rule, flag_rule};
+ghost use Rattle.shop_program.specs.CommandLine.{path_rule, IsCommandOf, IsCommandLine, list_command, check_command};
+ghost use Rattle.shop_program.specs.CommandLine.{solve_command, with_plan_rules, IsChoice, format_words, order_words};
 ghost use Rattle.shop_program.specs.inner.Arguments.{IsArgOf};
-ghost use Rattle.shop_program.specs.CommandLine.{list_command, check_command, solve_command};
-ghost use Rattle.shop_program.specs.CommandLine.{with_plan_rules, IsChoice, format_words, order_words};
 
 use crate::help::{CHECK, Help, LIST, PROGRAM, SOLVE};
 use clap::builder::ValueParser;

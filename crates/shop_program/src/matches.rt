@@ -1,12 +1,10 @@
 // Reads the values in clap's matches.
-ghost use Rattle.std.specs.Prelude.{◌≡◌, ◌<◌, ◌^◌, ℕ, IfOk, IfErr, option_map, string_bytes};
+ghost use Rattle.std.specs.Prelude.{◌≡◌, ◌<◌, ◌^◌, ℕ, IfOk, IfErr, option_map, string_bytes, codes};
 ghost use Rattle.clap.specs.Words.{found_of, rows_of};
 ghost use Rattle.shop_text.specs.Formats.{word_of};
-ghost use Rattle.shop_program.specs.CommandLine.{HasText, HasNumber, HasFlag, MayHave};
-ghost use Rattle.shop_program.specs.CommandLine.{UnlessNoMemory};
+ghost use Rattle.shop_program.specs.CommandLine.{HasText, HasNumber, HasFlag, MayHave, UnlessNoMemory};
 ghost use Rattle.shop_program.specs.inner.Arguments.{Reads};
 ghost use Rattle.shop_runs.specs.Orders.{order_word};
-ghost use Rattle.std.specs.Prelude.{codes};
 
 use crate::line_faults::{LineFault, misread};
 use clap::ArgMatches;

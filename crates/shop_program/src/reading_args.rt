@@ -1,8 +1,7 @@
 // Reads the arguments of a command line from its words.
 ghost use Rattle.std.specs.Prelude.{IfOk, IfErr, map, codes, string_bytes};
 ghost use Rattle.clap.specs.Words.{found_of, rows_of};
-ghost use Rattle.shop_program.specs.CommandLine.{IsArgs, IsLineOf, IsUnread, HasPlan};
-ghost use Rattle.shop_program.specs.CommandLine.{UnlessNoMemory};
+ghost use Rattle.shop_program.specs.CommandLine.{IsArgs, IsLineOf, IsUnread, HasPlan, UnlessNoMemory};
 ghost use Rattle.shop_program.specs.inner.Arguments.{Reads};
 
 use crate::arguments::Args;

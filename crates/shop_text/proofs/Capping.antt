@@ -1,15 +1,14 @@
 -- A row whose numbers are capped is judged as the row itself, and capping changes no number of an accepted row.
-use Rattle.std.proofs.Common.{◌≡◌, ℕ, ◌*◌, ◌%◌, ◌<◌, ◌≤◌, inl, inr, Bool, true, false, cond, not, ◌&&◌, leb, ltb}
-use Rattle.std.proofs.Common.{eqb}
-use Rattle.std.proofs.Common.{List, [], ◌∷◌, length, map, Option, Some, None, refl, sym, ap, ◌∙◌, arith}
+use Rattle.std.proofs.lemmas.Grind.{common_steps}
+use Rattle.std.proofs.Common.{◌≡◌, ℕ, ◌*◌, ◌%◌, ◌<◌, ◌≤◌, Bool, true, false, cond, not, ◌&&◌, leb, ltb, eqb}
+use Rattle.std.proofs.Common.{List, [], ◌∷◌, length, map, Option, Some, None, refl, arith}
 use Rattle.std.specs.List.{list_all}
 use Rattle.std.proofs.lemmas.Bool.{cases_lt, ltb-true, leb-true, le-ltb, le-leb, lt-leb, and_parts}
 use Rattle.std.proofs.lemmas.List.{length-map}
-use Rattle.shop_text.specs.inner.LineReading.{capped}
-use Rattle.shop_text.specs.Grammar.{LineFault, WrongRow, WrongMachine, WrongTime}
+use Rattle.shop_text.specs.inner.LineReading.{capped, size_line_fault, times_row_fault, machines_row_fault}
+use Rattle.shop_text.specs.Grammar.{LineFault, WrongRow, WrongTime}
 use Rattle.shop_text.specs.Formats.{is_between, jobs_in, machines_in, size_fault, pairs_fault, pairs_of}
-use Rattle.shop_text.specs.Formats.{orlib_fault, orlib_job, routes_fault, routes_job, times_fault, machines_fault}
-use Rattle.shop_text.specs.inner.LineReading.{size_line_fault, times_row_fault, machines_row_fault}
+use Rattle.shop_text.specs.Formats.{orlib_fault, orlib_job, routes_fault, routes_job}
 
 pub capped_same : (n : ℕ) → n ≤ 18446744073709551615 → capped n ≡ n
 capped_same n h = omega arith
@@ -18,26 +17,13 @@ capped_most : (n : ℕ) → 18446744073709551615 ≤ n → capped n ≡ 18446744
 capped_most n h = omega arith
 
 pub same_le : (n b : ℕ) → b < 18446744073709551615 → leb (capped n) b ≡ leb n b
-same_le n b h = elim (cases_lt n 18446744073709551615) [
-  | inl small ↦ ap (λ (k : ℕ). leb k b) (capped_same n (omega arith))
-  | inr big ↦
-      ap (λ (k : ℕ). leb k b) (capped_most n big) ∙ lt-leb 18446744073709551615 b h
-      ∙ sym (lt-leb n b (omega arith))
-]
+same_le n b h = grind (arith, common_steps, cases_lt, capped_same, capped_most, lt-leb)
 
 pub same_lt : (n b : ℕ) → b < 18446744073709551615 → ltb (capped n) b ≡ ltb n b
-same_lt n b h = elim (cases_lt n 18446744073709551615) [
-  | inl small ↦ ap (λ (k : ℕ). ltb k b) (capped_same n (omega arith))
-  | inr big ↦
-      ap (λ (k : ℕ). ltb k b) (capped_most n big) ∙ le-ltb 18446744073709551615 b (omega arith)
-      ∙ sym (le-ltb n b (omega arith))
-]
+same_lt n b h = grind (arith, common_steps, cases_lt, capped_same, capped_most, le-ltb)
 
 pub same_from : (n : ℕ) → leb 1 (capped n) ≡ leb 1 n
-same_from n = elim (cases_lt n 18446744073709551615) [
-  | inl small ↦ ap (λ (k : ℕ). leb 1 k) (capped_same n (omega arith))
-  | inr big ↦ ap (λ (k : ℕ). leb 1 k) (capped_most n big) ∙ sym (le-leb 1 n (omega arith))
-]
+same_from n = grind (arith, common_steps, cases_lt, capped_same, capped_most, le-leb)
 
 same_between : (high n : ℕ) → high < 18446744073709551615 → is_between 1 high (capped n) ≡ is_between 1 high n
 same_between high n h = rw (same_from n, same_le n high h) refl
@@ -64,23 +50,14 @@ pairs_capped : (machines : ℕ) → machines ≤ 100 → (row : List ℕ)
     → pairs_fault machines (map capped row) ≡ pairs_fault machines row
 pairs_capped machines h [] = refl
 pairs_capped machines h (m ∷ []) = refl
-pairs_capped machines h (m ∷ p ∷ rest) =
-    rw (same_lt m machines (omega arith), same_le p 1000000000 (omega arith), pairs_capped machines h rest) refl
+pairs_capped machines h (m ∷ p ∷ rest) = grind (arith, common_steps, same_lt, same_le, pairs_capped machines h rest)
 
 pairs_same : (machines : ℕ) → machines ≤ 100 → (row : List ℕ) → pairs_fault machines row ≡ None
     → pairs_of (map capped row) ≡ pairs_of row
 pairs_same machines h [] e = refl
 pairs_same machines h (m ∷ []) e = refl
 pairs_same machines h (m ∷ p ∷ rest) e =
-    let first = no_fault_then (ltb m machines) WrongMachine
-    (cond (not (leb p 1000000000)) (Some WrongTime) (pairs_fault machines rest)) e
-    in let second = no_fault_then (leb p 1000000000) WrongTime (pairs_fault machines rest) first.1
-    in let below = ltb-true m machines first.0
-    in let short = leb-true p 1000000000 second.0
-    in let em : capped m ≡ m = capped_same m (omega arith)
-    in let ep : capped p ≡ p = capped_same p (omega arith)
-    in let rest_same : pairs_of (map capped rest) ≡ pairs_of rest = pairs_same machines h rest second.1
-    in rw (em, ep, rest_same) refl
+    grind (arith, common_steps, no_fault_then, ltb-true, leb-true, capped_same, pairs_same machines h rest)
 
 -- ---- rows of `orlib`
 
@@ -99,8 +76,7 @@ orlib_same machines h row e =
 pub routes_capped : (machines : ℕ) → machines ≤ 100 → (row : List ℕ)
     → routes_fault machines (map capped row) ≡ routes_fault machines row
 routes_capped machines h [] = refl
-routes_capped machines h (release ∷ pairs) =
-    rw (length-map pairs capped, same_le release 1000000000 (omega arith), pairs_capped machines h pairs) refl
+routes_capped machines h (release ∷ pairs) = grind (arith, common_steps, length-map, same_le, pairs_capped)
 
 pub routes_same : (machines : ℕ) → machines ≤ 100 → (row : List ℕ) → routes_fault machines row ≡ None
     → routes_job (map capped row) ≡ routes_job row
@@ -123,33 +99,22 @@ all_capped p h (n ∷ row) = rw (h n, all_capped p h row) refl
 all_same : (p : ℕ → Bool) → ((n : ℕ) → p n ≡ true → n ≤ 18446744073709551615) → (row : List ℕ)
     → list_all p row ≡ true → map capped row ≡ row
 all_same p h [] e = refl
-all_same p h (n ∷ row) e =
-    let both = and_parts (p n) (list_all p row) e
-    in rw (capped_same n (h n both.0), all_same p h row both.1) refl
+all_same p h (n ∷ row) e = grind (arith, common_steps, and_parts, capped_same, all_same p h row)
 
 pub times_capped : (machines : ℕ) (row : List ℕ)
     → times_row_fault machines (map capped row) ≡ times_row_fault machines row
-times_capped machines row =
-    rw (length-map row capped, all_capped (λ n. leb n 1000000000) (λ n. same_le n 1000000000 (omega arith)) row) refl
+times_capped machines row = grind (arith, common_steps, length-map, all_capped, same_le)
 
 pub times_same : (machines : ℕ) (row : List ℕ) → times_row_fault machines row ≡ None → map capped row ≡ row
-times_same machines row e =
-    let free = no_fault_then (eqb (length row) machines) WrongRow (times_fault row) e
-    in all_same (λ n. leb n 1000000000) (λ n h. omega (arith, leb-true n 1000000000 h)) row
-    (no_fault_if (list_all (λ n. leb n 1000000000) row) WrongTime free.1)
+times_same machines row e = grind (arith, common_steps, no_fault_then, all_same, leb-true, no_fault_if)
 
 pub machines_capped : (machines : ℕ) → machines ≤ 100 → (row : List ℕ)
     → machines_row_fault machines (map capped row) ≡ machines_row_fault machines row
-machines_capped machines h row =
-    rw (length-map row capped, all_capped (is_between 1 machines) (λ n. same_between machines n (omega arith)) row) refl
+machines_capped machines h row = grind (arith, common_steps, length-map, all_capped, same_between)
 
 pub machines_same : (machines : ℕ) → machines ≤ 100 → (row : List ℕ) → machines_row_fault machines row ≡ None
     → map capped row ≡ row
-machines_same machines h row e =
-    let free = no_fault_then (eqb (length row) machines) WrongRow (machines_fault machines row) e
-    in all_same (is_between 1 machines)
-    (λ n g. omega (arith, leb-true n machines (and_parts (leb 1 n) (leb n machines) g).1)) row
-    (no_fault_if (list_all (is_between 1 machines) row) WrongMachine free.1)
+machines_same machines h row e = grind (arith, common_steps, no_fault_then, all_same, leb-true, and_parts, no_fault_if)
 
 -- ---- size lines
 
@@ -163,13 +128,7 @@ machines_in_capped (j ∷ []) = refl
 machines_in_capped (j ∷ m ∷ row) = refl
 
 size_capped : (row : List ℕ) → size_fault (map capped row) ≡ size_fault row
-size_capped row =
-    rw (
-      jobs_capped row,
-      machines_in_capped row,
-      same_between 1000 (jobs_in row) (omega arith),
-      same_between 100 (machines_in row) (omega arith),
-    ) refl
+size_capped row = grind (arith, common_steps, jobs_capped, machines_in_capped, same_between)
 
 pub size_line_capped : (most : ℕ) (row : List ℕ)
     → size_line_fault most (map capped row) ≡ size_line_fault most row

@@ -1,14 +1,12 @@
 -- The columns of a Gantt text.
-use Rattle.std.proofs.Common.{◌≡◌, ℕ, zero, suc, ◌+◌, ◌*◌, ◌<◌, ◌≤◌, Bool, true, false, ◌&&◌, ◌||◌}
-use Rattle.std.proofs.Common.{cond, eqb, leb, ltb, List, [], ◌∷◌, ◌++◌, length, get_or, refl, sym, ap, ◌∙◌, arith}
-use Rattle.std.proofs.Common.{inl, inr, add-one}
+use Rattle.std.proofs.lemmas.Grind.{common_steps, div_ceil_times}
+use Rattle.std.proofs.Common.{◌≡◌, ℕ, zero, suc, ◌+◌, ◌*◌, ◌<◌, ◌≤◌, Bool, true, false, ◌&&◌, ◌||◌, cond, leb, ltb}
+use Rattle.std.proofs.Common.{List, [], ◌∷◌, ◌++◌, length, get_or, refl, sym, ap, ◌∙◌, arith, inl, inr, add-one}
 use Rattle.std.specs.List.{range_with_len, list_any}
 use Rattle.std.specs.Int.{div_ceil}
-use Rattle.std.specs.Cmp.{both_ways}
 use Rattle.std.proofs.Math.Bool.{or-false}
 use Rattle.std.proofs.Math.Nat.{mul-le-mul_right}
 use Rattle.std.proofs.lemmas.Bool.{cases_lt, eq-eqb, ne_eqb, leb-true, le-leb, ltb-true, lt-ltb}
-use Rattle.std.proofs.lemmas.Grind.{div_ceil_times}
 use Rattle.std.proofs.lemmas.List.Folds.{list_any-append}
 use Rattle.shop_model.specs.declared.ops.Op.{Op}
 use Rattle.shop_model.specs.Shop.{Shop, Starts, no_op, route_of, machine_of, finish_of}
@@ -25,30 +23,14 @@ ceil_le : (a u c : ℕ) → 0 < u → div_ceil a u ≤ c → a ≤ c * u
 ceil_le a u c some h = omega (arith, (div_ceil_times a u some).0, mul-le-mul_right u h)
 
 le_ceil : (a u c : ℕ) → 0 < u → a ≤ c * u → div_ceil a u ≤ c
-le_ceil a u c some h =
-    let near = (div_ceil_times a u some).1
-    in let below : div_ceil a u < c + 1 = product_below u (c + 1) (div_ceil a u) (omega arith)
-    in omega arith
+le_ceil a u c some h = grind (arith, common_steps, div_ceil_times, product_below)
 
 -- a column is not before an instant just where its own instant is not
 pub from_column : (a u c : ℕ) → 0 < u → leb (div_ceil a u) c ≡ leb a (c * u)
-from_column a u c some = both_ways _ _ (λ e. le-leb a (c * u) (ceil_le a u c some (leb-true _ _ e)))
-    (λ e. le-leb _ _ (le_ceil a u c some (leb-true _ _ e)))
+from_column a u c some = grind (arith, common_steps, le-leb, ceil_le, leb-true, le_ceil)
 
 pub to_column : (a u c : ℕ) → 0 < u → ltb c (div_ceil a u) ≡ ltb (c * u) a
-to_column a u c some = both_ways _ _ (λ e. lt-ltb (c * u) a (before (ltb-true _ _ e)))
-    (λ e. lt-ltb c (div_ceil a u) (after (ltb-true _ _ e)))
-  where
-    before : c < div_ceil a u → c * u < a
-    before h =
-        elim (cases_lt (c * u) a) [ inl lt ↦ lt | inr le ↦ absurd (let ge = le_ceil a u c some le in omega arith) ]
-
-    after : c * u < a → c < div_ceil a u
-    after h = elim (cases_lt c (div_ceil a u)) [
-      | inl lt ↦ lt
-      | inr le ↦
-          absurd (let ge = ceil_le a u c some le in omega arith)
-    ]
+to_column a u c some = grind (arith, common_steps, lt-ltb, ltb-true, cases_lt, le_ceil, ceil_le)
 
 pub ceil_mono : (a b u : ℕ) → 0 < u → a ≤ b → div_ceil a u ≤ div_ceil b u
 ceil_mono a b u some h = le_ceil a u (div_ceil b u) some (omega (arith, (div_ceil_times b u some).0))
@@ -63,55 +45,34 @@ either_shown false b character x = refl
 pub shown_both : (old new newer : List ℕ) (character : ℕ) (first second both : ℕ → Bool)
     → ShowsWhere old new character first → ShowsWhere new newer character second → length new ≡ length old
     → ((c : ℕ) → both c ≡ (first c || second c)) → ShowsWhere old newer character both
-shown_both old new newer character first second both f g same either c h =
-    g c (omega arith) ∙ ap (λ (x : ℕ). cond (second c) character x) (f c h)
-    ∙ either_shown (first c) (second c) character (get_or old c 0)
-    ∙ ap (λ (b : Bool). cond b character (get_or old c 0)) (sym (either c))
+shown_both old new newer character first second both f g same either c h = grind (arith, common_steps, either_shown)
 
 -- ---- one more step
 
 range_push : (a n : ℕ) → range_with_len a (n + 1) ≡ range_with_len a n ++ (a + n) ∷ []
 range_push a zero = ap (λ (i : ℕ). i ∷ []) (omega arith)
-range_push a (suc n) =
-    ap (range_with_len a) (add-one (suc n))
-    ∙ ap (λ (is : List ℕ). a ∷ is) (ap (range_with_len (a + 1)) (sym (add-one n)) ∙ range_push (a + 1) n
-    ∙ ap (λ (i : ℕ). range_with_len (a + 1) n ++ i ∷ []) (omega arith))
+range_push a (suc n) = grind (arith, common_steps, add-one, range_push (a + 1) n)
 
 any_more : (p : ℕ → Bool) (a n : ℕ) → list_any p (range_with_len a (n + 1))
     ≡ (list_any p (range_with_len a n) || p (a + n))
-any_more p a n = ap (list_any p) (range_push a n) ∙ list_any-append p (range_with_len a n) ((a + n) ∷ [])
-    ∙ ap (λ (b : Bool). list_any p (range_with_len a n) || b) (or-false (p (a + n)))
+any_more p a n = grind (arith, common_steps, range_push, list_any-append, or-false)
 
 step_more : (shop : Shop) (starts : Starts) (machine instant j k : ℕ)
     → serves_below shop starts machine instant j (k + 1)
     ≡ (serves_below shop starts machine instant j k || is_served shop starts machine instant j k)
-step_more shop starts machine instant j k =
-    any_more (is_served shop starts machine instant j) 0 k
-    ∙ ap (λ (i : ℕ). serves_below shop starts machine instant j k || is_served shop starts machine instant j i)
-    (omega arith)
+step_more shop starts machine instant j k = grind (arith, common_steps, any_more)
 
 -- a step on the machine is shown in its columns
 shown_step : (shop : Shop) (starts : Starts) (machine unit c j k : ℕ) → 0 < unit → machine_of shop j k ≡ machine
     → is_served shop starts machine (c * unit) j k ≡ (leb (div_ceil (starts j k) unit) c
     && ltb c (div_ceil (finish_of shop starts j k) unit))
-shown_step shop starts machine unit c j k some same =
-    ap (λ (b : Bool). b && leb (starts j k) (c * unit) && ltb (c * unit) (finish_of shop starts j k))
-    (eq-eqb (machine_of shop j k) machine same)
-    ∙ ap (λ (b : Bool). b && ltb (c * unit) (finish_of shop starts j k)) (sym (from_column (starts j k) unit c some))
-    ∙ ap (λ (b : Bool). leb (div_ceil (starts j k) unit) c && b)
-    (sym (to_column (finish_of shop starts j k) unit c some))
+shown_step shop starts machine unit c j k some same = grind (arith, common_steps, eq-eqb, from_column, to_column)
 
 -- and one of another machine nowhere
 skipped_step : (shop : Shop) (starts : Starts) (machine instant j k : ℕ) → (machine_of shop j k ≡ machine → ⊥)
     → (serves_below shop starts machine instant j k || is_served shop starts machine instant j k)
     ≡ serves_below shop starts machine instant j k
-skipped_step shop starts machine instant j k other =
-    skipped (serves_below shop starts machine instant j k) (eqb (machine_of shop j k) machine)
-    (leb (starts j k) instant) (ltb instant (finish_of shop starts j k)) (ne_eqb (machine_of shop j k) machine other)
-  where
-    skipped : (so_far a b d : Bool) → a ≡ false → (so_far || (a && b && d)) ≡ so_far
-    skipped so_far false b d e = or-false so_far
-    skipped so_far true b d e = absurd cc
+skipped_step shop starts machine instant j k other = grind (arith, common_steps, ne_eqb, or-false)
 
 -- a route and a row of starts are those of job j
 pub record AreOfJob (shop : Shop) (rows : List (List ℕ)) (j : ℕ) (route : List Op) (row : List ℕ) : Type 0 where

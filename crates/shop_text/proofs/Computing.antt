@@ -1,7 +1,5 @@
 -- The line-by-line reading computes the fault of a text, and its parts where it has none.
-use Rattle.std.proofs.Common.{◌≡◌, ℕ, leb, true, List, [], length, Option, Some, None, sym, ap}
-use Rattle.std.proofs.Common.{◌∙◌, inl, inr}
-use Rattle.std.proofs.Common.{subst}
+use Rattle.std.proofs.Common.{◌≡◌, ℕ, leb, true, List, [], length, Option, Some, None, sym, ap, ◌∙◌, inl, inr, subst}
 use Rattle.std.proofs.lemmas.Bool.{leb-true}
 use Rattle.shop_text.specs.Formats.{grammar_of}
 use Rattle.shop_text.specs.Lines.{Numbered, lines_of}

@@ -1,7 +1,7 @@
 -- Digits at the front of a text.
-use Rattle.std.proofs.Common.{◌≡◌, ℕ, zero, suc, ◌+◌, ◌-◌, ◌*◌, ◌^◌, ◌<◌, ◌≤◌, true, false, not}
-use Rattle.std.proofs.Common.{List, [], ◌∷◌, length, get_or, take, drop, Some, None, refl, sym, ap, ◌∙◌}
-use Rattle.std.proofs.Common.{arith, take_all}
+use Rattle.std.proofs.lemmas.Grind.{common_steps}
+use Rattle.std.proofs.Common.{◌≡◌, ℕ, zero, suc, ◌+◌, ◌-◌, ◌*◌, ◌^◌, ◌<◌, ◌≤◌, true, false, not, List, [], ◌∷◌, length}
+use Rattle.std.proofs.Common.{get_or, take, drop, Some, None, refl, ap, arith, take_all}
 use Rattle.std.specs.Prelude.{position}
 use Rattle.std.specs.Char.{is_ascii_digit}
 use Rattle.std.specs.List.{position_or_len}
@@ -10,16 +10,13 @@ use Rattle.std.proofs.lemmas.Bool.{and_parts, lt-ltb, le-ltb}
 use Rattle.std.proofs.lemmas.Bool.Decides.{nat_tests}
 use Rattle.std.proofs.lemmas.List.Sums.{position_or_len_is}
 use Rattle.shop_text.specs.Lines.{is_number, value_of, is_separator}
-use Rattle.shop_text.specs.inner.LineReading.{capped, number_in, AreLeadingDigits, IsNumberCut}
+use Rattle.shop_text.specs.inner.LineReading.{number_in, AreLeadingDigits, IsNumberCut}
 use Rattle.shop_text.proofs.Capping.{capped_same}
 use Rattle.shop_text.proofs.LineLemmas.{tokens_at, tokens_to_end}
 
 -- behind at most 18 digits there is room for one more
 pub room_for_digit : (i value : ℕ) → i < 19 → value < 10 ^ i → 10 * value + 9 < 18446744073709551616
-room_for_digit i value few below =
-    let most : 10 ^ i ≤ 10 ^ 18 = pow-le-pow_right {n = 10} (omega arith) {i = i} {j = 18} (omega arith)
-    in let limit : 10 ^ 18 ≡ 1000000000000000000 = refl
-    in omega arith
+room_for_digit i value few below = grind (arith, common_steps, pow-le-pow_right)
 
 -- ---- where the digits end
 
@@ -30,10 +27,15 @@ pub before_digits_end : (text : List ℕ) (n : ℕ) → is_number (take n text) 
     → is_separator (get_or text k 0) ≡ false
 before_digits_end text zero e h k lt = absurd (omega arith)
 before_digits_end [] (suc n) e h k lt = absurd (omega arith)
-before_digits_end (b ∷ text) (suc n) e h zero lt =
-    digit_is_none b (and_parts (is_ascii_digit b) (is_number (take n text)) e).0
+before_digits_end (b ∷ text) (suc n) e h zero lt = grind (arith, common_steps, digit_is_none, and_parts)
 before_digits_end (b ∷ text) (suc n) e h (suc k) lt =
-    before_digits_end text n (and_parts (is_ascii_digit b) (is_number (take n text)) e).1 (omega arith) k (omega arith)
+    grind (
+      arith,
+      common_steps,
+      and_parts,
+      before_digits_end text n (and_parts (is_ascii_digit b) (is_number (take n
+          text)) e).1 (omega arith) k (omega arith),
+    )
 
 -- the digits end the text
 pub no_end : (text : List ℕ) (n : ℕ) → is_number (take n text) ≡ true → n ≡ length text
@@ -56,8 +58,7 @@ end_here text n e h here =
 -- digits that fit have the value that was read
 value_fits : (token : List ℕ) (value : ℕ) → is_number token ≡ true → value ≡ value_of token
     → value < 18446744073709551616 → Some value ≡ number_in token
-value_fits token value are is fits =
-    rw are (ap (λ (n : ℕ). Some n) (sym (capped_same value (omega arith)) ∙ ap capped is))
+value_fits token value are is fits = grind (arith, common_steps, capped_same)
 
 pub cut_to_end : (line : List ℕ) (start value n : ℕ) → position (λ b. not (is_separator b)) line ≡ Some start
     → AreLeadingDigits (take (length line - start) (drop start line)) value n
@@ -66,14 +67,7 @@ pub cut_to_end : (line : List ℕ) (start value n : ℕ) → position (λ b. not
     (take (length (take (length line - start) (drop start line)) - length
     (take (length line - start) (drop start line)))
     (drop (length (take (length line - start) (drop start line))) (take (length line - start) (drop start line))))
-cut_to_end line start value n e l h =
-    let rest = take (length line - start) (drop start line)
-    in let whole : take n rest ≡ rest = take_all n rest (omega arith)
-    in (
-      rest,
-      tokens_to_end line start e (no_end rest n l.are h),
-      value_fits rest value (sym (ap is_number whole) ∙ l.are) (l.is ∙ ap value_of whole) l.fits,
-    )
+cut_to_end line start value n e l h = grind (arith, common_steps, take_all, tokens_to_end, no_end, value_fits)
 
 pub cut_at : (line : List ℕ) (start value n : ℕ) → position (λ b. not (is_separator b)) line ≡ Some start
     → AreLeadingDigits (take (length line - start) (drop start line)) value n
@@ -82,10 +76,4 @@ pub cut_at : (line : List ℕ) (start value n : ℕ) → position (λ b. not (is
     → IsNumberCut line (Some value)
     (take (length (take (length line - start) (drop start line)) - (n + 1))
     (drop (n + 1) (take (length line - start) (drop start line))))
-cut_at line start value n e l h here =
-    let rest = take (length line - start) (drop start line)
-    in (
-      take n rest,
-      tokens_at line start n e (end_here rest n l.are h here),
-      value_fits (take n rest) value l.are l.is l.fits,
-    )
+cut_at line start value n e l h here = grind (arith, common_steps, tokens_at, end_here, value_fits)

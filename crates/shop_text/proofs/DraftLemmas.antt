@@ -1,27 +1,23 @@
 -- A draft after one more number line.
-use Rattle.std.proofs.Common.{◌≡◌, ℕ, ◌+◌, ◌<◌, ◌≤◌, false, eqb}
-use Rattle.std.proofs.Common.{List, [], ◌∷◌, ◌++◌, length, map, take, drop, get_or, Option, None, Result, Ok}
-use Rattle.std.proofs.Common.{Err, Vec}
-use Rattle.std.proofs.Common.{refl, sym, ap, ◌∙◌, subst, arith, min}
-use Rattle.std.specs.Prelude.{IsErr, IsOk, ◌↔◌, All}
+use Rattle.std.proofs.lemmas.Grind.{common_steps}
+use Rattle.std.proofs.Common.{◌≡◌, ℕ, ◌+◌, ◌<◌, ◌≤◌, false, eqb, List, [], ◌∷◌, ◌++◌, length, map, take, drop, get_or}
+use Rattle.std.proofs.Common.{Option, None, Result, Ok, Err, Vec, refl, sym, ap, ◌∙◌, subst, arith, min}
+use Rattle.std.specs.Prelude.{IsErr, IsOk, ◌↔◌}
 use Rattle.std.specs.List.{zip}
 use Rattle.std.specs.declared.alloc.Global.{Global}
 use Rattle.std.proofs.lemmas.Bool.{lt-ltb, le-ltb, ne_eqb}
 use Rattle.std.proofs.lemmas.List.{length-map, map-append, length-append, length-take, length-take-le, length-drop}
 use Rattle.std.proofs.lemmas.List.{take-append-le, drop-append-le, get_or-map}
-use Rattle.std.proofs.lemmas.List.Elements.{All-push}
 use Rattle.std.proofs.lemmas.Slice.Zip.{length-zip}
 use Rattle.shop_model.specs.declared.ops.Job.{Job}
 use Rattle.shop_model.specs.Shop.{ShopJob}
 use Rattle.shop_model.specs.Given.{job_as_given}
 use Rattle.shop_model.specs.Limits.{IsJobWithin, AreJobsWithin}
-use Rattle.shop_text.specs.inner.LineReading.{capped}
+use Rattle.shop_text.specs.inner.LineReading.{capped, Fails, JudgesRow, times_row_fault, machines_row_fault}
 use Rattle.shop_text.specs.inner.DraftLimits.{IsDraftWithin}
 use Rattle.shop_text.specs.Grammar.{Row, LineFault}
-use Rattle.shop_text.specs.Formats.{grammar_of, jobs_in, machines_in, orlib_fault, orlib_job, routes_fault}
-use Rattle.shop_text.specs.Formats.{routes_job}
+use Rattle.shop_text.specs.Formats.{grammar_of, jobs_in, machines_in, orlib_fault, orlib_job, routes_fault, routes_job}
 use Rattle.shop_text.specs.Formats.{taillard, taillard_job}
-use Rattle.shop_text.specs.inner.LineReading.{Fails, JudgesRow, times_row_fault, machines_row_fault}
 use Rattle.shop_text.specs.inner.Drafts.{items_of, jobs_drafted, HoldsRows, IsDraft}
 use Rattle.shop_text.specs.declared.instance_drafts.Draft.{Draft}
 use Rattle.shop_text.specs.declared.faults.ReadFault.{ReadFault}
@@ -39,18 +35,7 @@ ok_since (Err e) h p = absurd (h.0 refl p)
 pub all_there : (wanted machines : ℕ) (times : List (Vec ℕ Global)) (old jobs : List Job) (job : Job)
     → IsDraftWithin wanted machines times old → 0 < wanted → IsJobWithin machines job → jobs ≡ old ++ job ∷ []
     → AreJobsWithin machines jobs
-all_there wanted machines times old jobs job w some within e =
-    let room = w.room some
-    in let len : length jobs ≡ length old + 1 = ap length e ∙ length-append old (job ∷ [])
-    in let few = w.few_jobs
-    in record {
-      some_machine = w.some_machine some;
-      few_machines = w.few_machines;
-      some_job = omega arith;
-      few_jobs = omega arith;
-      each = subst (λ js. All (IsJobWithin machines) js) (sym e)
-          (All-push (IsJobWithin machines) old job w.each_job within);
-    }
+all_there wanted machines times old jobs job w some within e = grind (arith, common_steps, length-append)
 
 -- ---- the job of a row
 
@@ -79,16 +64,7 @@ pub row_judged : (fault : FaultOf) (job_of : Row → ShopJob)
     → JudgesRow r n (fault (machines_in size) written)
     (λ job. map job_as_given (jobs ++ job ∷ []) ≡ map job_of (rows ++ written ∷ []))
 row_judged fault job_of cap same jobs machines n row r few h size rows written em ej er =
-    let e : fault machines row ≡ fault (machines_in size) written =
-    ap (fault machines) er ∙ cap machines few written ∙ ap (λ (m : ℕ). fault m written) em
-    in judged_on (λ job. job_as_given job ≡ job_of row)
-    (λ job. map job_as_given (jobs ++ job ∷ []) ≡ map job_of (rows ++ written ∷ [])) r n (fault machines row)
-    (fault (machines_in size) written) e
-    (λ job free is.
-    job_pushed jobs job (map job_of rows) (job_of written) ej
-    (is ∙ ap job_of er
-    ∙ same machines few written (sym (cap machines few written) ∙ sym (ap (fault machines) er) ∙ free))
-    ∙ sym (map-append job_of rows (written ∷ []))) h
+    grind (arith, common_steps, judged_on, job_pushed, map-append)
 
 -- ---- the job of two rows of `taillard`
 
@@ -115,16 +91,12 @@ times_refused size rows written h = rw (lt-ltb (length rows) (jobs_in size) h) r
 -- the rows of times are all there
 pub times_there : (j : ℕ) (times : List (Vec ℕ Global)) (rows : List Row) → map items_of times ≡ take j rows
     → j ≤ length times → j ≤ length rows
-times_there j times rows e h =
-    omega (arith, length-map times items_of, ap length e, length-take j rows)
+times_there j times rows e h = grind (arith, common_steps, length-map, length-take)
 
 -- there are as many jobs as rows of machines
 pub jobs_there : (j : ℕ) (jobs : List Job) (rows : List Row) → j ≤ length rows → length jobs < j
     → map job_as_given jobs ≡ map taillard_job (zip (take j rows) (drop j rows)) → length (drop j rows) ≡ length jobs
-jobs_there j jobs rows all room e =
-    let lens : length jobs ≡ length (zip (take j rows) (drop j rows)) =
-    sym (length-map jobs job_as_given) ∙ ap length e ∙ length-map (zip (take j rows) (drop j rows)) taillard_job
-    in omega (arith, length-zip (take j rows) (drop j rows), length-take-le j rows all)
+jobs_there j jobs rows all room e = grind (arith, common_steps, length-map, length-zip, length-take-le)
 
 matrices_push : (j : ℕ) (jobs : List Job) (job : Job) (rows : List Row) (held written : Row) → j ≤ length rows
     → length jobs < j → map job_as_given jobs ≡ map taillard_job (zip (take j rows) (drop j rows))
@@ -213,18 +185,7 @@ taillard_next draft n held row r some all at h (size ∷ rows) written d e =
 pub taillard_lens : (draft : Draft) (size : Row) (rows : List Row) → HoldsRows Taillard draft size rows
     → (length draft.times.items ≡ min draft.jobs_wanted (length rows)) × (length rows
     ≡ length draft.times.items + length draft.jobs.items)
-taillard_lens draft size rows d =
-    let room = draft.within.room (omega (arith, d.some_job))
-    in let times : length draft.times.items ≡ length (take (jobs_in size) rows) =
-    sym (length-map draft.times.items items_of) ∙ ap length d.times
-    in let both : List (Row × Row) = zip (take (jobs_in size) rows) (drop (jobs_in size) rows)
-    in let jobs : length draft.jobs.items ≡ length both =
-    sym (length-map draft.jobs.items job_as_given) ∙ ap length d.jobs ∙ length-map both taillard_job
-    in let wanted = d.wanted
-    in let a = length-take (jobs_in size) rows
-    in let b = length-drop (jobs_in size) rows
-    in let z = length-zip (take (jobs_in size) rows) (drop (jobs_in size) rows)
-    in (omega arith, omega arith)
+taillard_lens draft size rows d = grind (arith, common_steps, length-map, length-take, length-drop, length-zip)
 
 -- in the other formats, by the jobs
 pub rows_lens : (job_of : Row → ShopJob) (jobs : List Job) (rows : List Row) → map job_as_given jobs ≡ map job_of rows
@@ -233,21 +194,10 @@ rows_lens job_of jobs rows e = sym (length-map rows job_of) ∙ sym (ap length e
 
 pub skips_full : (draft : Draft) → 0 < length draft.times.items → length draft.jobs.items ≡ 0 → (rows : List Row)
     → IsDraft Taillard draft rows → eqb (length draft.times.items) draft.jobs_wanted ≡ taillard.skips rows
-skips_full draft some none [] d = absurd (let e = draft.within.no_times d in omega arith)
-skips_full draft some none (size ∷ rows) d =
-    let lens = taillard_lens draft size rows d
-    in let same : length rows ≡ length draft.times.items = omega (arith, lens.1)
-    in rw (same, ne_eqb (length draft.times.items) 0 (λ e. omega arith), ← d.wanted) refl
+skips_full draft some none [] d = grind (arith, common_steps)
+skips_full draft some none (size ∷ rows) d = grind (arith, common_steps, taillard_lens, ne_eqb)
 
 pub skips_not : (draft : Draft) → 0 < length draft.jobs.items → (rows : List Row) → IsDraft Taillard draft rows
     → false ≡ taillard.skips rows
-skips_not draft some [] d = absurd (let e = draft.within.no_jobs d in omega arith)
-skips_not draft some (size ∷ rows) d =
-    let lens = taillard_lens draft size rows d
-    in let wanted = d.wanted
-    in let some_job = d.some_job
-    in rw (
-      ne_eqb (length rows) 0 (λ e. omega (arith, lens.1)),
-      ne_eqb (length rows) (jobs_in size)
-          (λ e. omega (arith, lens.0, lens.1)),
-    ) refl
+skips_not draft some [] d = grind (arith, common_steps)
+skips_not draft some (size ∷ rows) d = grind (arith, common_steps, taillard_lens, ne_eqb)

@@ -1,9 +1,7 @@
 -- What comes of a number line: a size line, a row of times, or the row of a job.
-use Rattle.std.proofs.Common.{◌≡◌, ℕ, ◌+◌, ◌*◌, ◌<◌, ◌≤◌, inl, inr, true, false, eqb, List, []}
-use Rattle.std.proofs.Common.{◌∷◌}
-use Rattle.std.proofs.Common.{◌++◌, length, map, take, drop, Option, Some, None, Result, Ok, Err, Vec, refl, sym, ap}
-use Rattle.std.proofs.Common.{◌∙◌, subst}
-use Rattle.std.proofs.Common.{arith}
+use Rattle.std.proofs.lemmas.Grind.{common_steps}
+use Rattle.std.proofs.Common.{◌≡◌, ℕ, ◌+◌, ◌*◌, ◌<◌, ◌≤◌, inl, true, false, eqb, List, [], ◌∷◌, ◌++◌, length, map}
+use Rattle.std.proofs.Common.{take, drop, Option, Some, None, Result, Ok, Err, Vec, refl, ap, ◌∙◌, arith}
 use Rattle.std.specs.List.{zip}
 use Rattle.std.specs.declared.alloc.Global.{Global}
 use Rattle.std.proofs.lemmas.Bool.{cases_eq, ltb-true, ltb-false, eq-eqb, ne_eqb}
@@ -11,13 +9,11 @@ use Rattle.std.proofs.lemmas.List.{map-append, length-append, take_all, drop_all
 use Rattle.shop_model.specs.declared.ops.Job.{Job}
 use Rattle.shop_model.specs.Shop.{Shop, ShopJob}
 use Rattle.shop_model.specs.Given.{job_as_given}
-use Rattle.shop_text.specs.Formats.{grammar_of}
+use Rattle.shop_text.specs.Formats.{grammar_of, jobs_in, machines_in, taillard_job}
 use Rattle.shop_text.specs.inner.Grammars.{fields_of}
-use Rattle.shop_text.specs.inner.LineReading.{capped}
+use Rattle.shop_text.specs.inner.LineReading.{capped, Fails, size_line_fault, times_row_fault}
 use Rattle.shop_text.specs.Grammar.{Row}
-use Rattle.shop_text.specs.Formats.{jobs_in, machines_in, orlib_job, routes_job, taillard, taillard_job}
-use Rattle.shop_text.specs.inner.LineReading.{Fails, size_line_fault, times_row_fault}
-use Rattle.shop_text.specs.inner.Drafts.{items_of, jobs_drafted, HoldsTimes, HoldsRows, IsDraft, wants_times, PushesJob}
+use Rattle.shop_text.specs.inner.Drafts.{jobs_drafted, HoldsTimes, HoldsRows, IsDraft, wants_times, PushesJob}
 use Rattle.shop_text.specs.inner.Drafts.{IsOneMore, TakesRow}
 use Rattle.shop_text.specs.declared.instance_drafts.Draft.{Draft}
 use Rattle.shop_text.specs.declared.faults.ReadFault.{ReadFault}
@@ -32,11 +28,8 @@ use Rattle.shop_text.proofs.DraftLemmas.{zip_none, times_refused, times_there, t
 pub size_failed : (p : Format) (draft : Draft) (most n : ℕ) (row : Row) (e : ReadFault) → draft.jobs_wanted ≡ 0
     → most ≡ (fields_of p).most_in_size → Fails e n (size_line_fault most row) → (rows : List Row) (written : Row)
     → IsDraft p draft rows → row ≡ map capped written → Fails e n ((grammar_of p).refuses rows written)
-size_failed p draft most n row e none em h [] written d er =
-    subst (λ o. Fails e n o)
-    (ap (size_line_fault most) er ∙ size_line_capped most written ∙ ap (λ (k : ℕ). size_line_fault k written) em
-    ∙ size_line_is p written) h
-size_failed p draft most n row e none em h (size ∷ rows) written d er = absurd (let s = d.some_job in omega arith)
+size_failed p draft most n row e none em h [] written d er = grind (arith, common_steps, size_line_capped, size_line_is)
+size_failed p draft most n row e none em h (size ∷ rows) written d er = grind (arith, common_steps)
 
 -- ---- a row of times
 
@@ -48,14 +41,7 @@ times_failed Orlib draft n row e some w h rows written d er = absurd cc
 times_failed Routes draft n row e some w h rows written d er = absurd cc
 times_failed Taillard draft n row e some w h [] written d er = absurd (omega arith)
 times_failed Taillard draft n row e some w h (size ∷ rows) written d er =
-    let few = ltb-true (length draft.times.items) draft.jobs_wanted w
-    in let lens = taillard_lens draft size rows d
-    in let wanted = d.wanted
-    in let fault : times_row_fault draft.machines row ≡ taillard.refuses (size ∷ rows) written =
-    ap (times_row_fault draft.machines) er ∙ times_capped draft.machines written
-    ∙ ap (λ (m : ℕ). times_row_fault m written) d.machines
-    ∙ sym (times_refused size rows written (omega (arith, lens.0)))
-    in subst (λ o. Fails e n o) fault h
+    grind (arith, common_steps, ltb-true, taillard_lens, times_capped, times_refused)
 
 -- a row of times more
 record IsTimesMore (old new : Draft) (row : Vec ℕ Global) : Type 0 where
@@ -65,40 +51,25 @@ record IsTimesMore (old new : Draft) (row : Vec ℕ Global) : Type 0 where
   times : new.times.items ≡ old.times.items ++ row ∷ []
 
 no_matrices : (j : ℕ) (rows : List Row) → length rows ≤ j → map taillard_job (zip (take j rows) (drop j rows)) ≡ []
-no_matrices j rows h =
-    ap (λ (ms : List Row). map taillard_job (zip (take j rows) ms)) (drop_all j rows h)
-    ∙ ap (map taillard_job) (zip_none (take j rows))
+no_matrices j rows h = grind (arith, common_steps, drop_all, zip_none)
 
 times_taken : (old new : Draft) (row : Row) (taken : Vec ℕ Global) (size : Row) (rows : List Row) (written : Row)
     → IsTimesMore old new taken → length rows < jobs_in size → times_row_fault old.machines row ≡ None
     → taken.items ≡ row → HoldsRows Taillard old size rows → row ≡ map capped written
     → IsOneMore Taillard (size ∷ rows) written new
 times_taken old new row taken size rows written more few free is d er =
-    let len = length-append rows (written ∷ [])
-    in let some_job = d.some_job
-    in let judged : times_row_fault old.machines row ≡ times_row_fault old.machines written =
-    ap (times_row_fault old.machines) er ∙ times_capped old.machines written
-    in let free_written : times_row_fault old.machines written ≡ None = sym judged ∙ free
-    in let taken_is : taken.items ≡ written = is ∙ er ∙ times_same old.machines written free_written
-    in record {
-      accepted = times_refused size rows written few ∙ ap (λ (m : ℕ). times_row_fault m written) (sym d.machines)
-          ∙ free_written;
-      room = ne_eqb (length (rows ++ written ∷ [])) (2 * jobs_in size) (λ e. omega arith);
-      draft_holds = record {
-        some_job = (let e = more.wanted in omega arith);
-        wanted = more.wanted ∙ d.wanted;
-        machines = more.machines ∙ d.machines;
-        times = ap (map items_of) more.times ∙ map-append items_of old.times.items (taken ∷ [])
-            ∙ rw (
-              d.times,
-              take_all (jobs_in size) rows (omega arith),
-              taken_is,
-              take_all (jobs_in size) (rows ++ written ∷ []) (omega arith),
-            ) refl;
-        jobs = ap (λ v. map job_as_given v.items) more.jobs ∙ d.jobs ∙ no_matrices (jobs_in size) rows (omega arith)
-            ∙ sym (no_matrices (jobs_in size) (rows ++ written ∷ []) (omega arith));
-      };
-    }
+    grind (
+      arith,
+      common_steps,
+      length-append,
+      times_capped,
+      times_same,
+      times_refused,
+      ne_eqb,
+      map-append,
+      take_all,
+      no_matrices,
+    )
 
 pub times_accepted : (p : Format) (old new : Draft) (row : Row) (taken : Vec ℕ Global) → 0 < old.jobs_wanted
     → wants_times p old.jobs_wanted (length old.times.items) ≡ true → times_row_fault old.machines row ≡ None
@@ -118,10 +89,7 @@ times_accepted Taillard old new row taken some w free is ew em ej et (size ∷ r
 -- ---- the row of a job
 
 same_count : (j k : ℕ) → eqb (j + k) (2 * j) ≡ eqb k j
-same_count j k = elim (cases_eq k j) [
-  | inl e ↦ eq-eqb (j + k) (2 * j) (omega arith) ∙ sym (eq-eqb k j e)
-  | inr ne ↦ ne_eqb (j + k) (2 * j) (λ e. ne (omega arith)) ∙ sym (ne_eqb k j ne)
-]
+same_count j k = grind (arith, common_steps, cases_eq, eq-eqb, ne_eqb)
 
 -- whether the part is whole
 whole_after : (p : Format) (draft : Draft) (job : Job) (size : Row) (rows : List Row) (written : Row)
@@ -129,17 +97,10 @@ whole_after : (p : Format) (draft : Draft) (job : Job) (size : Row) (rows : List
     → map job_as_given (draft.jobs.items ++ job ∷ []) ≡ jobs_drafted p ((size ∷ rows) ++ written ∷ [])
     → (grammar_of p).is_whole ((size ∷ rows) ++ written ∷ [])
     ≡ eqb (length (draft.jobs.items ++ job ∷ [])) draft.jobs_wanted
-whole_after Orlib draft job size rows written d w e =
-    rw (rows_lens orlib_job (draft.jobs.items ++ job ∷ []) (rows ++ written ∷ []) e, d.wanted) refl
-whole_after Routes draft job size rows written d w e =
-    rw (rows_lens routes_job (draft.jobs.items ++ job ∷ []) (rows ++ written ∷ []) e, d.wanted) refl
+whole_after Orlib draft job size rows written d w e = grind (arith, common_steps, rows_lens)
+whole_after Routes draft job size rows written d w e = grind (arith, common_steps, rows_lens)
 whole_after Taillard draft job size rows written d w e =
-    let all = ltb-false (length draft.times.items) draft.jobs_wanted w
-    in let lens = taillard_lens draft size rows d
-    in let wanted = d.wanted
-    in let len : length (rows ++ written ∷ []) ≡ jobs_in size + length (draft.jobs.items ++ job ∷ []) =
-    omega (arith, lens.0, lens.1, length-append rows (written ∷ []), length-append draft.jobs.items (job ∷ []))
-    in rw (len, same_count (jobs_in size) (length (draft.jobs.items ++ job ∷ [])), d.wanted) refl
+    grind (arith, common_steps, ltb-false, taillard_lens, length-append, same_count)
 
 times_kept : (p : Format) (old new : Draft) (size : Row) (rows : List Row) (written : Row) → HoldsRows p old size rows
     → wants_times p old.jobs_wanted (length old.times.items) ≡ false → new.times ≡ old.times
@@ -147,11 +108,7 @@ times_kept : (p : Format) (old new : Draft) (size : Row) (rows : List Row) (writ
 times_kept Orlib old new size rows written d w e = tt
 times_kept Routes old new size rows written d w e = tt
 times_kept Taillard old new size rows written d w e =
-    let all = ltb-false (length old.times.items) old.jobs_wanted w
-    in let wanted = d.wanted
-    in let enough : jobs_in size ≤ length rows =
-    times_there (jobs_in size) old.times.items rows d.times (omega arith)
-    in ap (λ v. map items_of v.items) e ∙ d.times ∙ sym (take-append-le (jobs_in size) rows (written ∷ []) enough)
+    grind (arith, common_steps, ltb-false, times_there, take-append-le)
 
 shop_whole : (p : Format) (machines : ℕ) (jobs : List ShopJob) (size : Row) (rows : List Row)
     → machines ≡ machines_in size → jobs ≡ jobs_drafted p (size ∷ rows)

@@ -1,10 +1,8 @@
 -- The names that lines give.
-use Rattle.std.proofs.Common.{◌≡◌, ℕ, zero, suc, Bool, true, false, cond, ◌&&◌, leb, List}
-use Rattle.std.proofs.Common.{[], ◌∷◌}
-use Rattle.std.proofs.Common.{Some, None, refl, sym, ap, ◌∙◌, arith}
-use Rattle.std.specs.Prelude.{codes}
+use Rattle.std.proofs.lemmas.Grind.{common_steps}
+use Rattle.std.proofs.Common.{◌≡◌, ℕ, zero, suc, true, List, [], ◌∷◌, Some, None, refl, arith}
 use Rattle.std.specs.List.{list_all}
-use Rattle.std.specs.Str.{IsAscii, IsUtf8, bytes_eq}
+use Rattle.std.specs.Str.{IsAscii, IsUtf8}
 use Rattle.std.proofs.lemmas.Bool.{and_parts, leb-true}
 use Rattle.std.proofs.lemmas.Str.{IsUtf8-from_ascii}
 use Rattle.shop_text.specs.Lines.{Blank, Numbers, Words}
@@ -14,23 +12,21 @@ use Rattle.shop_text.specs.declared.formats.Format.TheVariants.{Orlib, Taillard,
 
 visible_ascii : (bytes : List ℕ) → list_all is_visible bytes ≡ true → IsAscii bytes
 visible_ascii [] e i = omega arith
-visible_ascii (b ∷ bytes) e zero =
-    let both = and_parts (is_visible b) (list_all is_visible bytes) e
-    in let high = leb-true b 126 (and_parts (leb 33 b) (leb b 126) both.0).1
-    in omega arith
-visible_ascii (b ∷ bytes) e (suc i) = visible_ascii bytes (and_parts (is_visible b) (list_all is_visible bytes) e).1 i
+visible_ascii (b ∷ bytes) e zero = grind (arith, common_steps, and_parts, leb-true)
+visible_ascii (b ∷ bytes) e (suc i) =
+    grind (
+      arith,
+      common_steps,
+      and_parts,
+      visible_ascii bytes (and_parts (is_visible b) (list_all is_visible bytes)
+          e).1 i,
+    )
 
 pub header_visible : (words : List (List ℕ)) (bytes : List ℕ) → header_of (Words words) ≡ Some bytes
     → list_all is_visible bytes ≡ true
 header_visible [] bytes e = absurd cc
 header_visible (w ∷ []) bytes e = absurd cc
-header_visible (w ∷ n ∷ []) bytes e = told (bytes_eq w (codes "instance")) (list_all is_visible n) refl e
-  where
-    told : (a b : Bool) → list_all is_visible n ≡ b → cond (a && b) (Some n) None ≡ Some bytes
-        → list_all is_visible bytes ≡ true
-    told true true h g = let same : n ≡ bytes = cc in ap (list_all is_visible) (sym same) ∙ h
-    told true false h g = absurd cc
-    told false b h g = absurd cc
+header_visible (w ∷ n ∷ []) bytes e = grind (arith, common_steps)
 header_visible (w ∷ n ∷ m ∷ words) bytes e = absurd cc
 
 -- a name is text

@@ -1,8 +1,8 @@
 -- The lines of jobs in a schedule text: labels, and what is read so far.
-use Rattle.std.proofs.Common.{◌≡◌, ℕ, ◌+◌, ◌-◌, ◌<◌, ◌≤◌, Bool, true, false, not, ◌&&◌, cond, eqb, ltb, List, [], ◌∷◌}
-use Rattle.std.proofs.Common.{◌++◌, length, get_or, take, map, Option, Some, None, refl, sym, ap, ◌∙◌, arith, inl, inr}
-use Rattle.std.proofs.Common.{subst, Vec, Global}
-use Rattle.std.specs.Prelude.{filter, codes}
+use Rattle.std.proofs.lemmas.Grind.{common_steps}
+use Rattle.std.proofs.Common.{◌≡◌, ℕ, ◌+◌, ◌-◌, ◌<◌, ◌≤◌, Bool, true, false, not, ◌&&◌, cond, eqb, List, [], ◌∷◌, ◌++◌}
+use Rattle.std.proofs.Common.{length, get_or, take, Option, Some, None, refl, sym, ap, ◌∙◌, arith, Vec, Global}
+use Rattle.std.specs.Prelude.{codes}
 use Rattle.std.specs.List.{enumerate_from}
 use Rattle.std.specs.Str.{bytes_eq}
 use Rattle.std.proofs.lemmas.Bool.{cases_eq, eq-eqb, eqb-true, ltb-true}
@@ -10,11 +10,10 @@ use Rattle.std.proofs.lemmas.List.{take_more, take_all, get_or_at, length-take-l
 use Rattle.std.proofs.lemmas.List.{append_assoc, length_push}
 use Rattle.std.proofs.lemmas.List.FromFn.{length-enumerate_from}
 use Rattle.std.proofs.lemmas.Slice.Eq.{bytes_eq-Decides}
-use Rattle.shop_model.specs.Shop.{Shop, route_of}
+use Rattle.shop_model.specs.Shop.{Shop}
 use Rattle.shop_text.specs.Lines.{lines_of, tokens_of, is_empty, is_number, value_of}
 use Rattle.shop_text.specs.inner.LineReading.{capped}
-use Rattle.shop_text.specs.Schedules.{Tokens, begins_with_job, is_counted, is_label, starts_in, row_in, AreJobLines}
-use Rattle.shop_text.specs.Schedules.{GoesWrong, IsBadAt}
+use Rattle.shop_text.specs.Schedules.{Tokens, is_label, row_in, AreJobLines, IsBadAt}
 use Rattle.shop_text.proofs.Passing.{one_behind}
 use Rattle.shop_text.specs.inner.ScheduleReading.{counted_after, IsReadSoFar, rows_held}
 
@@ -25,17 +24,12 @@ whole_token token i e = sym (take_all (i + 1) token (omega arith)) ∙ take_more
 
 colon_last : (token : List ℕ) (i : ℕ) → length token ≡ i + 1 → get_or token i 0 ≡ 58
     → bytes_eq token (take i token ++ codes ":") ≡ true
-colon_last token i e at =
-    let same : token ≡ take i token ++ 58 ∷ [] = whole_token token i e ∙ ap (λ (b : ℕ). take i token ++ b ∷ []) at
-    in (bytes_eq-Decides token (take i token ++ 58 ∷ [])).1 same
+colon_last token i e at = grind (arith, common_steps, whole_token, bytes_eq-Decides)
 
 no_colon : (token : List ℕ) (i : ℕ) → length token ≡ i + 1 → (get_or token i 0 ≡ 58 → ⊥) → (b : Bool)
     → bytes_eq token (take i token ++ codes ":") ≡ b → b ≡ false
 no_colon token i e ne false same = refl
-no_colon token i e ne true same =
-    let is : token ≡ take i token ++ 58 ∷ [] = (bytes_eq-Decides token (take i token ++ 58 ∷ [])).0 same
-    in absurd (ne (ap (λ (xs : List ℕ). get_or xs i 0) is
-    ∙ get_or_at (take i token) 58 [] 0 i (length-take-le i token (omega arith))))
+no_colon token i e ne true same = grind (arith, common_steps, bytes_eq-Decides, get_or_at, length-take-le)
 
 not_first : (a b c d : Bool) → a ≡ false → (a && b && c && d) ≡ false
 not_first false b c d e = refl
@@ -65,28 +59,13 @@ from_number false m n e = absurd cc
 
 -- a number that isn't capped
 capped_is : (v j : ℕ) → j ≤ 1000 → eqb (capped v) j ≡ eqb v j
-capped_is v j small = elim (cases_eq v j) [
-  | inl e ↦ rw (e, eq-eqb (capped j) j (omega arith), eq-eqb j j refl) refl
-  | inr ne ↦ elsewhere v j ne small _ _ refl refl
-]
-  where
-    elsewhere : (v j : ℕ) → (v ≡ j → ⊥) → j ≤ 1000 → (b d : Bool) → eqb (capped v) j ≡ b → eqb v j ≡ d
-        → eqb (capped v) j ≡ eqb v j
-    elsewhere v j ne small false false e f = e ∙ sym f
-    elsewhere v j ne small true d e f = absurd (let is = eqb-true (capped v) j e in ne (omega arith))
-    elsewhere v j ne small false true e f = absurd (ne (eqb-true v j f))
+capped_is v j small = grind (arith, common_steps, cases_eq, eq-eqb, eqb-true)
 
 pub label_is : (j : ℕ) (token : List ℕ) (n : ℕ) → j ≤ 1000 → 2 ≤ length token → get_or token (length token - 1) 0 ≡ 58
     → Some n ≡ cond (is_number (take (length token - 1) token)) (Some
     (capped (value_of (take (length token - 1) token)))) None → eqb n j ≡ is_label j token
 label_is j token n small long at number =
-    let i = length token - 1
-    in let front = take i token
-    in let is = from_number (is_number front) (capped (value_of front)) n number
-    in ap (λ (m : ℕ). eqb m j) is.1 ∙ capped_is (value_of front) j small
-    ∙ sym (only_last (bytes_eq token (front ++ codes ":")) (not (is_empty front)) (is_number front)
-    (eqb (value_of front) j) (colon_last token i (omega arith) at)
-    (some_bytes front (omega (arith, length-take-le i token (omega arith)))) is.0)
+    grind (arith, common_steps, from_number, capped_is, only_last, colon_last, some_bytes, length-take-le)
 
 -- ---- what is read so far
 
@@ -94,35 +73,24 @@ label_is j token n small long at number =
 pub counted_here : (passed : ℕ) (rest line after : List ℕ) (behind : Tokens) → lines_of rest ≡ line ∷ lines_of after
     → tokens_of line ≡ codes "job" ∷ behind
     → counted_after passed rest ≡ (passed + 1, codes "job" ∷ behind) ∷ counted_after (passed + 1) after
-counted_here passed rest line after behind cut is =
-    ap (λ (ls : List (List ℕ)). filter is_counted (enumerate_from (passed + 1) (map tokens_of ls))) cut
-    ∙ ap (λ (ts : Tokens). cond (begins_with_job ts) ((passed + 1, ts) ∷ counted_after (passed + 1) after)
-    (counted_after (passed + 1) after)) is
+counted_here passed rest line after behind cut is = grind (arith, common_steps)
 
 pub enumerate_push : {X : Type 0} (k : ℕ) (xs : List X) (x : X)
     → enumerate_from k (xs ++ x ∷ []) ≡ enumerate_from k xs ++ (k + length xs, x) ∷ []
-enumerate_push k [] x = ap (λ (i : ℕ). (i, x) ∷ []) (omega arith)
-enumerate_push k (y ∷ xs) x = ap (λ es. (k, y) ∷ es) (enumerate_push (k + 1) xs x
-    ∙ ap (λ (i : ℕ). enumerate_from (k + 1) xs ++ (i, x) ∷ []) (omega arith))
+enumerate_push k [] x = grind (arith, common_steps)
+enumerate_push k (y ∷ xs) x = grind (arith, common_steps, enumerate_push (k + 1) xs x)
 
 abbrev pub row_at : Shop → ℕ × (ℕ × Tokens) → Option (List ℕ)
 row_at shop place = row_in shop place.0 place.1.1
 
 pub as_many : (shop : Shop) (lines : List (ℕ × Tokens)) (rows : List (List ℕ)) → AreJobLines shop lines rows
     → length lines ≡ length rows
-as_many shop lines rows good =
-    sym (length-enumerate_from 0 lines) ∙ sym (length-map (enumerate_from 0 lines) (row_at shop)) ∙ ap length good
-    ∙ length-map rows Some
+as_many shop lines rows good = grind (arith, common_steps, length-enumerate_from, length-map)
 
 pub good_more : (shop : Shop) (lines : List (ℕ × Tokens)) (rows : List (List ℕ)) (line : ℕ × Tokens) (row : List ℕ)
     → AreJobLines shop lines rows
     → row_in shop (length rows) line.1 ≡ Some row → AreJobLines shop (lines ++ line ∷ []) (rows ++ row ∷ [])
-good_more shop lines rows line row good is =
-    ap (map (row_at shop)) (enumerate_push 0 lines line)
-    ∙ map-append (row_at shop) (enumerate_from 0 lines) ((0 + length lines, line) ∷ [])
-    ∙ ap (λ (r : Option (List ℕ)). map (row_at shop) (enumerate_from 0 lines) ++ r ∷ [])
-    (ap (λ (j : ℕ). row_in shop j line.1) (omega (arith, as_many shop lines rows good)) ∙ is)
-    ∙ ap (λ rs. rs ++ Some row ∷ []) good ∙ sym (map-append Some rows (row ∷ []))
+good_more shop lines rows line row good is = grind (arith, common_steps, enumerate_push, map-append, as_many)
 
 pub chosen : {X : Type 0} (b : Bool) (x : Option X) (y : X) → cond b x None ≡ Some y → (b ≡ true) × (x ≡ Some y)
 chosen true x y e = (refl, e)
@@ -130,40 +98,21 @@ chosen false x y e = absurd cc
 
 pub is_job_of : (shop : Shop) (j : ℕ) (tokens : Tokens) (row : List ℕ) → row_in shop j tokens ≡ Some row
     → j < length shop.jobs
-is_job_of shop j tokens row e = ltb-true j (length shop.jobs) (chosen (ltb j (length shop.jobs))
-    (starts_in j (length (route_of shop j)) tokens) row e).0
+is_job_of shop j tokens row e = grind (arith, common_steps, ltb-true, chosen)
 
 -- a counted line that is none of the job that waits
 pub bad_line : (shop : Shop) (text : List ℕ) (passed : ℕ) (rest line after : List ℕ) (behind : Tokens)
     (rows : List (List ℕ)) → IsReadSoFar shop text passed rest rows
     → lines_of rest ≡ line ∷ lines_of after → tokens_of line ≡ codes "job" ∷ behind
     → None ≡ row_in shop (length rows) (codes "job" ∷ behind) → IsBadAt shop text (passed + 1)
-bad_line shop text passed rest line after behind rows so_far cut is none = record {
-  before = so_far.before;
-  rows = rows;
-  later = counted_after passed rest;
-  cut = so_far.cut;
-  good = so_far.good;
-  wrong = subst (λ later. GoesWrong shop (length (lines_of text)) (length so_far.before) later (passed + 1))
-      (sym (counted_here passed rest line after behind cut is)) (
-        ap (λ (j : ℕ). row_in shop j (codes "job" ∷ behind)) (as_many shop so_far.before rows so_far.good)
-            ∙ sym none,
-        refl,
-      );
-}
+bad_line shop text passed rest line after behind rows so_far cut is none =
+    grind (arith, common_steps, counted_here, as_many)
 
 -- a line is missed at the end
 pub missed_line : (shop : Shop) (text : List ℕ) (passed : ℕ) (rest : List ℕ) (rows : List (List ℕ))
     → IsReadSoFar shop text passed rest rows
     → length rest ≡ 0 → length rows < length shop.jobs → IsBadAt shop text (passed + 1)
-missed_line shop text passed [] rows so_far none few = record {
-  before = so_far.before;
-  rows = rows;
-  later = [];
-  cut = so_far.cut;
-  good = so_far.good;
-  wrong = (rw (as_many shop so_far.before rows so_far.good) few, (let lines = so_far.behind.lines in omega arith));
-}
+missed_line shop text passed [] rows so_far none few = grind (arith, common_steps, as_many)
 missed_line shop text passed (b ∷ rest) rows so_far none few = absurd (omega arith)
 
 -- a line of the job that waits
@@ -184,5 +133,4 @@ one_more shop text passed rest line after behind rows row so_far cut shorter is 
 
 pub rows_push : (before after : Vec (Vec ℕ Global) Global) (row : Vec ℕ Global)
     → after.items ≡ before.items ++ row ∷ [] → rows_held after ≡ rows_held before ++ row.items ∷ []
-rows_push before after row e =
-    ap (map (λ (r : Vec ℕ Global). r.items)) e ∙ map-append (λ (r : Vec ℕ Global). r.items) before.items (row ∷ [])
+rows_push before after row e = grind (arith, common_steps, map-append)

@@ -1,9 +1,10 @@
 -- Cutting a text into lines, and a line into tokens, at the first byte of a kind.
-use Rattle.std.proofs.Common.{◌≡◌, ℕ, zero, suc, ◌+◌, ◌-◌, ◌<◌, ◌≤◌, Bool, true, false, not, inl, inr, List, [], ◌∷◌}
+use Rattle.std.proofs.lemmas.Grind.{common_steps}
+use Rattle.std.proofs.Common.{◌≡◌, ℕ, zero, suc, ◌+◌, ◌-◌, ◌<◌, ◌≤◌, Bool, true, false, not, List, [], ◌∷◌}
 use Rattle.std.proofs.Common.{length, get_or, take, drop, Option, Some, None, refl, sym, ap, ◌∙◌, arith, add-one}
 use Rattle.std.proofs.Common.{true≢false, subst}
 use Rattle.std.specs.Prelude.{position, filter}
-use Rattle.std.specs.List.{slice_split, onto_first, position_or_len}
+use Rattle.std.specs.List.{slice_split, onto_first}
 use Rattle.std.proofs.lemmas.Bool.{cases_lt, lt-ltb, not-false, not-true}
 use Rattle.std.proofs.lemmas.List.{take_rest, drop_all, length-drop, get_or-drop}
 use Rattle.std.proofs.lemmas.List.Sums.{fails_before_first}
@@ -14,10 +15,7 @@ use Rattle.shop_text.specs.Lines.{is_line_feed, is_separator, is_empty, ended, l
 -- where no position is found, no element passes
 pub position_none : (p : ℕ → Bool) (xs : List ℕ) → position p xs ≡ None → (k : ℕ) → k < length xs
     → p (get_or xs k 0) ≡ false
-position_none p xs e k h = elim (cases_lt (position_or_len p xs) (length xs)) [
-  | inl lt ↦ (let some : position p xs ≡ Some (position_or_len p xs) = rw (lt-ltb _ _ lt) refl in absurd cc)
-  | inr le ↦ fails_before_first p xs k 0 (omega arith)
-]
+position_none p xs e k h = grind (arith, common_steps, cases_lt, lt-ltb, fails_before_first)
 
 split_here : (p : ℕ → Bool) (xs : List ℕ) (i : ℕ) → i < length xs → p (get_or xs i 0) ≡ true
     → ((k : ℕ) → k < i → p (get_or xs k 0) ≡ false) → slice_split p xs ≡ take i xs ∷ slice_split p (drop (suc i) xs)
@@ -51,13 +49,7 @@ lines_at text i e =
 -- without LF there is one line
 pub lines_alone : (text : List ℕ) → 0 < length text → position is_line_feed text ≡ None
     → lines_of text ≡ text ∷ lines_of (take (length text - length text) (drop (length text) text))
-lines_alone text some e =
-    rw (take_rest text (length text), drop_all (length text) text (omega arith))
-    (ap ended (split_none is_line_feed text (position_none is_line_feed text e)) ∙ one text some)
-  where
-    one : (piece : List ℕ) → 0 < length piece → ended (piece ∷ []) ≡ piece ∷ []
-    one [] h = absurd (omega arith)
-    one (b ∷ bs) h = refl
+lines_alone text some e = grind (arith, common_steps, take_rest, drop_all, split_none, position_none)
 
 -- ---- tokens
 

@@ -1,18 +1,17 @@
 -- A text has one reading at most: lines that are good are good for one list of parts and have no fault, and a fault is
 -- the only one.
-use Rattle.std.proofs.Common.{◌≡◌, ℕ, ◌+◌, ◌<◌, inl, inr, Bool, true, false, cond, List, [], ◌∷◌, ◌++◌, length}
-use Rattle.std.proofs.Common.{Option, Some, None, refl, sym, ap, subst, ◌∙◌, append_assoc, arith, true≢false}
+use Rattle.std.proofs.lemmas.Grind.{common_steps}
+use Rattle.std.proofs.Common.{◌≡◌, ℕ, ◌+◌, ◌<◌, inl, inr, Bool, true, false, List, [], ◌∷◌, ◌++◌, length}
+use Rattle.std.proofs.Common.{Option, Some, None, refl, sym, ap, ◌∙◌, append_assoc, arith}
 use Rattle.std.specs.Prelude.{IsTrue}
 use Rattle.std.specs.List.{AllByRecursion}
 use Rattle.std.proofs.lemmas.List.{append-nil, map-append}
 use Rattle.std.proofs.lemmas.List.Concat.{flat_map-cons}
 use Rattle.shop_text.specs.Lines.{Line, Blank, Numbers, Words, Numbered, lines_of}
-use Rattle.shop_text.specs.Texts.{NamedShop, lines_left, named_from, IsText, IsTextFault}
-use Rattle.shop_text.specs.Texts.{OneReading}
+use Rattle.shop_text.specs.Texts.{NamedShop, lines_left, named_from, IsText, IsTextFault, OneReading}
 use Rattle.shop_text.specs.Grammar.{Row, Grammar, LineFault, WrongRow, fault_at, Entry, Part, entry_rows}
-use Rattle.shop_text.specs.Grammar.{lines_of_entry}
-use Rattle.shop_text.specs.Grammar.{lines_of_part, lines_of_parts, AreText, AreSkipped, IsAccepted, AreAccepted, IsPart}
-use Rattle.shop_text.specs.Grammar.{IsGood, IsBegun, refusal, IsRefused, IsTruncated, IsFault}
+use Rattle.shop_text.specs.Grammar.{lines_of_entry, lines_of_part, lines_of_parts, AreText, AreSkipped, IsAccepted}
+use Rattle.shop_text.specs.Grammar.{AreAccepted, IsPart, IsGood, IsBegun, refusal, IsRefused, IsTruncated, IsFault}
 use Rattle.shop_text.specs.declared.faults.ReadFault.{ReadFault}
 use Rattle.shop_text.specs.declared.faults.ReadFault.TheVariants.{NoInstance, Truncated}
 
@@ -62,10 +61,15 @@ read f begun text ((n, Numbers row) ∷ lines) =
 
 read_text : (f : Grammar) (begun : List Entry) (text more lines : List Numbered) → AreText more
     → IsTrue (f.skips (entry_rows begun)) → read f begun text (more ++ lines) ≡ read f begun (text ++ more) lines
-read_text f begun text [] lines are skips = ap (λ (t : List Numbered). read f begun t lines) (sym (append-nil text))
+read_text f begun text [] lines are skips = grind (arith, common_steps, append-nil)
 read_text f begun text ((n, Words words) ∷ more) lines are skips =
-    rw skips (read_text f begun (text ++ (n, Words words) ∷ []) more lines are.1 skips)
-    ∙ ap (λ (t : List Numbered). read f begun t lines) (append_assoc text ((n, Words words) ∷ []) more)
+    grind (
+      arith,
+      common_steps,
+      append_assoc,
+      read_text f begun (text ++ (n, Words words) ∷ []) more lines are.1
+          skips,
+    )
 read_text f begun text ((n, Numbers row) ∷ more) lines are skips = absurd are.0
 read_text f begun text ((n, Blank) ∷ more) lines are skips = absurd are.0
 
@@ -77,12 +81,7 @@ read_skipped f begun more lines (are, inr skips) = read_text f begun [] more lin
 read_entry : (f : Grammar) (begun : List Entry) (e : Entry) (lines : List Numbered) → IsAccepted f (entry_rows begun) e
     → read f begun [] (lines_of_entry e ++ lines)
     ≡ on_row None e.line (f.is_whole (entry_rows (begun ++ e ∷ []))) (begun ++ e ∷ []) (λ o. read f o [] lines)
-read_entry f begun e lines a =
-    let go : List Entry → Reading = λ o. read f o [] lines
-    in let more : List Entry = begun ++ e ∷ []
-    in ap (read f begun []) (append_assoc e.before ((e.line, Numbers e.row) ∷ []) lines)
-    ∙ read_skipped f begun e.before ((e.line, Numbers e.row) ∷ lines) a.text
-    ∙ ap (λ (o : Option LineFault). on_row o e.line (f.is_whole (entry_rows more)) more go) a.row
+read_entry f begun e lines a = grind (arith, common_steps, append_assoc, read_skipped)
 
 rows_more : (begun : List Entry) (e : Entry) → entry_rows (begun ++ e ∷ []) ≡ entry_rows begun ++ e.row ∷ []
 rows_more begun e = map-append (λ (e : Entry). e.row) begun (e ∷ [])
@@ -98,23 +97,18 @@ read_entries : (f : Grammar) (begun : List Entry) (e : Entry) (entries : List En
     → read f begun [] (lines_of_part (e ∷ entries) ++ lines)
     ≡ on_row None (last_line e entries) (f.is_whole (entry_rows (begun ++ e ∷ entries))) (begun ++ e ∷ entries)
     (λ o. read f o [] lines)
-read_entries f begun e [] lines a =
-    ap (λ (ls : List Numbered). read f begun [] (ls ++ lines)) (flat_map-cons lines_of_entry e []
-    ∙ append-nil (lines_of_entry e))
-    ∙ read_entry f begun e lines a.0
+read_entries f begun e [] lines a = grind (arith, common_steps, flat_map-cons, append-nil, read_entry)
 read_entries f begun e (next ∷ entries) lines a =
-    let accepted : AreAccepted f (entry_rows (begun ++ e ∷ [])) (next ∷ entries) =
-    subst (λ (rs : List Row). AreAccepted f rs (next ∷ entries)) (sym (rows_more begun e)) a.1
-    in let later : List Numbered = lines_of_part (next ∷ entries) ++ lines
-    in let regroup : lines_of_part (e ∷ next ∷ entries) ++ lines ≡ lines_of_entry e ++ later =
-    ap (λ (ls : List Numbered). ls ++ lines) (flat_map-cons lines_of_entry e (next ∷ entries))
-    ∙ append_assoc (lines_of_entry e) (lines_of_part (next ∷ entries)) lines
-    in let last : ℕ = last_line e (next ∷ entries)
-    in ap (read f begun []) regroup ∙ read_entry f begun e later a.0
-    ∙ ap (λ (b : Bool). on_row None e.line b (begun ++ e ∷ []) (λ o. read f o [] later)) accepted.0.room
-    ∙ read_entries f (begun ++ e ∷ []) next entries lines accepted
-    ∙ ap (λ (es : List Entry). on_row None last (f.is_whole (entry_rows es)) es (λ o. read f o [] lines))
-    (append_assoc begun (e ∷ []) (next ∷ entries))
+    grind (
+      arith,
+      common_steps,
+      rows_more,
+      flat_map-cons,
+      append_assoc,
+      read_entry,
+      read_entries f (begun ++ e ∷ [])
+          next entries lines,
+    )
 
 -- what each grammar is
 pub record IsGrammar (f : Grammar) : Type 0 where
@@ -124,14 +118,9 @@ pub record IsGrammar (f : Grammar) : Type 0 where
 read_parts : (f : Grammar) → IsGrammar f → (parts : List Part) (lines : List Numbered) → AllByRecursion (IsPart f) parts
     → read f [] [] (lines_of_parts parts ++ lines) ≡ onto parts (read f [] [] lines)
 read_parts f is [] lines h = refl
-read_parts f is ([] ∷ parts) lines h = absurd (true≢false (sym h.0.1 ∙ is.none_whole))
+read_parts f is ([] ∷ parts) lines h = grind (arith, common_steps)
 read_parts f is ((e ∷ part) ∷ parts) lines h =
-    let later : List Numbered = lines_of_parts parts ++ lines
-    in ap (λ (ls : List Numbered). read f [] [] (ls ++ lines)) (flat_map-cons lines_of_part (e ∷ part) parts)
-    ∙ ap (read f [] []) (append_assoc (lines_of_part (e ∷ part)) (lines_of_parts parts) lines)
-    ∙ read_entries f [] e part later h.0.0
-    ∙ ap (λ (b : Bool). on_row None (last_line e part) b (e ∷ part) (λ o. read f o [] later)) h.0.1
-    ∙ ap (onto ((e ∷ part) ∷ [])) (read_parts f is parts lines h.1)
+    grind (arith, common_steps, flat_map-cons, append_assoc, read_entries, read_parts f is parts lines h.1)
 
 pub read_good : (f : Grammar) → IsGrammar f → (lines : List Numbered) (parts : List Part) → IsGood f lines parts
     → read f [] [] lines ≡ (parts, Outside)
@@ -172,15 +161,8 @@ read_line : (f : Grammar) (begun : List Entry) (text : List Numbered) (n : ℕ) 
     (name : LineFault) → refusal f (entry_rows begun) line ≡ Some name
     → read f begun text ((n, line) ∷ later) ≡ ([], Refused (fault_at n name))
 read_line f begun text n Blank later name e = absurd cc
-read_line f begun text n (Words words) later name e = told (f.skips (entry_rows begun)) e
-  where
-    told : (b : Bool) → cond b None (Some WrongRow) ≡ Some name
-        → on_words b n (read f begun (text ++ (n, Words words) ∷ []) later) ≡ ([], Refused (fault_at n name))
-    told true h = absurd cc
-    told false h = ap (λ (o : Option LineFault). on_row o n false [] (λ _. ([], Outside))) h
-read_line f begun text n (Numbers row) later name e =
-    let more : List Entry = with_row begun text n row
-    in ap (λ (o : Option LineFault). on_row o n (f.is_whole (entry_rows more)) more (λ o. read f o [] later)) e
+read_line f begun text n (Words words) later name e = grind (arith, common_steps)
+read_line f begun text n (Numbers row) later name e = grind (arith, common_steps)
 
 pub read_refused : (f : Grammar) → IsGrammar f → (lines : List Numbered) (fault : ReadFault) → IsRefused f lines fault
     → (read f [] [] lines).1 ≡ Refused fault
@@ -220,8 +202,7 @@ at_refused last r fault e = ap (λ (end : End). fault_of last (r.0, end)) e
 
 at_inside : (last : ℕ) (r : Reading) (fault : ReadFault) → r.1 ≡ Inside → fault ≡ Truncated (last + 1)
     → fault_of last r ≡ Some fault
-at_inside last r fault e told =
-    ap (λ (end : End). fault_of last (r.0, end)) e ∙ ap (λ (x : ReadFault). Some x) (sym told)
+at_inside last r fault e told = grind (arith, common_steps)
 
 pub fault_read : (f : Grammar) → IsGrammar f → (last : ℕ) (lines : List Numbered) (fault : ReadFault)
     → IsFault f last lines fault → fault_of last (read f [] [] lines) ≡ Some fault

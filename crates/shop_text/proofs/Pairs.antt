@@ -1,21 +1,14 @@
 -- A row, pair by pair.
-use Rattle.std.proofs.Common.{◌≡◌, ℕ, suc, ◌+◌, ◌*◌, ◌<◌, ◌≤◌, List, [], ◌∷◌, ◌++◌, length, get_or, drop, drop-cons}
-use Rattle.std.proofs.Common.{refl, ap, ◌∙◌, append_assoc, arith}
+use Rattle.std.proofs.lemmas.Grind.{common_steps}
+use Rattle.std.proofs.Common.{◌≡◌, ℕ, ◌+◌, ◌*◌, ◌<◌, ◌≤◌, List, [], ◌∷◌, ◌++◌, length, get_or, drop, drop-cons}
+use Rattle.std.proofs.Common.{refl, append_assoc, arith}
 use Rattle.std.proofs.lemmas.Bool.{lt-ltb, le-leb}
 use Rattle.shop_model.specs.declared.ops.Op.{Op}
 use Rattle.shop_text.specs.Formats.{pairs_fault, pairs_of}
 
 pub pair_at : (row : List ℕ) (i : ℕ) → 2 * i + 1 < length row
     → drop (2 * i) row ≡ get_or row (2 * i) 0 ∷ get_or row (2 * i + 1) 0 ∷ drop (2 * (i + 1)) row
-pair_at row i h =
-    let a : 2 * i < length row = omega arith
-    in let b : suc (2 * i) < length row = omega arith
-    in let e : suc (2 * i) ≡ 2 * i + 1 = omega arith
-    in let g : suc (suc (2 * i)) ≡ 2 * (i + 1) = omega arith
-    in drop-cons row (2 * i) 0 a
-    ∙ ap (λ (xs : List ℕ). get_or row (2 * i) 0 ∷ xs)
-    (drop-cons row (suc (2 * i)) 0 b ∙ ap (λ (k : ℕ). get_or row k 0 ∷ drop (suc (suc (2 * i))) row) e
-    ∙ ap (λ (k : ℕ). get_or row (2 * i + 1) 0 ∷ drop k row) g)
+pair_at row i h = grind (arith, common_steps, drop-cons)
 
 pub fault_on : (machines m p : ℕ) (rest : List ℕ) → m < machines → p ≤ 1000000000
     → pairs_fault machines (m ∷ p ∷ rest) ≡ pairs_fault machines rest

@@ -1,13 +1,12 @@
 -- One more line of a text: what is left behind it, and what a reader makes of it.
-use Rattle.std.proofs.Common.{◌≡◌, ℕ, ◌+◌, ◌<◌, ◌≤◌, ◌⊎◌, inl, inr, List, [], ◌∷◌, ◌++◌}
-use Rattle.std.proofs.Common.{length, map, filter, Result, Ok, Err, Vec, refl, sym, ap, ◌∙◌, subst}
-use Rattle.std.proofs.Common.{append_assoc, arith}
+use Rattle.std.proofs.lemmas.Grind.{common_steps}
+use Rattle.std.proofs.Common.{◌≡◌, ℕ, ◌+◌, ◌<◌, ◌≤◌, ◌⊎◌, inl, inr, List, [], ◌∷◌, ◌++◌, length, map, filter, Result}
+use Rattle.std.proofs.Common.{Ok, Err, Vec, refl, ap, ◌∙◌, subst, append_assoc, arith}
 use Rattle.std.specs.List.{list_any, enumerate_from}
 use Rattle.std.specs.declared.alloc.Global.{Global}
 use Rattle.std.proofs.lemmas.List.{append-nil}
 use Rattle.shop_text.specs.Formats.{grammar_of}
-use Rattle.shop_text.specs.Lines.{Line, Blank, Numbers, Words, Numbered, is_left, line_of, lines_of}
-use Rattle.shop_text.specs.Lines.{numbered_lines}
+use Rattle.shop_text.specs.Lines.{Numbered, is_left, line_of, lines_of, numbered_lines}
 use Rattle.shop_text.specs.Grammar.{Grammar, IsRefused}
 use Rattle.shop_text.specs.Texts.{is_header, from_first_header, lines_left}
 use Rattle.shop_text.specs.Names.{IsRead}
@@ -21,8 +20,7 @@ use Rattle.shop_text.specs.declared.instance_readers.Reader.{Reader}
 
 pub one_behind : (whole : List ℕ) (n : ℕ) (text bytes rest : List ℕ) → IsBehind whole n text
     → lines_of text ≡ bytes ∷ lines_of rest → length rest < length text → IsBehind whole (n + 1) rest
-one_behind whole n text bytes rest f cut shorter =
-    let a = f.lines in let b = f.bytes in record { lines = omega (arith, ap length cut); bytes = omega arith }
+one_behind whole n text bytes rest f cut shorter = grind (arith, common_steps)
 
 -- the lines of a rest, by its first one
 abbrev numbered : ℕ → List (List ℕ) → List Numbered
@@ -30,13 +28,7 @@ numbered n lines = filter is_left (enumerate_from n (map line_of lines))
 
 pub after_cut : (n : ℕ) (text bytes rest : List ℕ) → lines_of text ≡ bytes ∷ lines_of rest
     → lines_after n text ≡ left_of (n + 1) (line_of bytes) ++ lines_after (n + 1) rest
-after_cut n text bytes rest cut = ap (numbered (n + 1)) cut ∙ chosen (line_of bytes)
-  where
-    chosen : (line : Line) → filter is_left ((n + 1, line) ∷ enumerate_from (n + 1 + 1) (map line_of (lines_of rest)))
-        ≡ left_of (n + 1) line ++ lines_after (n + 1) rest
-    chosen Blank = refl
-    chosen (Numbers row) = refl
-    chosen (Words words) = refl
+after_cut n text bytes rest cut = grind (arith, common_steps)
 
 -- ---- up to the first header
 
@@ -51,14 +43,8 @@ pub line_taken : (text : List ℕ) (n : ℕ) (rest bytes after : List ℕ) (p : 
     (w : IsOnTheWay text n rest p old) → lines_of rest ≡ bytes ∷ lines_of after → length after < length rest
     → new.format ≡ old.format → IsReadUpTo new (w.front ++ left_of (n + 1) (line_of bytes))
     → IsOnTheWay text (n + 1) after p new
-line_taken text n rest bytes after p old new w cut shorter same read = record {
-  front = w.front ++ left_of (n + 1) (line_of bytes);
-  cut = w.cut ∙ ap (λ (ls : List Numbered). w.front ++ ls) (after_cut n rest bytes after cut)
-      ∙ sym (append_assoc w.front (left_of (n + 1) (line_of bytes)) (lines_after (n + 1) after));
-  same = same ∙ w.same;
-  read = read;
-  behind = one_behind text n rest bytes after w.behind cut shorter;
-}
+line_taken text n rest bytes after p old new w cut shorter same read =
+    grind (arith, common_steps, after_cut, append_assoc, one_behind)
 
 pub line_refused : (text : List ℕ) (n : ℕ) (rest bytes after : List ℕ) (p : Format) (reader : Reader) (e : ReadFault)
     (w : IsOnTheWay text n rest p reader) → length text ≤ 16777216 → lines_of rest ≡ bytes ∷ lines_of after

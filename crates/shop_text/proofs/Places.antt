@@ -1,15 +1,14 @@
 -- Where in a part the lines stand after one more: a skipped text line, a row of the part, or its last row.
-use Rattle.std.proofs.Common.{◌≡◌, ℕ, inl, inr, true, false, List, [], ◌∷◌, ◌++◌, None, refl, sym, ap, subst, ◌∙◌}
-use Rattle.std.proofs.Common.{append_assoc}
+use Rattle.std.proofs.Common.{arith, ◌≡◌, ℕ, inl, inr, true, false, List, [], ◌∷◌, ◌++◌, None, refl, sym, ap}
+use Rattle.std.proofs.Common.{◌∙◌, append_assoc}
+use Rattle.std.proofs.lemmas.Grind.{common_steps, flat_map-append}
 use Rattle.std.specs.Prelude.{IsTrue}
 use Rattle.std.specs.List.{AllByRecursion}
 use Rattle.std.proofs.lemmas.List.{append-nil, map-append}
 use Rattle.std.proofs.lemmas.List.Concat.{flat_map-cons}
-use Rattle.std.proofs.lemmas.Grind.{flat_map-append}
 use Rattle.shop_text.specs.Lines.{Numbers, Words, Numbered}
-use Rattle.shop_text.specs.Grammar.{Row, Grammar, Entry, Part, entry_rows}
-use Rattle.shop_text.specs.Grammar.{lines_of_entry, lines_of_part, lines_of_parts}
-use Rattle.shop_text.specs.Grammar.{AreText, IsAccepted, AreAccepted, IsPart, IsBegun}
+use Rattle.shop_text.specs.Grammar.{Row, Grammar, Entry, Part, entry_rows, lines_of_entry, lines_of_part}
+use Rattle.shop_text.specs.Grammar.{lines_of_parts, AreText, IsAccepted, AreAccepted, IsPart, IsBegun}
 use Rattle.shop_text.proofs.OneReading.{IsGrammar, entry, with_row}
 
 pub text_more : (t : List Numbered) (n : ℕ) (words : List (List ℕ)) → AreText t → AreText (t ++ (n, Words words) ∷ [])
@@ -18,11 +17,9 @@ text_more (l ∷ t) n words h = (h.0, text_more t n words h.1)
 
 pub accepted_more : (f : Grammar) (rows : List Row) (es : List Entry) (e : Entry) → AreAccepted f rows es
     → IsAccepted f (rows ++ entry_rows es) e → AreAccepted f rows (es ++ e ∷ [])
-accepted_more f rows [] e a h = (subst (λ (rs : List Row). IsAccepted f rs e) (append-nil rows) h, tt)
+accepted_more f rows [] e a h = grind (arith, common_steps, append-nil)
 accepted_more f rows (x ∷ es) e a h =
-    let regrouped =
-    subst (λ (rs : List Row). IsAccepted f rs e) (sym (append_assoc rows (x.row ∷ []) (entry_rows es))) h
-    in (a.0, accepted_more f (rows ++ x.row ∷ []) es e a.1 regrouped)
+    grind (arith, common_steps, append_assoc, accepted_more f (rows ++ x.row ∷ []) es e a.1)
 
 pub parts_more : (f : Grammar) (parts : List Part) (p : Part) → AllByRecursion (IsPart f) parts → IsPart f p
     → AllByRecursion (IsPart f) (parts ++ p ∷ [])
@@ -31,17 +28,11 @@ parts_more f (q ∷ parts) p h g = (h.0, parts_more f parts p h.1 g)
 
 pub entry_last : (begun : List Entry) (e : Entry)
     → lines_of_part (begun ++ e ∷ []) ≡ lines_of_part begun ++ lines_of_entry e
-entry_last begun e =
-    flat_map-append lines_of_entry begun (e ∷ [])
-    ∙ ap (λ (ls : List Numbered). lines_of_part begun ++ ls) (flat_map-cons lines_of_entry e []
-    ∙ append-nil (lines_of_entry e))
+entry_last begun e = grind (arith, common_steps, flat_map-append, flat_map-cons, append-nil)
 
 pub part_last : (parts : List Part) (p : Part)
     → lines_of_parts (parts ++ p ∷ []) ≡ lines_of_parts parts ++ lines_of_part p
-part_last parts p =
-    flat_map-append lines_of_part parts (p ∷ [])
-    ∙ ap (λ (ls : List Numbered). lines_of_parts parts ++ ls) (flat_map-cons lines_of_part p []
-    ∙ append-nil (lines_of_part p))
+part_last parts p = grind (arith, common_steps, flat_map-append, flat_map-cons, append-nil)
 
 pub rows_more : (begun : List Entry) (text : List Numbered) (n : ℕ) (row : Row)
     → entry_rows (with_row begun text n row) ≡ entry_rows begun ++ row ∷ []
@@ -52,20 +43,13 @@ pub entry_cut : (parts : List Part) (begun : List Entry) (after : List Numbered)
     (front : List Numbered)
     → front ≡ lines_of_parts parts ++ lines_of_part begun ++ after
     → front ++ (n, Numbers row) ∷ [] ≡ lines_of_parts parts ++ lines_of_part (with_row begun after n row)
-entry_cut parts begun after n row front cut =
-    let last : List Numbered = (n, Numbers row) ∷ []
-    in ap (λ (ls : List Numbered). ls ++ last) cut
-    ∙ append_assoc (lines_of_parts parts ++ lines_of_part begun) after last
-    ∙ append_assoc (lines_of_parts parts) (lines_of_part begun) (after ++ last)
-    ∙ ap (λ (ls : List Numbered). lines_of_parts parts ++ ls) (sym (entry_last begun (entry after n row)))
+entry_cut parts begun after n row front cut = grind (arith, common_steps, append_assoc, entry_last, entry)
 
 -- one more row is accepted
 pub one_more : (f : Grammar) (front : List Numbered) (begun : List Entry) (s : IsBegun f front begun) (n : ℕ)
     (row : Row)
     → f.refuses (entry_rows begun) row ≡ None → AreAccepted f [] (with_row begun s.after n row)
-one_more f front begun s n row free =
-    accepted_more f [] begun (entry s.after n row) s.begun_good
-    (record { room = s.room; text = s.after_skipped; row = free })
+one_more f front begun s n row free = grind (arith, common_steps, accepted_more, entry)
 
 -- a text line that is skipped
 unfoldable pub words_on : (f : Grammar) (front : List Numbered) (begun : List Entry) (s : IsBegun f front begun) (n : ℕ)

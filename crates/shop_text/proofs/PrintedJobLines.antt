@@ -1,7 +1,7 @@
 -- The job lines of a report, read as those of a schedule text.
-use Rattle.std.proofs.Common.{◌≡◌, ℕ, suc, ◌+◌, ◌-◌, ◌^◌, ◌<◌, ◌≤◌, Bool, true, false, not, ◌&&◌}
-use Rattle.std.proofs.Common.{cond, eqb, leb, List, [], ◌∷◌, ◌++◌, length, get_or, take, map, Option, Some, None}
-use Rattle.std.proofs.Common.{refl, ap, ◌∙◌, arith}
+use Rattle.std.proofs.lemmas.Grind.{common_steps}
+use Rattle.std.proofs.Common.{◌≡◌, ℕ, suc, ◌+◌, ◌^◌, ◌<◌, ◌≤◌, Bool, true, false, ◌&&◌, cond, leb, List}
+use Rattle.std.proofs.Common.{[], ◌∷◌, ◌++◌, length, get_or, map, Option, Some, refl, ap, ◌∙◌, arith}
 use Rattle.std.specs.Prelude.{filter, codes}
 use Rattle.std.specs.List.{enumerate_from, list_all, join_with_byte}
 use Rattle.std.specs.Str.{bytes_eq}
@@ -11,8 +11,7 @@ use Rattle.std.proofs.lemmas.List.{length-append, length-map, take_at}
 use Rattle.std.proofs.lemmas.Slice.Eq.{bytes_eq-Decides}
 use Rattle.shop_model.specs.Shop.{Shop, route_of}
 use Rattle.shop_text.specs.Lines.{is_line_feed, is_separator, is_empty, tokens_of, is_number, value_of}
-use Rattle.shop_text.specs.Schedules.{Tokens, begins_with_job, is_counted, is_label, is_start}
-use Rattle.shop_text.specs.Schedules.{starts_of_tokens, starts_in, row_in}
+use Rattle.shop_text.specs.Schedules.{Tokens, begins_with_job, is_counted, is_label, is_start, row_in}
 use Rattle.shop_text.specs.Writing.{job_line}
 use Rattle.shop_text.proofs.JobLineLemmas.{row_at}
 use Rattle.shop_text.proofs.PrintedLines.{IsFree, free_append, AreLines, AllFree}
@@ -54,26 +53,23 @@ four true true true false e f g h = absurd cc
 
 pub label_read : (j : ℕ) → j < 2 ^ 64 → is_label j (decimal j ++ codes ":") ≡ true
 label_read j fits =
-    let token = decimal j ++ codes ":"
-    in let front : take (length (decimal j ++ codes ":") - 1) (decimal j ++ codes ":") ≡ decimal j =
-    take_at (decimal j) (codes ":") (length (decimal j ++ codes ":") - 1)
-    (omega (arith, length-append (decimal j) (codes ":")))
-    in ap (λ (digits : List ℕ). bytes_eq token (digits ++ codes ":") && not (is_empty digits) && is_number digits
-    && eqb (value_of digits) j) front
-    ∙ four _ _ _ _ ((bytes_eq-Decides token token).1 refl) (ap not (decimal_some j fits)) (decimal_is_number j fits)
-    (eq-eqb (value_of (decimal j)) j (decimal_value j fits))
+    grind (
+      arith,
+      common_steps,
+      take_at,
+      length-append,
+      four,
+      bytes_eq-Decides,
+      decimal_some,
+      decimal_is_number,
+      eq-eqb,
+      decimal_value,
+    )
 
 pub row_read : (shop : Shop) (j : ℕ) (row : List ℕ) → j < length shop.jobs → j < 2 ^ 64
     → length row ≡ length (route_of shop j) → AreSmallStarts row → row_in shop j (job_line j row) ≡ Some row
 row_read shop j row job fits steps small =
-    ap (λ (b : Bool). cond b (starts_in j (length (route_of shop j)) (job_line j row)) None)
-    (lt-ltb j (length shop.jobs) job)
-    ∙ ap (λ (b : Bool). cond b (starts_of_tokens (length (route_of shop j)) (map decimal row)) None)
-    (label_read j fits)
-    ∙ ap (λ (b : Bool). cond b (Some (map value_of (map decimal row))) None)
-    (and_from (eqb (length (map decimal row)) (length (route_of shop j))) (list_all is_start (map decimal row))
-    (eq-eqb _ _ (length-map row decimal ∙ steps)) (starts_read row small))
-    ∙ ap Some (values_read row small)
+    grind (arith, common_steps, lt-ltb, label_read, and_from, eq-eqb, length-map, starts_read, values_read)
 
 -- ---- the tokens of a job's line
 
@@ -107,14 +103,7 @@ starts_free [] = tt
 starts_free (s ∷ row) = (decimal_free is_line_feed no_line_feed s, starts_free row)
 
 pub job_line_free : (j : ℕ) (row : List ℕ) → IsFree is_line_feed (join_with_byte 32 (job_line j row))
-job_line_free j row =
-    joined_free is_line_feed refl (job_line j row) (
-      refl,
-      (
-        free_append is_line_feed (decimal j) (codes ":") (decimal_free is_line_feed no_line_feed j) refl,
-        starts_free row,
-      ),
-    )
+job_line_free j row = grind (arith, common_steps, joined_free, free_append, decimal_free, no_line_feed, starts_free)
 
 -- ---- the counted lines
 
@@ -130,20 +119,16 @@ AreOther (line ∷ lines) = IsOther line × AreOther lines
 
 pub other_line : (word next : List ℕ) (more : Tokens) → IsFree is_separator word → is_empty word ≡ false
     → bytes_eq word (codes "job") ≡ false → IsOther (word ∷ next ∷ more)
-other_line word next more free some ne =
-    ap begins_with_job (first_token word (join_with_byte 32 (next ∷ more)) free some) ∙ ne
+other_line word next more free some ne = grind (arith, common_steps, first_token)
 
 pub skip_line : (n : ℕ) (line : Tokens) (lines : List Tokens) → IsOther line
     → read_from n (line ∷ lines) ≡ read_from (n + 1) lines
-skip_line n line lines other = ap (λ (b : Bool). cond b ((n, tokens_of (join_with_byte 32 line))
-    ∷ read_from (n + 1) lines) (read_from (n + 1) lines)) other
+skip_line n line lines other = grind (arith, common_steps)
 
 pub skip_lines : (n : ℕ) (others lines : List Tokens) → AreOther others
     → read_from n (others ++ lines) ≡ read_from (n + length others) lines
-skip_lines n [] lines are = ap (λ (m : ℕ). read_from m lines) (omega arith)
-skip_lines n (line ∷ others) lines are =
-    skip_line n line (others ++ lines) are.0 ∙ skip_lines (n + 1) others lines are.1
-    ∙ ap (λ (m : ℕ). read_from m lines) (omega arith)
+skip_lines n [] lines are = grind (arith, common_steps)
+skip_lines n (line ∷ others) lines are = grind (arith, common_steps, skip_line, skip_lines (n + 1) others lines are.1)
 
 pub skip_all : (n : ℕ) (others : List Tokens) → AreOther others → read_from n others ≡ []
 skip_all n [] are = refl

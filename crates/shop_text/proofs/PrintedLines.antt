@@ -1,9 +1,9 @@
 -- Printed lines as they are read again: lines, tokens, numbers.
-use Rattle.std.proofs.Common.{◌≡◌, ℕ, zero, suc, ◌+◌, ◌-◌, ◌*◌, ◌^◌, ◌/◌, ◌%◌, ◌<◌, ◌≤◌, Bool, true, false, not}
-use Rattle.std.proofs.Common.{◌||◌, cond, eqb, ltb, List, [], ◌∷◌, ◌++◌, length, map, refl, sym, ap, ◌∙◌}
-use Rattle.std.proofs.Common.{arith, rules}
+use Rattle.std.proofs.lemmas.Grind.{common_steps}
+use Rattle.std.proofs.Common.{◌≡◌, ℕ, zero, suc, ◌+◌, ◌-◌, ◌*◌, ◌^◌, ◌/◌, ◌%◌, ◌<◌, ◌≤◌, Bool, true, false, not, ◌||◌}
+use Rattle.std.proofs.Common.{cond, eqb, ltb, List, [], ◌∷◌, ◌++◌, length, map, refl, sym, ap, ◌∙◌, arith, rules}
 use Rattle.std.specs.Prelude.{filter, fold}
-use Rattle.std.specs.List.{slice_split, onto_first, list_any, join_with_byte}
+use Rattle.std.specs.List.{slice_split, list_any, join_with_byte}
 use Rattle.std.specs.Fmt.{decimal, digits, digits_onto}
 use Rattle.std.proofs.lemmas.Bool.{eqb-true, or_parts}
 use Rattle.std.proofs.lemmas.Fmt.{decimal_nonempty, digits_decimal, digits_value-decimal}
@@ -11,10 +11,9 @@ use Rattle.std.proofs.lemmas.Str.Parse.{IsNumeralModel, numerals_by_fold}
 use Rattle.std.proofs.lemmas.List.{append_assoc, append-nil}
 use Rattle.std.proofs.lemmas.List.Folds.{list_any-append}
 use Rattle.std.proofs.lemmas.List.Splits.{length-slice_split, slice_split-cons_yes, slice_split-cons_no}
-use Rattle.shop_text.specs.Lines.{is_line_feed, is_separator, is_empty, ended, lines_of, tokens_of, is_number}
-use Rattle.shop_text.specs.Lines.{value_of}
+use Rattle.shop_text.specs.Lines.{is_line_feed, is_separator, is_empty, lines_of, tokens_of, is_number, value_of}
 use Rattle.shop_text.specs.Schedules.{Tokens}
-use Rattle.shop_text.specs.Writing.{printed_line, text_of}
+use Rattle.shop_text.specs.Writing.{text_of}
 use Rattle.shop_text.proofs.LineLemmas.{ended_more}
 
 -- no byte passes the test
@@ -30,21 +29,15 @@ free_append p xs ys e f = list_any-append p xs ys ∙ ap (λ (b : Bool). b || li
 cut_at : (p : ℕ → Bool) (xs : List ℕ) (y : ℕ) (ys : List ℕ) → IsFree p xs → p y ≡ true
     → slice_split p (xs ++ y ∷ ys) ≡ xs ∷ slice_split p ys
 cut_at p [] y ys free here = slice_split-cons_yes p y ys here
-cut_at p (x ∷ xs) y ys free here =
-    let f = or_parts (p x) (list_any p xs) free
-    in slice_split-cons_no p x (xs ++ y ∷ ys) f.0 ∙ ap (onto_first x) (cut_at p xs y ys f.1 here)
+cut_at p (x ∷ xs) y ys free here = grind (arith, common_steps, or_parts, slice_split-cons_no, cut_at p xs y ys)
 
 cut_none : (p : ℕ → Bool) (xs : List ℕ) → IsFree p xs → slice_split p xs ≡ xs ∷ []
 cut_none p [] free = refl
-cut_none p (x ∷ xs) free =
-    let f = or_parts (p x) (list_any p xs) free
-    in slice_split-cons_no p x xs f.0 ∙ ap (onto_first x) (cut_none p xs f.1)
+cut_none p (x ∷ xs) free = grind (arith, common_steps, or_parts, slice_split-cons_no, cut_none p xs)
 
 pub line_cut : (line rest : List ℕ) → IsFree is_line_feed line
     → lines_of ((line ++ 10 ∷ []) ++ rest) ≡ line ∷ lines_of rest
-line_cut line rest free =
-    ap lines_of (append_assoc line (10 ∷ []) rest) ∙ ap ended (cut_at is_line_feed line 10 rest free refl)
-    ∙ ended_more line (slice_split is_line_feed rest) (omega (arith, length-slice_split is_line_feed rest))
+line_cut line rest free = grind (arith, common_steps, append_assoc, cut_at, ended_more, length-slice_split)
 
 -- the lines have no line feed inside
 abbrev pub AreLines : List Tokens → Type 0
@@ -56,9 +49,7 @@ pub lines_of_front : (lines : List Tokens) (rest : List ℕ) → AreLines lines
     → lines_of (text_of lines ++ rest) ≡ map (join_with_byte 32) lines ++ lines_of rest
 lines_of_front [] rest are = refl
 lines_of_front (line ∷ lines) rest are =
-    ap lines_of (append_assoc (printed_line line) (text_of lines) rest)
-    ∙ line_cut (join_with_byte 32 line) (text_of lines ++ rest) are.0
-    ∙ ap (λ (ls : List (List ℕ)). join_with_byte 32 line ∷ ls) (lines_of_front lines rest are.1)
+    grind (arith, common_steps, append_assoc, line_cut, lines_of_front lines rest are.1)
 
 pub lines_of_text : (lines : List Tokens) → AreLines lines → lines_of (text_of lines) ≡ map (join_with_byte 32) lines
 lines_of_text lines are = ap lines_of (sym (append-nil (text_of lines))) ∙ lines_of_front lines [] are
@@ -78,9 +69,7 @@ pub joined_free : (p : ℕ → Bool) → p 32 ≡ false → (tokens : Tokens) �
 joined_free p space [] free = refl
 joined_free p space (token ∷ []) free = free.0
 joined_free p space (token ∷ next ∷ tokens) free =
-    free_append p token (32 ∷ join_with_byte 32 (next ∷ tokens)) free.0
-    (ap (λ (b : Bool). b || list_any p (join_with_byte 32 (next ∷ tokens))) space
-    ∙ joined_free p space (next ∷ tokens) free.1)
+    grind (arith, common_steps, free_append, joined_free p space (next ∷ tokens) free.1)
 
 -- ---- tokens
 
@@ -99,15 +88,13 @@ kept token pieces e = ap (λ (b : Bool). cond (not b) (token ∷ filter is_kept 
 -- the first token of a line that has another
 pub first_token : (token : List ℕ) (rest : List ℕ) → IsFree is_separator token → is_empty token ≡ false
     → tokens_of (token ++ 32 ∷ rest) ≡ token ∷ tokens_of rest
-first_token token rest free some = ap (filter is_kept) (cut_at is_separator token 32 rest free refl)
-    ∙ kept token (slice_split is_separator rest) some
+first_token token rest free some = grind (arith, common_steps, cut_at, kept)
 
 pub tokens_of_joined : (tokens : Tokens) → AreTokens tokens → tokens_of (join_with_byte 32 tokens) ≡ tokens
 tokens_of_joined [] are = refl
-tokens_of_joined (token ∷ []) are = ap (filter is_kept) (cut_none is_separator token are.0) ∙ kept token [] are.1
+tokens_of_joined (token ∷ []) are = grind (arith, common_steps, cut_none, kept)
 tokens_of_joined (token ∷ next ∷ tokens) are =
-    first_token token (join_with_byte 32 (next ∷ tokens)) are.0 are.1
-    ∙ ap (λ (ts : Tokens). token ∷ ts) (tokens_of_joined (next ∷ tokens) are.2)
+    grind (arith, common_steps, first_token, tokens_of_joined (next ∷ tokens) are.2)
 
 -- ---- numbers
 
@@ -120,11 +107,7 @@ abbrev pub PassesNoDigit : (ℕ → Bool) → Type 0
 PassesNoDigit p = (b : ℕ) → 48 ≤ b → p b ≡ false
 
 glyph : (d : ℕ) → 48 ≤ cond (ltb d 10) (48 + d) (87 + d)
-glyph d = either (ltb d 10)
-  where
-    either : (b : Bool) → 48 ≤ cond b (48 + d) (87 + d)
-    either true = omega arith
-    either false = omega arith
+glyph d = grind (arith, common_steps)
 
 free_more : (p : ℕ → Bool) → PassesNoDigit p → (d : ℕ) (acc : List ℕ) → IsFree p acc
     → IsFree p (cond (ltb d 10) (48 + d) (87 + d) ∷ acc)
@@ -146,24 +129,13 @@ unfolding digits
 decimal_free p none n = digits_free p none 64 n [] refl
 
 not_equal : (b c : ℕ) → c < b → eqb b c ≡ false
-not_equal b c h = at (eqb b c) refl
-  where
-    at : (r : Bool) → eqb b c ≡ r → r ≡ false
-    at false e = refl
-    at true e = absurd (omega (arith, eqb-true b c e))
+not_equal b c h = grind (arith, common_steps, eqb-true)
 
 pub no_line_feed : PassesNoDigit is_line_feed
 no_line_feed b h = not_equal b 10 (omega arith)
 
 pub no_separator : PassesNoDigit is_separator
-no_separator b h = or_three (eqb b 32) (eqb b 9) (eqb b 13) (not_equal b 32 (omega arith))
-    (not_equal b 9 (omega arith)) (not_equal b 13 (omega arith))
-  where
-    or_three : (x y z : Bool) → x ≡ false → y ≡ false → z ≡ false → (x || y || z) ≡ false
-    or_three false false false e f g = refl
-    or_three true y z e f g = absurd cc
-    or_three false true z e f g = absurd cc
-    or_three false false true e f g = absurd cc
+no_separator b h = grind (arith, common_steps, not_equal)
 
 some_bytes : (bytes : List ℕ) → 0 < length bytes → is_empty bytes ≡ false
 some_bytes [] h = absurd (omega arith)

@@ -1,14 +1,12 @@
 -- What a reader has read after one more line.
-use Rattle.std.proofs.Common.{◌≡◌, ℕ, suc, ◌+◌, ◌<◌, ◌⊎◌, inl, inr, true, List, [], ◌∷◌, ◌++◌}
-use Rattle.std.proofs.Common.{length, Option, Some, None, String, string_bytes, refl, sym}
-use Rattle.std.proofs.Common.{ap, ◌∙◌}
-use Rattle.std.proofs.Common.{subst, append_assoc, arith}
+use Rattle.std.proofs.lemmas.Grind.{common_steps, flat_map-append}
+use Rattle.std.proofs.Common.{◌≡◌, ℕ, suc, ◌+◌, ◌<◌, ◌⊎◌, inl, inr, true, List, [], ◌∷◌, ◌++◌, length, Option, Some}
+use Rattle.std.proofs.Common.{None, String, string_bytes, refl, sym, ap, ◌∙◌, subst, append_assoc, arith}
 use Rattle.std.specs.Fmt.{decimal}
 use Rattle.std.specs.declared.alloc.Global.{Global}
 use Rattle.std.proofs.lemmas.List.{append-nil, length-map, map-append}
 use Rattle.std.proofs.lemmas.List.Concat.{flat_map-cons}
 use Rattle.std.proofs.lemmas.List.Elements.{filter_map-append}
-use Rattle.std.proofs.lemmas.Grind.{flat_map-append}
 use Rattle.shop_model.specs.Shop.{Shop}
 use Rattle.shop_text.specs.Formats.{grammar_of}
 use Rattle.shop_text.specs.Lines.{Line, Numbers, Words, Numbered}
@@ -57,33 +55,21 @@ last_push otherwise name (next ∷ names) = last_push next name names
 
 header_none : (f : Grammar) (lines : List Numbered) (n : ℕ) (line : Line) → f.header line ≡ None
     → headers_of f (lines ++ (n, line) ∷ []) ≡ headers_of f lines
-header_none f lines n line e =
-    filter_map-append (λ (l : Numbered). f.header l.1) lines ((n, line) ∷ []) ∙ rw e (append-nil (headers_of f lines))
+header_none f lines n line e = grind (arith, common_steps, filter_map-append, append-nil)
 
 header_some : (f : Grammar) (lines : List Numbered) (n : ℕ) (line : Line) (name : List ℕ) → f.header line ≡ Some name
     → headers_of f (lines ++ (n, line) ∷ []) ≡ headers_of f lines ++ name ∷ []
-header_some f lines n line name e =
-    filter_map-append (λ (l : Numbered). f.header l.1) lines ((n, line) ∷ []) ∙ rw e refl
+header_some f lines n line name e = grind (arith, common_steps, filter_map-append)
 
 texts_more : (begun : List Entry) (after : List Numbered) (n : ℕ) (row : Row)
     → texts_of (with_row begun after n row) ≡ texts_of begun ++ after
-texts_more begun after n row =
-    flat_map-append (λ (e : Entry). e.before) begun (entry after n row ∷ [])
-    ∙ ap (λ (ls : List Numbered). texts_of begun ++ ls)
-    (flat_map-cons (λ (e : Entry). e.before) (entry after n row) [] ∙ append-nil after)
+texts_more begun after n row = grind (arith, common_steps, flat_map-append, entry, flat_map-cons, append-nil)
 
 named_push : (f : Grammar) (n : ℕ) (parts : List Part) (part : Part)
     → named_from f n (parts ++ part ∷ [])
     ≡ named_from f n parts ++ record { name = name_of f (n + length parts) part; shop = f.shop (entry_rows part) } ∷ []
-named_push f n [] part =
-    ap (λ (k : ℕ). record { name = name_of f k part; shop = f.shop (entry_rows part) } ∷ named_from f (n + 1) [])
-    (omega arith)
-named_push f n (p ∷ parts) part =
-    ap (λ (ns : List NamedShop). record { name = name_of f n p; shop = f.shop (entry_rows p) } ∷ ns)
-    (named_push f (n + 1) parts part
-    ∙ ap (λ (k : ℕ). named_from f (n + 1)
-    parts ++ record { name = name_of f k part; shop = f.shop (entry_rows part) } ∷ [])
-    (omega arith))
+named_push f n [] part = grind (arith, common_steps)
+named_push f n (p ∷ parts) part = grind (arith, common_steps, named_push f (n + 1) parts part)
 
 named_len : (f : Grammar) (n : ℕ) (parts : List Part) → length (named_from f n parts) ≡ length parts
 named_len f n [] = refl
@@ -115,10 +101,7 @@ pub no_header : (reader : Reader) (n : ℕ) (words : List (List ℕ)) (front : L
     → (grammar_of reader.format).header (Words words) ≡ None
     → IsLast reader.name (headers_of (grammar_of reader.format)
     ((texts_of r.begun ++ r.place.after) ++ (n, Words words) ∷ []))
-no_header reader n words front r e = λ otherwise.
-    ap (last_or otherwise) (header_none (grammar_of reader.format) (texts_of r.begun ++ r.place.after) n (Words words)
-    e)
-    ∙ r.name_is otherwise
+no_header reader n words front r e = grind (arith, common_steps, header_none)
 
 -- that gives one
 pub one_header : (reader : Reader) (n : ℕ) (words : List (List ℕ)) (front : List Numbered) (r : IsReadUpTo reader front)
@@ -234,21 +217,7 @@ cut_outside f lines (x ∷ begun) s e = absurd cc
 
 pub all_read : (reader : Reader) (lines : List Numbered) → IsReadUpTo reader lines → reader.draft.jobs_wanted ≡ 0
     → 0 < length reader.named.items → AreRead (grammar_of reader.format) lines reader.named
-all_read reader lines r fresh some =
-    let f : Grammar = grammar_of reader.format
-    in let len = parts_len f reader.named.items r.place.parts r.named_are
-    in record {
-      parts = r.place.parts;
-      good = record {
-        after = r.place.after;
-        cut = cut_outside f lines r.begun r.place (fresh_begun reader lines r.begun r.draft_holds fresh);
-        parts_good = r.place.parts_good;
-        after_text = r.place.after_skipped.0;
-        some = omega arith;
-      };
-      named_are = r.named_are;
-      some = some;
-    }
+all_read reader lines r fresh some = grind (arith, common_steps, parts_len, cut_outside, fresh_begun)
 
 no_parts : (f : Grammar) (lines : List Numbered) (parts : List Part) (after : List Numbered)
     → lines ≡ lines_of_parts parts ++ after → length parts ≡ 0 → AreText after → AreText lines
@@ -257,12 +226,4 @@ no_parts f lines (p ∷ parts) after cut none text = absurd (omega arith)
 
 pub none_read : (reader : Reader) (lines : List Numbered) → IsReadUpTo reader lines → reader.draft.jobs_wanted ≡ 0
     → length reader.named.items ≡ 0 → IsWithoutInstance lines NoInstance
-none_read reader lines r fresh none =
-    let f : Grammar = grammar_of reader.format
-    in let len = parts_len f reader.named.items r.place.parts r.named_are
-    in record {
-      text = no_parts f lines r.place.parts r.place.after
-          (cut_outside f lines r.begun r.place (fresh_begun reader lines r.begun r.draft_holds fresh)) (omega arith)
-          r.place.after_skipped.0;
-      told = refl;
-    }
+none_read reader lines r fresh none = grind (arith, common_steps, parts_len, no_parts, cut_outside, fresh_begun)

@@ -1,8 +1,8 @@
 -- A report, and a Gantt text behind it, read as a schedule text.
-use Rattle.std.proofs.Common.{◌≡◌, ℕ, zero, suc, ◌*◌, ◌≤◌, Bool, true, false, ◌&&◌, ◌||◌}
-use Rattle.std.proofs.Common.{eqb, leb, List, [], ◌∷◌, ◌++◌, length, get_or, map, Option, Some, None}
-use Rattle.std.proofs.Common.{refl, sym, ap, ◌∙◌, arith, subst}
-use Rattle.std.specs.Prelude.{filter, codes, find}
+use Rattle.std.proofs.lemmas.Grind.{common_steps}
+use Rattle.std.proofs.Common.{◌≡◌, ℕ, zero, suc, ◌≤◌, Bool, true, false, ◌&&◌, ◌||◌, eqb, leb, List, [], ◌∷◌, ◌++◌}
+use Rattle.std.proofs.Common.{length, get_or, map, Option, Some, None, refl, sym, ap, ◌∙◌, arith, subst}
+use Rattle.std.specs.Prelude.{filter, codes}
 use Rattle.std.specs.List.{enumerate_from, range_with_len, list_any, list_all, join_with_byte}
 use Rattle.std.specs.Option.{option_map_or}
 use Rattle.std.specs.Fmt.{decimal}
@@ -15,17 +15,14 @@ use Rattle.shop_model.specs.Limits.{AreStarts}
 use Rattle.shop_model.specs.Checking.{HasShape, starts_of}
 use Rattle.shop_text.specs.Lines.{is_line_feed, tokens_of}
 use Rattle.shop_text.specs.Formats.{is_visible}
-use Rattle.shop_text.specs.Schedules.{Tokens, is_counted, counted_lines}
-use Rattle.shop_text.specs.Schedules.{IsTable}
+use Rattle.shop_text.specs.Schedules.{Tokens, is_counted, counted_lines, IsTable}
 use Rattle.shop_text.specs.Writing.{report_text, Reported, printed_line, text_of, number_line, status_word}
-use Rattle.shop_text.specs.Writing.{answer_lines, job_line}
-use Rattle.shop_text.specs.Writing.{job_lines, report_lines, unit_of, columns_of, character_of, serves}
-use Rattle.shop_text.specs.Writing.{shown_at, columns, cells_line, machine_line, gantt_lines}
+use Rattle.shop_text.specs.Writing.{answer_lines, job_line, job_lines, report_lines, unit_of, character_of}
+use Rattle.shop_text.specs.Writing.{machine_line, gantt_lines}
 use Rattle.shop_text.specs.RoundTrip.{ReportsAreSchedules}
 use Rattle.shop_text.proofs.JobLineLemmas.{row_at}
-use Rattle.shop_text.proofs.PrintedLines.{IsFree, free_append, AreLines, lines_of_text, are_lines_append}
-use Rattle.shop_text.proofs.PrintedLines.{joined_free, decimal_free}
-use Rattle.shop_text.proofs.PrintedLines.{no_line_feed}
+use Rattle.shop_text.proofs.PrintedLines.{IsFree, free_append, AreLines, lines_of_text, are_lines_append, joined_free}
+use Rattle.shop_text.proofs.PrintedLines.{decimal_free, no_line_feed}
 use Rattle.shop_text.proofs.PrintedJobLines.{AreOther, AreRows, job_lines_are_lines, jobs_from, jobs_read}
 use Rattle.shop_text.proofs.PrintedJobLines.{other_line, read_from, skip_lines}
 
@@ -49,78 +46,21 @@ status_free (suc n) = refl
 
 number_free : (word : List ℕ) (n : ℕ) → IsFree is_line_feed word
     → IsFree is_line_feed (join_with_byte 32 (number_line word n))
-number_free word n free =
-    joined_free is_line_feed refl (number_line word n) (free, (decimal_free is_line_feed no_line_feed n, tt))
+number_free word n free = grind (arith, common_steps, joined_free, decimal_free, no_line_feed)
 
 pub answer_is_lines : (r : Reported) → list_all is_visible r.name ≡ true → AreLines (answer_lines r)
-answer_is_lines r visible = (
-  joined_free is_line_feed refl (codes "instance" ∷ r.name ∷ []) (refl, (visible_free r.name visible, tt)),
-  (
-    joined_free is_line_feed refl (codes "size" ∷ decimal (length r.shop.jobs) ∷ decimal r.shop.machines ∷ []) (
-      refl,
-      (
-        decimal_free is_line_feed no_line_feed (length r.shop.jobs),
-        (decimal_free is_line_feed no_line_feed r.shop.machines, tt),
-      ),
-    ),
-    (
-      number_free (codes "makespan") r.makespan refl,
-      (
-        number_free (codes "bound") r.bound refl,
-        (
-          joined_free is_line_feed refl (codes "status" ∷ status_word r.open_nodes ∷ [])
-              (refl, (status_free r.open_nodes, tt)),
-          (
-            number_free (codes "open") r.open_nodes refl,
-            (
-              number_free (codes "rounds") r.rounds refl,
-              (number_free (codes "nodes") r.nodes refl, tt),
-            ),
-          ),
-        ),
-      ),
-    ),
-  ),
-)
+answer_is_lines r visible =
+    grind (arith, common_steps, joined_free, visible_free, decimal_free, no_line_feed, number_free, status_free)
 
 answer_is_other : (r : Reported) → AreOther (answer_lines r)
-answer_is_other r = (
-  other_line (codes "instance") r.name [] refl refl refl,
-  (
-    other_line (codes "size") (decimal (length r.shop.jobs)) (decimal r.shop.machines ∷ []) refl refl refl,
-    (
-      other_line (codes "makespan") (decimal r.makespan) [] refl refl refl,
-      (
-        other_line (codes "bound") (decimal r.bound) [] refl refl refl,
-        (
-          other_line (codes "status") (status_word r.open_nodes) [] refl refl refl,
-          (
-            other_line (codes "open") (decimal r.open_nodes) [] refl refl refl,
-            (
-              other_line (codes "rounds") (decimal r.rounds) [] refl refl refl,
-              (other_line (codes "nodes") (decimal r.nodes) [] refl refl refl, tt),
-            ),
-          ),
-        ),
-      ),
-    ),
-  ),
-)
+answer_is_other r = grind (arith, common_steps, other_line)
 
 -- ---- Gantt texts
 
 get_free : (p : ℕ → Bool) (xs : List ℕ) (d : ℕ) → IsFree p xs → p d ≡ false → (i : ℕ) → p (get_or xs i d) ≡ false
 get_free p [] d free none i = none
-get_free p (x ∷ xs) d free none zero = first (p x) (list_any p xs) free
-  where
-    first : (a b : Bool) → (a || b) ≡ false → a ≡ false
-    first false b e = refl
-    first true b e = absurd cc
-get_free p (x ∷ xs) d free none (suc i) = get_free p xs d (rest (p x) (list_any p xs) free) none i
-  where
-    rest : (a b : Bool) → (a || b) ≡ false → b ≡ false
-    rest false b e = e
-    rest true b e = absurd cc
+get_free p (x ∷ xs) d free none zero = grind (arith, common_steps)
+get_free p (x ∷ xs) d free none (suc i) = grind (arith, common_steps)
 
 shown_free : (o : Option ℕ) → is_line_feed (option_map_or character_of o 46) ≡ false
 shown_free None = refl
@@ -134,50 +74,25 @@ map_free p f (x ∷ xs) none = ap (λ (b : Bool). b || list_any p (map f xs)) (n
 machine_free : (shop : Shop) (starts : Starts) (machine : ℕ)
     → IsFree is_line_feed (join_with_byte 32 (machine_line shop starts machine))
 machine_free shop starts machine =
-    let cells = columns shop starts machine
-    in let free : IsFree is_line_feed (columns shop starts machine) =
-    map_free is_line_feed (λ column. shown_at shop starts machine (column * unit_of (end_of shop starts)))
-    (range_with_len 0 (columns_of (end_of shop starts)))
-    (λ column. shown_free (find (serves shop starts machine (column * unit_of (end_of shop starts)))
-    (range_with_len 0 (length shop.jobs))))
-    in joined_free is_line_feed refl (cells_line machine cells) (
-      refl,
-      (
-        decimal_free is_line_feed no_line_feed machine,
-        (
-          free_append is_line_feed (codes "|" ++ cells) (codes "|")
-              (free_append is_line_feed (codes "|") cells refl free) refl,
-          tt,
-        ),
-      ),
-    )
+    grind (arith, common_steps, map_free, shown_free, joined_free, decimal_free, no_line_feed, free_append)
 
 machines_are_lines : (shop : Shop) (starts : Starts) (machines : List ℕ)
     → AreLines (map (machine_line shop starts) machines)
 machines_are_lines shop starts [] = tt
 machines_are_lines shop starts (machine ∷ machines) =
-    (machine_free shop starts machine, machines_are_lines shop starts machines)
+    grind (arith, common_steps, machine_free, machines_are_lines shop starts machines)
 
 machines_are_other : (shop : Shop) (starts : Starts) (machines : List ℕ)
     → AreOther (map (machine_line shop starts) machines)
 machines_are_other shop starts [] = tt
-machines_are_other shop starts (machine ∷ machines) = (
-  other_line (codes "machine") (decimal machine) ((codes "|" ++ columns shop starts machine ++ codes "|") ∷ []) refl
-      refl refl,
-  machines_are_other shop starts machines,
-)
+machines_are_other shop starts (machine ∷ machines) =
+    grind (arith, common_steps, other_line, machines_are_other shop starts machines)
 
 -- ---- the law
 
 as_many_lines : (lines : List Tokens) → length lines ≤ length (text_of lines)
 as_many_lines [] = omega arith
-as_many_lines (line ∷ lines) =
-    omega (
-      arith,
-      length-append (printed_line line) (text_of lines),
-      length-append (join_with_byte 32 line) (10 ∷ []),
-      as_many_lines lines,
-    )
+as_many_lines (line ∷ lines) = grind (arith, common_steps, length-append, as_many_lines lines)
 
 -- other lines behind a report change nothing
 read_back : (r : Reported) (others : List Tokens) → list_all is_visible r.name ≡ true → HasShape r.shop r.table

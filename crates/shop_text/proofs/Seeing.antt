@@ -6,8 +6,7 @@ use Rattle.std.specs.List.{list_all}
 use Rattle.std.proofs.lemmas.Bool.{cases_Bool}
 use Rattle.std.proofs.lemmas.List.{append-nil}
 use Rattle.shop_text.specs.Lines.{Blank, Numbers, Words, is_number, value_of, line_of_tokens}
-use Rattle.shop_text.specs.inner.LineReading.{capped}
-use Rattle.shop_text.specs.inner.LineReading.{with_tokens}
+use Rattle.shop_text.specs.inner.LineReading.{capped, with_tokens}
 
 abbrev values : List (List ℕ) → List ℕ
 values tokens = map (λ t. capped (value_of t)) tokens

@@ -1,14 +1,13 @@
 -- In a feasible table a machine serves one job at most at each instant.
-use Rattle.std.proofs.Common.{◌≡◌, ℕ, zero, suc, ◌+◌, ◌*◌, ◌<◌, ◌≤◌, Bool, true, false, ◌&&◌, ◌||◌, cond, eqb, leb}
-use Rattle.std.proofs.Common.{ltb, List, length, map, Some, None, refl, sym, ap, ◌∙◌, arith}
-use Rattle.std.proofs.Common.{inl, inr, ◌⊎◌, add-one}
+use Rattle.std.proofs.lemmas.Grind.{common_steps}
+use Rattle.std.proofs.Common.{◌≡◌, ℕ, zero, suc, ◌+◌, ◌*◌, ◌<◌, ◌≤◌, Bool, true, false, ◌&&◌, ◌||◌, cond}
+use Rattle.std.proofs.Common.{List, length, map, Some, None, refl, sym, ap, ◌∙◌, arith, inl, inr, add-one}
 use Rattle.std.specs.Prelude.{find}
 use Rattle.std.specs.List.{range_with_len, list_any}
 use Rattle.std.specs.Option.{option_map_or}
 use Rattle.std.proofs.lemmas.Bool.{cases_eq, eq-eqb, eqb-true, leb-true, le-leb, ltb-true, lt-ltb}
 use Rattle.std.proofs.lemmas.List.FromFn.{fill_by_all}
 use Rattle.shop_model.specs.Shop.{Shop, Starts, route_of, machine_of, IsOperation, IsFeasible, finish_of}
-use Rattle.shop_model.proofs.Ends.{IsOperation-job}
 use Rattle.shop_text.specs.Writing.{character_of, is_served, serves, shown_at, ShowsTheJob}
 use Rattle.shop_text.specs.inner.Cells.{last_shown, ShowsJob, ShowsJobs}
 
@@ -48,18 +47,11 @@ any_at p a n k low high e = at (list_any p (range_with_len a n)) refl
 only_found : (p : ℕ → Bool) (a n j : ℕ) → a ≤ j → j < a + n → p j ≡ true → ((i : ℕ) → p i ≡ true → i ≡ j)
     → find p (range_with_len a n) ≡ Some j
 only_found p a zero j low high e only = absurd (omega arith)
-only_found p a (suc n) j low high e only = at (p a) refl (λ later. only_found p (a + 1) n j later (omega arith) e only)
-  where
-    at : (b : Bool) → p a ≡ b → (a + 1 ≤ j → find p (range_with_len (a + 1) n) ≡ Some j)
-        → cond b (Some a) (find p (range_with_len (a + 1) n)) ≡ Some j
-    at true here later = ap Some (only a here)
-    at false here later =
-        later (elim (cases_eq a j) [ inl same ↦ absurd (let other = ap p same in cc) | inr ne ↦ omega arith ])
+only_found p a (suc n) j low high e only = grind (arith, common_steps, cases_eq, only_found p (a + 1) n j)
 
 none_found : (p : ℕ → Bool) (a n : ℕ) → ((i : ℕ) → p i ≡ false) → find p (range_with_len a n) ≡ None
 none_found p a zero none = refl
-none_found p a (suc n) none =
-    ap (λ (b : Bool). cond b (Some a) (find p (range_with_len (a + 1) n))) (none a) ∙ none_found p (a + 1) n none
+none_found p a (suc n) none = grind (arith, common_steps, none_found p (a + 1) n none)
 
 -- ---- one job at most
 
@@ -79,19 +71,7 @@ pub record IsServed (shop : Shop) (starts : Starts) (machine instant j k : ℕ) 
 pub served_step : (shop : Shop) (starts : Starts) (machine instant j : ℕ) → serves shop starts machine instant j ≡ true
     → (k : ℕ) × IsServed shop starts machine instant j k
 served_step shop starts machine instant j e =
-    let k = some_in_range (is_served shop starts machine instant j) 0 (length (route_of shop j)) e
-    in let facts = three (eqb (machine_of shop j k.0) machine) (leb (starts j k.0) instant)
-    (ltb instant (finish_of shop starts j k.0)) k.2
-    in (
-      k.0,
-      record {
-        operation = omega (arith, k.1);
-        on_machine = eqb-true _ _ facts.0;
-        begun =
-            leb-true _ _ facts.1;
-        not_ended = ltb-true _ _ facts.2;
-      },
-    )
+    grind (arith, common_steps, some_in_range, three, eqb-true, leb-true, ltb-true)
 
 and_three : (a b d : Bool) → a ≡ true → b ≡ true → d ≡ true → (a && b && d) ≡ true
 and_three true true true e f g = refl
@@ -108,26 +88,13 @@ serves_step shop starts machine instant j k h =
 
 pub one_job : (shop : Shop) (starts : Starts) → IsFeasible shop starts → (machine instant i j : ℕ)
     → serves shop starts machine instant i ≡ true → serves shop starts machine instant j ≡ true → i ≡ j
-one_job shop starts feasible machine instant i j e f =
-    let a = served_step shop starts machine instant i e
-    in let b = served_step shop starts machine instant j f
-    in elim (cases_eq i j) [
-      | inl same ↦ same
-      | inr ne ↦ absurd (apart (a.0) (b.0) a.1 b.1 (feasible.apart i a.0 j b.0 a.1.operation b.1.operation
-          (a.1.on_machine ∙ sym b.1.on_machine) (λ same. ne same.0)))
-    ]
-  where
-    apart : (k l : ℕ) → IsServed shop starts machine instant i k → IsServed shop starts machine instant j l
-        → (finish_of shop starts i k ≤ starts j l) ⊎ (finish_of shop starts j l ≤ starts i k) → ⊥
-    apart k l h g (inl before) = (let x = h.not_ended in let y = g.begun in omega arith)
-    apart k l h g (inr after) = (let x = g.not_ended in let y = h.begun in omega arith)
+one_job shop starts feasible machine instant i j e f = grind (arith, common_steps, served_step, cases_eq)
 
 -- ---- what is shown
 
 serving_job : (shop : Shop) (starts : Starts) (machine instant j : ℕ) → serves shop starts machine instant j ≡ true
     → j < length shop.jobs
-serving_job shop starts machine instant j e =
-    let k = served_step shop starts machine instant j e in IsOperation-job shop j k.0 k.1.operation
+serving_job shop starts machine instant j e = grind (arith, common_steps, served_step)
 
 pub shown_job : (shop : Shop) (starts : Starts) → IsFeasible shop starts → (machine instant j : ℕ)
     → serves shop starts machine instant j ≡ true → shown_at shop starts machine instant ≡ character_of j
@@ -139,9 +106,7 @@ shown_job shop starts feasible machine instant j e =
 
 pub shown_none : (shop : Shop) (starts : Starts) (machine instant : ℕ)
     → ((i : ℕ) → serves shop starts machine instant i ≡ false) → shown_at shop starts machine instant ≡ 46
-shown_none shop starts machine instant none =
-    ap (λ o. option_map_or character_of o 46) (none_found (serves shop starts machine instant) 0 (length shop.jobs)
-    none)
+shown_none shop starts machine instant none = grind (arith, common_steps, none_found)
 
 last_job : (shop : Shop) (starts : Starts) → IsFeasible shop starts → (machine instant j n : ℕ) → j < n
     → serves shop starts machine instant j ≡ true → last_shown shop starts machine instant n ≡ character_of j
@@ -163,8 +128,7 @@ last_none : (shop : Shop) (starts : Starts) (machine instant n : ℕ)
     → ((i : ℕ) → serves shop starts machine instant i ≡ false) → last_shown shop starts machine instant n ≡ 46
 last_none shop starts machine instant zero none = refl
 last_none shop starts machine instant (suc n) none =
-    ap (λ (b : Bool). cond b (character_of n) (last_shown shop starts machine instant n)) (none n)
-    ∙ last_none shop starts machine instant n none
+    grind (arith, common_steps, last_none shop starts machine instant n none)
 
 -- nobody serves, if none of the jobs does
 none_serves : (shop : Shop) (starts : Starts) (machine instant : ℕ)

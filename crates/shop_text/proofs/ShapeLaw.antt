@@ -1,17 +1,16 @@
 -- The parts of `orlib` and `routes` are those in plain words.
-use Rattle.std.proofs.Common.{◌≡◌, ℕ, zero, suc, ◌+◌, ◌*◌, ◌%◌, ◌/◌, inl, inr, cond, not, ◌&&◌, leb, ltb}
+use Rattle.std.proofs.lemmas.Grind.{common_steps}
+use Rattle.std.proofs.Common.{◌≡◌, ℕ, zero, suc, ◌+◌, ◌*◌, ◌%◌, ◌/◌, inl, inr, cond, not, ◌&&◌, leb}
 use Rattle.std.proofs.Common.{eqb, List, [], ◌∷◌, ◌++◌, length, Option, Some, None, refl, sym, ◌∙◌, subst, arith}
 use Rattle.std.specs.List.{AllByRecursion}
-use Rattle.std.proofs.lemmas.Bool.{and_parts, leb-true, le-leb, ltb-true, lt-ltb, eqb-true, eq-eqb, ne_eqb}
-use Rattle.std.proofs.lemmas.Bool.{true≢false}
+use Rattle.std.proofs.lemmas.Bool.{and_parts, leb-true, le-leb, ltb-true, lt-ltb, eqb-true, eq-eqb, ne_eqb, true≢false}
 use Rattle.std.proofs.lemmas.List.{length-map, length-append}
 use Rattle.shop_model.specs.Shop.{ShopJob}
 use Rattle.shop_text.specs.Lines.{Numbered}
-use Rattle.shop_text.specs.Grammar.{Row, LineFault, WrongShape, WrongSize, WrongRow, WrongMachine, WrongTime, Entry}
-use Rattle.shop_text.specs.Grammar.{Part}
-use Rattle.shop_text.specs.Grammar.{entry_rows, AreText, AreSkipped, AreAccepted, IsPart}
+use Rattle.shop_text.specs.Grammar.{Row, LineFault, WrongShape, WrongRow, WrongTime, Entry}
+use Rattle.shop_text.specs.Grammar.{Part, entry_rows, AreSkipped, AreAccepted, IsPart}
 use Rattle.shop_text.specs.Formats.{orlib_fault, orlib_job, routes_fault, routes_job, grammar_of_rows}
-use Rattle.shop_text.specs.Formats.{pairs_fault, size_fault, is_between, jobs_in, machines_in}
+use Rattle.shop_text.specs.Formats.{pairs_fault, size_fault, jobs_in, machines_in}
 use Rattle.shop_text.specs.Shapes.{IsSize, ArePairs, IsOrlibRow, IsRoutesRow, IsRowLine, IsPartOfRows}
 use Rattle.shop_text.specs.Shapes.{OrlibShape, RoutesShape}
 use Rattle.shop_text.proofs.Capping.{no_fault_then, no_fault_if, no_fault_in}
@@ -24,46 +23,20 @@ pairs_from machines [] half len e = tt
 pairs_from machines (m ∷ []) half len e = absurd (omega arith)
 pairs_from machines (m ∷ p ∷ rest) zero len e = absurd (omega arith)
 pairs_from machines (m ∷ p ∷ rest) (suc half) len e =
-    let later : Option LineFault = pairs_fault machines rest
-    in let first = no_fault_then (ltb m machines) WrongMachine (cond (not (leb p 1000000000)) (Some WrongTime) later) e
-    in let second = no_fault_then (leb p 1000000000) WrongTime later first.1
-    in (
-      ltb-true m machines first.0,
-      leb-true p 1000000000 second.0,
-      pairs_from machines rest half (omega arith)
-          second.1,
-    )
+    grind (arith, common_steps, no_fault_then, ltb-true, leb-true, pairs_from machines rest half (omega arith))
 
 pairs_to : (machines : ℕ) (row : Row) → ArePairs machines row → pairs_fault machines row ≡ None
 pairs_to machines [] h = refl
 pairs_to machines (m ∷ []) h = refl
-pairs_to machines (m ∷ p ∷ rest) h =
-    rw (lt-ltb m machines h.0, le-leb p 1000000000 h.1) (pairs_to machines rest h.2)
+pairs_to machines (m ∷ p ∷ rest) h = grind (arith, common_steps, lt-ltb, le-leb, pairs_to machines rest h.2)
 
 -- ---- a size line
 
 pub size_from : (row : Row) → size_fault row ≡ None → IsSize (jobs_in row) (machines_in row)
-size_from row e =
-    let both = and_parts (is_between 1 1000 (jobs_in row)) (is_between 1 100 (machines_in row))
-    (no_fault_if (is_between 1 1000 (jobs_in row) && is_between 1 100 (machines_in row)) WrongSize e)
-    in let jobs = and_parts (leb 1 (jobs_in row)) (leb (jobs_in row) 1000) both.0
-    in let machines = and_parts (leb 1 (machines_in row)) (leb (machines_in row) 100) both.1
-    in record {
-      some_job = leb-true 1 (jobs_in row) jobs.0;
-      few_jobs = leb-true (jobs_in row) 1000 jobs.1;
-      some_machine = leb-true 1 (machines_in row) machines.0;
-      few_machines = leb-true (machines_in row) 100 machines.1;
-    }
+size_from row e = grind (arith, common_steps, and_parts, no_fault_if, leb-true)
 
 pub size_to : (row : Row) → IsSize (jobs_in row) (machines_in row) → size_fault row ≡ None
-size_to row s =
-    rw (
-      le-leb 1 (jobs_in row) s.some_job,
-      le-leb (jobs_in row) 1000 s.few_jobs,
-      le-leb 1 (machines_in row)
-          s.some_machine,
-      le-leb (machines_in row) 100 s.few_machines,
-    ) refl
+size_to row s = grind (arith, common_steps, le-leb)
 
 -- ---- rows of `orlib` and `routes`
 
@@ -74,8 +47,7 @@ orlib_row_from machines row e =
     in record { len = len; pairs = pairs_from machines row machines len counted.1 }
 
 orlib_row_to : (machines : ℕ) (row : Row) → IsOrlibRow machines row → orlib_fault machines row ≡ None
-orlib_row_to machines row h =
-    rw (eq-eqb (length row) (2 * machines) h.len) (pairs_to machines row h.pairs)
+orlib_row_to machines row h = grind (arith, common_steps, eq-eqb, pairs_to)
 
 -- pairs are an even count
 half_of : ℕ → Row → ℕ
@@ -131,13 +103,8 @@ rows_from : (fault : ℕ → Row → Option LineFault) (job : Row → ShopJob) (
     → (size : Row) (done : List Row) (rows : List Entry) → AreAccepted (grammar_of_rows fault job) (size ∷ done) rows
     → AllByRecursion (IsRowLine (IsRow (machines_in size))) rows
 rows_from fault job IsRow from size done [] a = tt
-rows_from fault job IsRow from size done (e ∷ rows) a = (
-  record {
-    no_text = no_text fault job size done e.before a.0.text;
-    is_row = from (machines_in size) e.row a.0.row;
-  },
-  rows_from fault job IsRow from size (done ++ e.row ∷ []) rows a.1,
-)
+rows_from fault job IsRow from size done (e ∷ rows) a =
+    grind (arith, common_steps, no_text, rows_from fault job IsRow from size (done ++ e.row ∷ []) rows a.1)
 
 rows_to : (fault : ℕ → Row → Option LineFault) (job : Row → ShopJob) (IsRow : ℕ → Row → Type 0)
     → ((machines : ℕ) (row : Row) → IsRow machines row → fault machines row ≡ None)
@@ -145,14 +112,15 @@ rows_to : (fault : ℕ → Row → Option LineFault) (job : Row → ShopJob) (Is
     → AllByRecursion (IsRowLine (IsRow (machines_in size))) rows
     → AreAccepted (grammar_of_rows fault job) (size ∷ done) rows
 rows_to fault job IsRow to size done [] len h = tt
-rows_to fault job IsRow to size done (e ∷ rows) len h = (
-  record {
-    room = ne_eqb (length done) (jobs_in size) (λ is. omega arith);
-    text = (subst AreText (sym h.0.no_text) tt, inl h.0.no_text);
-    row = to (machines_in size) e.row h.0.is_row;
-  },
-  rows_to fault job IsRow to size (done ++ e.row ∷ []) rows (omega (arith, length-append done (e.row ∷ []))) h.1,
-)
+rows_to fault job IsRow to size done (e ∷ rows) len h =
+    grind (
+      arith,
+      common_steps,
+      ne_eqb,
+      length-append,
+      rows_to fault job IsRow to size (done ++ e.row ∷ []) rows
+          (omega (arith, length-append done (e.row ∷ []))) h.1,
+    )
 
 -- ---- parts
 

@@ -1,19 +1,17 @@
 -- Lines are good for some parts, or have some fault.
+use Rattle.std.proofs.lemmas.Grind.{common_steps}
 use Rattle.std.proofs.Common.{◌≡◌, ℕ, ◌+◌, ◌≤◌, ◌⊎◌, inl, inr, Bool, true, false, cond, List, [], ◌∷◌, ◌++◌, length}
-use Rattle.std.proofs.Common.{map}
 use Rattle.std.proofs.Common.{Option, Some, None, refl, sym, ap, subst, ◌∙◌, append_assoc, arith}
 use Rattle.std.specs.Prelude.{IsTrue, filter}
-use Rattle.std.specs.List.{AllByRecursion, list_any, enumerate_from}
+use Rattle.std.specs.List.{AllByRecursion}
 use Rattle.std.proofs.lemmas.Bool.{cases_lt}
 use Rattle.std.proofs.lemmas.List.{append-nil}
-use Rattle.shop_text.specs.Lines.{Line, Blank, Numbers, Words, Numbered, is_left, line_of, lines_of, numbered_lines}
+use Rattle.shop_text.specs.Lines.{Line, Blank, Numbers, Words, Numbered, is_left, lines_of}
 use Rattle.shop_text.specs.Grammar.{Row, Grammar, LineFault, WrongRow, fault_at, Entry, Part, entry_rows}
-use Rattle.shop_text.specs.Grammar.{lines_of_parts}
-use Rattle.shop_text.specs.Grammar.{AreText, IsPart, IsGood, IsBegun, refusal, IsRefused, IsFault}
+use Rattle.shop_text.specs.Grammar.{lines_of_parts, AreText, IsPart, IsGood, IsBegun, refusal, IsRefused, IsFault}
 use Rattle.shop_text.specs.declared.faults.ReadFault.{ReadFault}
 use Rattle.shop_text.specs.declared.faults.ReadFault.TheVariants.{NoInstance, Truncated, TooLong}
-use Rattle.shop_text.specs.Texts.{is_header, from_first_header, lines_left, named_from}
-use Rattle.shop_text.specs.Texts.{HasReading, SomeReading}
+use Rattle.shop_text.specs.Texts.{from_first_header, lines_left, named_from, HasReading, SomeReading}
 use Rattle.shop_text.proofs.OneReading.{IsGrammar, with_row}
 use Rattle.shop_text.proofs.Places.{words_on, row_on, part_on}
 
@@ -48,17 +46,7 @@ ends f last lines [] s = outside f last lines s.after s.parts s.cut s.parts_good
 pub refused_here : (f : Grammar) (all front lines : List Numbered) (begun : List Entry) → IsBegun f front begun
     → (n : ℕ) (line : Line) → all ≡ front ++ (n, line) ∷ lines → (name : LineFault)
     → refusal f (entry_rows begun) line ≡ Some name → IsRefused f all (fault_at n name)
-refused_here f all front lines begun s n line cut name e = record {
-  before = front;
-  line = (n, line);
-  later = lines;
-  cut = cut;
-  begun = begun;
-  place = s;
-  name = name;
-  refused = e;
-  told = refl;
-}
+refused_here f all front lines begun s n line cut name e = grind (arith, common_steps)
 
 -- from each place on the way, the rest of the lines has an outcome
 abbrev Found : Grammar → ℕ → List Numbered → List Numbered → Type 0
@@ -146,14 +134,10 @@ left_chosen false xs ys h g = g
 
 left_after : (f : Grammar) (lines : List Numbered) → AreLeft lines → AreLeft (from_first_header f lines)
 left_after f [] h = tt
-left_after f (l ∷ lines) h =
-    left_chosen (is_header f l) (l ∷ lines) (from_first_header f lines) h (left_after f lines h.1)
+left_after f (l ∷ lines) h = grind (arith, common_steps, left_chosen, left_after f lines h.1)
 
 pub all_left : (f : Grammar) (text : List ℕ) → AreLeft (lines_left f text)
-all_left f text =
-    let lines : List Numbered = numbered_lines text
-    in let h : AreLeft lines = left_all (enumerate_from 1 (map line_of (lines_of text)))
-    in left_chosen (list_any (is_header f) lines) (from_first_header f lines) lines (left_after f lines h) h
+all_left f text = grind (arith, common_steps, left_all, left_chosen, left_after)
 
 pub some_text : (f : Grammar) → IsGrammar f → SomeReading f
 some_text f is text = elim (cases_lt 16777216 (length text)) [

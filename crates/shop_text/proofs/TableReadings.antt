@@ -1,4 +1,5 @@
 -- Each schedule text gives exactly one table, or has exactly one fault.
+use Rattle.std.proofs.lemmas.Grind.{common_steps}
 use Rattle.std.proofs.Common.{◌≡◌, ℕ, ◌+◌, ◌<◌, ◌≤◌, ◌⊎◌, List, [], ◌∷◌, ◌++◌, length}
 use Rattle.std.proofs.Common.{map, Option, Some, None, refl, sym, ap, ◌∙◌, arith, inl, inr, subst}
 use Rattle.std.specs.List.{enumerate_from}
@@ -62,9 +63,7 @@ stopped_there shop last j n (line ∷ later) wrong = wrong.0
 
 bad_reading : (shop : Shop) (text : List ℕ) (n : ℕ) (bad : IsBadAt shop text n)
     → reading shop 0 (counted_lines text) ≡ (bad.rows, bad.later)
-bad_reading shop text n bad = ap (reading shop 0) bad.cut
-    ∙ is_reading shop 0 bad.before bad.rows bad.later bad.good (subst (λ (j : ℕ). IsStopped shop j bad.later)
-    (omega arith) (stopped_there shop _ _ n bad.later bad.wrong))
+bad_reading shop text n bad = grind (arith, common_steps, is_reading, stopped_there)
 
 good_reading : (shop : Shop) (text : List ℕ) (rows : List (List ℕ)) → IsTable shop text rows
     → reading shop 0 (counted_lines text) ≡ (rows, [])
@@ -78,8 +77,7 @@ same_place : (shop : Shop) (last i j m n : ℕ) (later others : List Line) → l
 same_place shop last i j m n [] [] e x y = x.1 ∙ sym y.1
 same_place shop last i j m n [] (other ∷ others) e x y = absurd cc
 same_place shop last i j m n (line ∷ later) [] e x y = absurd cc
-same_place shop last i j m n (line ∷ later) (other ∷ others) e x y =
-    x.1 ∙ (let same : line ≡ other = cc in ap (λ (l : Line). l.0) same) ∙ sym y.1
+same_place shop last i j m n (line ∷ later) (other ∷ others) e x y = grind (arith, common_steps)
 
 same_bad : (shop : Shop) (text : List ℕ) (m n : ℕ) → IsBadAt shop text m → IsBadAt shop text n → m ≡ n
 same_bad shop text m n x y =

@@ -1,8 +1,9 @@
 -- Texts made of lines, and lines made of tokens.
+use Rattle.std.proofs.lemmas.Grind.{common_steps}
 use Rattle.std.proofs.Common.{◌≡◌, ℕ, ◌+◌, ◌<◌, List, [], ◌∷◌, ◌++◌, length, get_or, take, map, Result, Ok, Err, refl}
 use Rattle.std.proofs.Common.{sym, ap, ◌∙◌, arith}
 use Rattle.std.specs.Prelude.{flat_map, codes, OnOk, IfOk}
-use Rattle.std.specs.List.{join_with_byte, enumerate_from, range_with_len}
+use Rattle.std.specs.List.{join_with_byte, range_with_len}
 use Rattle.std.proofs.lemmas.List.FromFn.{map-range_with_len_more}
 use Rattle.std.specs.Fmt.{decimal}
 use Rattle.std.proofs.lemmas.List.{append_assoc, append-nil, map-append, take_more, length-take-le}
@@ -29,33 +30,20 @@ flat_map-map f (x ∷ xs) = ap (λ (rest : List ℕ). 32 ∷ f x ++ rest) (flat_
 pub job_line_is : (j : ℕ) (starts : List ℕ)
     → ((codes "job " ++ (decimal j ++ codes ":")) ++ flat_map (λ start. 32 ∷ decimal start) starts) ++ 10 ∷ []
     ≡ printed_line (job_line j starts)
-job_line_is j starts =
-    ap (λ (text : List ℕ). text ++ 10 ∷ []) (sym (ap (λ (rest : List ℕ). codes "job " ++ rest)
-    (joined_is (decimal j ++ codes ":") (map decimal starts)
-    ∙ ap (λ (rest : List ℕ). (decimal j ++ codes ":") ++ rest) (flat_map-map decimal starts))))
+job_line_is j starts = grind (arith, common_steps, joined_is, flat_map-map)
 
 pub text_push : (lines : List Tokens) (line : Tokens)
     → text_of (lines ++ line ∷ []) ≡ text_of lines ++ printed_line line
-text_push lines line = flat_map-append printed_line lines (line ∷ [])
-    ∙ ap (λ (rest : List ℕ). text_of lines ++ rest) (append-nil (printed_line line))
+text_push lines line = grind (arith, common_steps, flat_map-append, append-nil)
 
 -- one more line behind what is written
 pub text_more : (old new start : List ℕ) (lines : List Tokens) (line : Tokens) → old ≡ start ++ text_of lines
     → new ≡ old ++ printed_line line → new ≡ start ++ text_of (lines ++ line ∷ [])
-text_more old new start lines line e f =
-    f ∙ ap (λ (text : List ℕ). text ++ printed_line line) e
-    ∙ append_assoc start (text_of lines) (printed_line line)
-    ∙ ap (λ (text : List ℕ). start ++ text) (sym (text_push lines line))
+text_more old new start lines line e f = grind (arith, common_steps, append_assoc, text_push)
 
 pub job_lines_more : (rows : List (List ℕ)) (j : ℕ) → j < length rows
     → job_lines (take (j + 1) rows) ≡ job_lines (take j rows) ++ job_line j (get_or rows j []) ∷ []
-job_lines_more rows j h =
-    ap job_lines (take_more rows j [] h)
-    ∙ ap (map (λ (row : ℕ × List ℕ). job_line row.0 row.1)) (enumerate_push 0 (take j rows) (get_or rows j []))
-    ∙ map-append (λ (row : ℕ × List ℕ). job_line row.0 row.1) (enumerate_from 0 (take j rows))
-    ((0 + length (take j rows), get_or rows j []) ∷ [])
-    ∙ ap (λ (i : ℕ). job_lines (take j rows) ++ job_line i (get_or rows j []) ∷ [])
-    (omega (arith, length-take-le j rows (omega arith)))
+job_lines_more rows j h = grind (arith, common_steps, take_more, enumerate_push, map-append, length-take-le)
 
 pub eight_more : (s t a b c d e f g h : List ℕ) → t ≡ (((((((s ++ a) ++ b) ++ c) ++ d) ++ e) ++ f) ++ g) ++ h
     → t ≡ s ++ (a ++ (b ++ (c ++ (d ++ (e ++ (f ++ (g ++ (h ++ []))))))))

@@ -1,8 +1,9 @@
 -- The names in a text have visible bytes alone.
+use Rattle.std.proofs.lemmas.Grind.{common_steps}
 use Rattle.std.proofs.Common.{◌≡◌, ℕ, zero, suc, ◌+◌, ◌/◌, ◌%◌, ◌<◌, Bool, true, false, cond, ltb, eqb}
-use Rattle.std.proofs.Common.{List, [], ◌∷◌, Option, Some, None, refl, sym, subst, arith}
+use Rattle.std.proofs.Common.{List, [], ◌∷◌, Option, Some, None, refl, subst, arith}
 use Rattle.std.specs.Prelude.{find, IsTrue}
-use Rattle.std.specs.List.{list_all, flat_map, AllByRecursion}
+use Rattle.std.specs.List.{list_all, AllByRecursion}
 use Rattle.std.specs.Str.{bytes_eq}
 use Rattle.std.specs.Fmt.{decimal, digits, digits_onto}
 use Rattle.std.proofs.lemmas.Bool.{le-leb, lt-ltb}
@@ -68,15 +69,11 @@ last_visible p (line ∷ lines) name h =
 named_visible : (p : Format) (n : ℕ) (parts : List Part)
     → AllByRecursion (λ (s : NamedShop). IsTrue (list_all is_visible s.name)) (named_from (grammar_of p) n parts)
 named_visible p n [] = tt
-named_visible p n (part ∷ parts) = (
-  last_visible p (flat_map (λ e. e.before) part) (decimal n) (decimal_visible n),
-  named_visible p (n + 1) parts,
-)
+named_visible p n (part ∷ parts) =
+    grind (arith, common_steps, last_visible, decimal_visible, named_visible p (n + 1) parts)
 
 pub names_visible : (p : Format) → NamesAreVisible (grammar_of p)
-names_visible p text shops is = subst
-    (λ (xs : List NamedShop). AllByRecursion (λ (s : NamedShop). IsTrue (list_all is_visible s.name)) xs)
-    (sym is.shops_are) (named_visible p 1 is.parts)
+names_visible p text shops is = grind (arith, common_steps, named_visible)
 
 -- ---- the instance that is asked for
 

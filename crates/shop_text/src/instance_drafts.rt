@@ -24,11 +24,9 @@ pub(crate) struct Draft {
 impl Draft {
     ghost use Rattle.shop_model.specs.Given.{job_as_given};
     ghost use Rattle.shop_model.specs.Limits.{IsJobWithin};
-    ghost use Rattle.shop_text.specs.inner.LineReading.{capped};
+    ghost use Rattle.shop_text.specs.inner.LineReading.{capped, JudgesRow};
     ghost use Rattle.shop_text.specs.Grammar.{Row};
-    ghost use Rattle.shop_text.specs.inner.LineReading.{JudgesRow};
-    ghost use Rattle.shop_text.specs.inner.Drafts.{IsDraft, wants_times, jobs_drafted};
-    ghost use Rattle.shop_text.specs.inner.Drafts.{PushesJob, TakesRow};
+    ghost use Rattle.shop_text.specs.inner.Drafts.{IsDraft, wants_times, jobs_drafted, PushesJob, TakesRow};
     ghost use Rattle.shop_text.specs.Formats.{taillard};
     ghost use Rattle.shop_text.specs.declared.formats.Format.TheVariants.{Taillard};
     ghost use Rattle.std.specs.Prelude.{vec_len, IfOk};

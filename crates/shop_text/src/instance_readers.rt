@@ -1,14 +1,11 @@
 // Reads an instance text line by line.
-ghost use Rattle.std.specs.Prelude.{◌≡◌, ℕ, ◌≤◌, List, [], length, map};
-ghost use Rattle.std.specs.Prelude.{MatchOption, Some, None, IfOk};
-ghost use Rattle.std.specs.Prelude.{string_bytes};
+ghost use Rattle.std.specs.Prelude.{◌≡◌, ℕ, ◌≤◌, List, [], length, map, MatchOption, Some, None, IfOk, string_bytes};
 ghost use Rattle.std.specs.Fmt.{decimal};
 ghost use Rattle.shop_text.specs.Formats.{grammar_of};
 ghost use Rattle.shop_text.specs.Lines.{Numbered, Numbers, Words, line_of};
-ghost use Rattle.shop_text.specs.inner.LineReading.{capped};
+ghost use Rattle.shop_text.specs.inner.LineReading.{capped, lines_after, IsBehind};
 ghost use Rattle.shop_text.specs.Names.{IsRead};
 ghost use Rattle.shop_text.specs.Texts.{lines_left};
-ghost use Rattle.shop_text.specs.inner.LineReading.{lines_after, IsBehind};
 ghost use Rattle.shop_text.specs.inner.InstanceReading.{name_or, IsReadUpTo, Takes, Ends};
 
 use crate::faults::ReadFault;

@@ -1,8 +1,6 @@
 // The lines of a text, and the tokens and numbers of a line.
-ghost use Rattle.std.specs.Prelude.{◌≡◌, ◌<◌, ◌∷◌, [], not, length, position};
-ghost use Rattle.std.specs.Prelude.{MatchOption};
-ghost use Rattle.shop_text.specs.Lines.{lines_of, tokens_of, is_line_feed, is_separator};
-ghost use Rattle.shop_text.specs.Lines.{is_number, value_of};
+ghost use Rattle.std.specs.Prelude.{◌≡◌, ◌<◌, ◌∷◌, [], not, length, position, MatchOption};
+ghost use Rattle.shop_text.specs.Lines.{lines_of, tokens_of, is_line_feed, is_separator, is_number, value_of};
 ghost use Rattle.shop_text.specs.inner.LineReading.{capped, number_in, AreLeadingDigits, IsNumberCut};
 
 /// Finds the first line end; `None` if there is none.

@@ -1,8 +1,7 @@
 // The text of a report.
 ghost use Rattle.std.specs.Prelude.{◌≡◌, ◌∷◌, [], IfOk, codes, decimal};
 ghost use Rattle.shop_model.specs.Checking.{HasShape};
-ghost use Rattle.shop_text.specs.Writing.{number_line, status_word, answer_lines};
-ghost use Rattle.shop_text.specs.Writing.{job_line, job_lines, report_text};
+ghost use Rattle.shop_text.specs.Writing.{number_line, status_word, answer_lines, job_line, job_lines, report_text};
 ghost use Rattle.shop_text.specs.inner.Printing.{AddsLine, AddsLines};
 ghost use Rattle.shop_text.specs.Reports.{reported};
 

@@ -2,9 +2,8 @@
 ghost use Rattle.std.specs.Prelude.{◌≡◌, ◌∷◌, [], Some, None, MatchOption, IfOk, codes};
 ghost use Rattle.std.specs.List.{list_all};
 ghost use Rattle.std.specs.Str.{bytes_eq};
-ghost use Rattle.shop_text.specs.Formats.{grammar_of};
+ghost use Rattle.shop_text.specs.Formats.{grammar_of, header_of, is_visible};
 ghost use Rattle.shop_text.specs.Lines.{Words, tokens_of, line_of};
-ghost use Rattle.shop_text.specs.Formats.{header_of, is_visible};
 ghost use Rattle.shop_text.specs.inner.LineReading.{Tells};
 
 use crate::formats::Format;

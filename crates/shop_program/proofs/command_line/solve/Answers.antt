@@ -2,8 +2,7 @@ use Rattle.std.proofs.Common.{codes}
 use Rattle.clap.specs.Words.{App, Rule, new_app, with_rule}
 use Rattle.clap.specs.declared.builder.value_parser.ValueParser.TheVariants.{Names}
 use Rattle.shop_runs.specs.declared.plans.TheConstants.{MAX_WORKERS}
-use Rattle.shop_program.specs.CommandLine.{flag_rule, format_rule, number_rule, option_rule, path_rule}
-use Rattle.shop_program.specs.CommandLine.{with_plan_rules}
+use Rattle.shop_program.specs.CommandLine.{flag_rule, format_rule, number_rule, option_rule, path_rule, with_plan_rules}
 use Rattle.shop_program.proofs.command_line.solve.Goals as goal
 
 pub returns : goal.returns

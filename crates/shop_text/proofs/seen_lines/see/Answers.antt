@@ -1,8 +1,7 @@
 use Rattle.std.proofs.Common.{◌≡◌, sym, ap, ◌∙◌, [], None, Some, arith, true, eqb, vec_len}
 use Rattle.std.proofs.lemmas.Bool.{eqb-true, eqb-false}
 use Rattle.shop_text.specs.Lines.{tokens_of, is_number, value_of}
-use Rattle.shop_text.specs.inner.LineReading.{capped, IsNumberCut}
-use Rattle.shop_text.specs.inner.LineReading.{with_tokens}
+use Rattle.shop_text.specs.inner.LineReading.{capped, IsNumberCut, with_tokens}
 use Rattle.shop_text.proofs.Seeing.{at_word, is_words, is_blank, is_numbers, no_number, none_of}
 use Rattle.shop_text.proofs.seen_lines.see.Goals as goal
 
