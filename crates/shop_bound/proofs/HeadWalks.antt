@@ -12,25 +12,17 @@ use Rattle.shop_bound.proofs.HeadTurns.{ready_first, ready_more}
 use Rattle.shop_bound.proofs.BoundLaw.{front_of}
 
 module _ (shop : Shop) (p : Placing) (j : ℕ) where
-  -- step k, if it is this operation and these follow, and what waits then
-  first : ℕ → Op → List Op → Waiting
-  first k o os = grind arith
-
-  next : ℕ → Op → List Op → List Waiting
-  next k o os = grind arith
-
   -- from step k on
   walk_from : (k : ℕ) (os : List Op) → drop k (route_of shop j) ≡ os → p.steps j ≤ k
       → waiting_from p.free j k (ready_after shop p j (k - p.steps j)) os
       ≡ map (waiting_at shop p j) (range_with_len k (length os))
-  unfolding first next
   walk_from k [] e h = refl
   walk_from k (o ∷ os) e h =
       let front = front_of (route_of shop j) k o os e
       in let more = ready_more shop p j k h
       in let rest = walk_from (k + 1) os front.2 (omega arith)
       in let here = get_or (route_of shop j) k no_op
-      in grind (arith, front, more, rest, here, first, next)
+      in grind (arith, front, more, rest, here)
 
   waiting_of-is : waiting_of shop p j ≡ map (waiting_at shop p j) (steps_left shop p j)
   waiting_of-is =
