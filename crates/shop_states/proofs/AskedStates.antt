@@ -1,5 +1,5 @@
 -- What is known of a word in a layout that numbers machines anew, and of the same word of the instance itself.
-use Rattle.std.proofs.Common.{◌≡◌, ◌≤◌, ◌∙◌, ℕ, inl, inr, List, [], ◌∷◌, ◌++◌, refl, subst, sym}
+use Rattle.std.proofs.Common.{◌≡◌, ◌≤◌, ◌∙◌, ℕ, zero, suc, inl, inr, List, [], ◌∷◌, ◌++◌, refl, subst, sym}
 use Rattle.std.specs.Prelude.{Option, Some, None, OnSome}
 use Rattle.shop_lanes.specs.Rows.{Rows}
 use Rattle.shop_model.specs.Limits.{IsWithinLimits}
@@ -41,6 +41,9 @@ module _ {greatest : ℕ} {d : LaidOutState} {w : List ℕ} {rows : Rows} {nexts
     (of : IsKeptFor greatest d w rows nexts) where
   pub bound_there : {bound : ℕ} → bound ≡ lb d.asked w → bound ≡ lb d.shop w
   bound_there is = is ∙ sym (of.alike.bounds w of.word)
+
+  pub word_there : (j : ℕ) → IsWord d.asked (w ++ j ∷ []) → IsWord d.shop (w ++ j ∷ [])
+  word_there j fits = (of.alike.words (w ++ j ∷ [])).0 fits
 
   pub bound_behind : (j : ℕ) → IsWord d.shop (w ++ j ∷ []) → lb d.shop (w ++ j ∷ []) ≡ lb d.asked (w ++ j ∷ [])
   bound_behind j fits = of.alike.bounds (w ++ j ∷ []) ((of.alike.words (w ++ j ∷ [])).1 fits)

@@ -65,6 +65,18 @@ module _ {greatest : ℕ} {shop : Shop} {l : LayoutState} {rows : Rows} (can : C
         others = λ i ne. ap (λ (xs : List ℕ). get_or xs i 0) wrote ∙ get_or-set_other old j i v 0 ne;
       }
 
+-- of no job so far
+pub nexts_begin : {shop : Shop} {l : LayoutState} {p : Placing} {nexts ends : List ℕ}
+    → AreNextsSet shop l p 0 nexts nexts ends ends
+nexts_begin = record {
+  jobs = refl;
+  long = refl;
+  are = λ j below. absurd (omega arith);
+  later = λ j above. refl;
+  next = λ j below. absurd (omega arith);
+  none = λ j past. refl;
+}
+
 -- of one more job
 module _ {shop : Shop} {l : LayoutState} {p : Placing} {n : ℕ} {old now before here : List ℕ}
     (so_far : AreNextsSet shop l p n old now before here) (known : n < length old) where

@@ -1,15 +1,17 @@
 -- What is marked in some blocks is raised, blocks after blocks.
-use Rattle.std.proofs.Common.{◌≡◌, ℕ, ◌+◌, ◌*◌, ◌≤◌, ◌<◌, ◌∙◌, List, length, get_or, refl, arith}
-use Rattle.shop_lanes.specs.Marks.{positions_among}
+use Rattle.std.proofs.Common.{◌≡◌, ℕ, ◌+◌, ◌*◌, ◌≤◌, ◌<◌, List, length, get_or, refl, ◌∙◌, subst, arith}
 use Rattle.shop_lanes.specs.Rows.{Rows}
+use Rattle.shop_lanes.specs.Marks.{positions_among}
 use Rattle.shop_layout.specs.Positions.{AreEven, LayoutState}
 use Rattle.shop_states.specs.inner.Dispatches.{marked_up_to}
 use Rattle.shop_states.specs.inner.HeadRaises.{Raise}
-use Rattle.shop_states.specs.inner.RaiseCalls.{CanNote, CanRaise, HasNoted}
-use Rattle.shop_states.specs.inner.Raises.{IsInBlocks}
-use Rattle.shop_states.specs.inner.RisingLists.{IsIn}
 use Rattle.shop_states.specs.inner.MachineRaises.{AreListed}
-use Rattle.shop_states.proofs.RaiseLoops.{marks_raisable}
+use Rattle.shop_states.specs.inner.RaiseCalls.{CanRaise, HasRaised}
+use Rattle.shop_states.specs.inner.Raises.{IsInBlocks, Raises}
+use Rattle.shop_states.specs.inner.RisingLists.{IsIn}
+use Rattle.shop_states.specs.inner.Watchers.{Sees}
+use Rattle.shop_states.proofs.RaiseLoops.{blocks_raisable, marks_in, marks_raisable, marks_raised, more_blocks}
+use Rattle.shop_states.proofs.RaiseLoops.{no_blocks}
 use Rattle.shop_states.proofs.Watching.{sees_both, sees_none}
 
 -- a machine of a few blocks is marked to its end
@@ -20,43 +22,80 @@ all_marked l m each even some few known =
     in let one : each * (m + 1) ≡ each * m + each = grind arith
     in omega arith
 
-pub can_raise_marked : {greatest : ℕ} {l : LayoutState} {nexts : List ℕ} (old : Rows) {marks : List ℕ} (from to e : ℕ)
-    → from ≤ to → 8 * to ≤ length old.heads → marks ≡ positions_among old.heads from to e
-    → CanRaise greatest l nexts (IsInBlocks from to) e old → CanRaise greatest l nexts (IsIn marks) e old
-can_raise_marked old from to e ordered within are can = record {
-  fits = can.fits;
-  raisable = marks_raisable old from to e ordered within are can.raisable;
-  jobs = can.jobs;
-}
+module _ (greatest : ℕ) (l : LayoutState) (nexts : List ℕ) (old : Rows) (marks : List ℕ) (from to e : ℕ)
+    (ordered : from ≤ to) (within : 8 * to ≤ length old.heads) (are : marks ≡ positions_among old.heads from to e) where
+  pub can_raise_marked : (machines : ℕ) → CanRaise greatest l nexts (IsInBlocks from to) e old machines
+      → CanRaise greatest l nexts (IsIn marks) e old machines
+  can_raise_marked machines can = record {
+    fits = can.fits;
+    raisable = marks_raisable old from to e ordered within are can.raisable;
+    jobs = can.jobs;
+    known = can.known;
+  }
 
--- what can be noted can be noted still
-pub still_note : {each : ℕ} {ms : List ℕ} {before after : List Raise} {ns ks : List ℕ}
-    → CanNote each ms before ns → length after ≡ length before → AreListed after ks → CanNote each ms after ks
-still_note can long are = record {
-  known = λ q here. let known = can.known q here in omega arith;
-  few = λ fixed. (let few = can.few fixed in omega arith);
+  pub has_raised_marked : (new : Rows) (before after : List Raise) (listed : List ℕ)
+      → HasRaised greatest l nexts (IsIn marks) e old new before after listed
+      → HasRaised greatest l nexts (IsInBlocks from to) e old new before after listed
+  has_raised_marked new before after listed x = record {
+    raises = marks_raised old from to e ordered within are x.raises;
+    seen = record {
+      watches = λ own on. x.seen.watches own (λ q here. on q (marks_in old from to e ordered within are q here));
+    };
+    listed = x.listed;
+    machines = x.machines;
+  }
+
+-- the blocks of a machine, of which those before `from` are done
+pub record AreRaisedUpTo (greatest : ℕ) (l : LayoutState) (nexts : List ℕ) (first from behind e : ℕ) (old now : Rows)
+    (before after : List Raise) : Type 0 where
+  pub ordered : first ≤ from
+  pub within : from ≤ behind
+  pub raises : Raises greatest l nexts (IsInBlocks first from) e old now
+  pub seen : Sees l.machines (IsInBlocks first behind) e old.heads now.heads before after
+  pub machines : length after ≡ length before
+
+module _ (greatest : ℕ) (l : LayoutState) (nexts : List ℕ) (first behind e : ℕ) (old : Rows) (before : List Raise)
+    (can : CanRaise greatest l nexts (IsInBlocks first behind) e old (length before)) where
+  pub raised_begins : first ≤ behind → AreRaisedUpTo greatest l nexts first first behind e old old before before
+  raised_begins ordered = record {
+    ordered = omega arith;
+    within = ordered;
+    raises = no_blocks first behind can.raisable;
+    seen = sees_none;
+    machines = refl;
+  }
+
+  module _ (from to : ℕ) (now : Rows) (mid : List Raise) (on : from ≤ to) (within : to ≤ behind)
+      (so_far : AreRaisedUpTo greatest l nexts first from behind e old now before mid) where
+    pub can_raise_on : CanRaise greatest l nexts (IsInBlocks from to) e now (length mid)
+    can_raise_on = record {
+      fits = can.fits;
+      raisable = blocks_raisable to behind so_far.raises so_far.ordered on within can.raisable;
+      jobs = can.jobs;
+      known = λ q here. let long = so_far.machines in let known = can.known q here in omega arith;
+    }
+
+    pub raised_on : (new : Rows) (after : List Raise) (listed : List ℕ)
+        → HasRaised greatest l nexts (IsInBlocks from to) e now new mid after listed
+        → AreRaisedUpTo greatest l nexts first to behind e old new before after
+    raised_on new after listed x = record {
+      ordered = let a = so_far.ordered in omega arith;
+      within = within;
+      raises = more_blocks to behind so_far.raises so_far.ordered on within x.raises;
+      seen = sees_both (IsInBlocks first behind) (IsInBlocks from to) (IsInBlocks first behind) (λ q here. here)
+          (λ q here. (let low = here.0 in let high = here.1 in let a = so_far.ordered in (omega arith, omega arith)))
+          x.raises.raised.raised.rises so_far.seen x.seen;
+      machines = x.machines ∙ so_far.machines;
+    }
+
+-- all are done
+pub raised_all : (greatest : ℕ) (l : LayoutState) (nexts : List ℕ) (first from behind e : ℕ) (old now : Rows)
+    (before after : List Raise) (listed : List ℕ) → from ≡ behind
+    → AreRaisedUpTo greatest l nexts first from behind e old now before after → AreListed after listed
+    → HasRaised greatest l nexts (IsInBlocks first behind) e old now before after listed
+raised_all greatest l nexts first from behind e old now before after listed is x are = record {
+  raises = subst (λ (b : ℕ). Raises greatest l nexts (IsInBlocks first b) e old now) is x.raises;
+  seen = x.seen;
   listed = are;
-}
-
-pub note_none : {ms : List ℕ} {A : ℕ → Type 0} {e : ℕ} {heads : List ℕ} {raises : List Raise} {listed : List ℕ}
-    → AreListed raises listed → HasNoted ms A e heads heads raises raises listed
-note_none are = record { seen = sees_none; listed = are; machines = refl }
-
--- one part after the other
-pub note_both : {ms : List ℕ} (A B C : ℕ → Type 0) {e : ℕ} {a b c : List ℕ} {r s t : List Raise} {ns ks : List ℕ}
-    → ((q : ℕ) → A q → C q) → ((q : ℕ) → B q → C q) → ((q : ℕ) → get_or b q 0 ≤ get_or c q 0)
-    → HasNoted ms A e a b r s ns → HasNoted ms B e b c s t ks → HasNoted ms C e a c r t ks
-note_both A B C in_a in_b rises x y = record {
-  seen = sees_both A B C in_a in_b rises x.seen y.seen;
-  listed = y.listed;
-  machines = y.machines ∙ x.machines;
-}
-
--- for more positions
-pub note_more : {ms : List ℕ} (A C : ℕ → Type 0) {e : ℕ} {a b : List ℕ} {r s : List Raise} {ns : List ℕ}
-    → ((q : ℕ) → A q → C q) → HasNoted ms A e a b r s ns → HasNoted ms C e a b r s ns
-note_more A C in_a x = record {
-  seen = record { watches = λ own on. x.seen.watches own (λ q here. on q (in_a q here)) };
-  listed = x.listed;
   machines = x.machines;
 }

@@ -1,5 +1,5 @@
 // Dispatches one operation in a state.
-ghost use Rattle.std.specs.Prelude.{◌≡◌, ◌≤◌, ◌<◌, ◌^◌, ◌++◌, ◌∷◌, [], List, ℕ, OnSome, length};
+ghost use Rattle.std.specs.Prelude.{◌≡◌, ◌<◌, ◌^◌, ◌++◌, ◌∷◌, [], List, ℕ, OnSome, length};
 ghost use Rattle.std.specs.Prelude.{slice_index, slice_set};
 ghost use Rattle.shop_model.specs.Shop.{Shop};
 ghost use Rattle.shop_model.specs.Word.{IsWord};
@@ -9,18 +9,16 @@ ghost use Rattle.shop_states.specs.States.{TellsBoundBelow};
 ghost use Rattle.shop_states.specs.inner.Advances.{CanAdvance, CanGoOn, CanStrike, HasSameRoom};
 ghost use Rattle.shop_states.specs.inner.Advances.{IsAdvancing};
 ghost use Rattle.shop_states.specs.inner.Dispatches.{IsDispatchOf};
-ghost use Rattle.shop_states.specs.inner.HeadRaises.{raises_in};
 ghost use Rattle.shop_states.specs.inner.LaneEnds.{CanKeepEnds};
 ghost use Rattle.shop_states.specs.inner.LaneStates.{GoesOn, IsKeptInLanes};
 ghost use Rattle.shop_layout.specs.Lanes.{rows_of};
 ghost use Rattle.shop_states.specs.inner.MachineRaises.{AreEmpty};
 
+use crate::delays::delay;
 use crate::dispatches::Dispatch;
-use crate::head_raises::LaneRaise;
-use crate::lane_bounds::{LaidLanes, take_spans};
+use crate::lane_bounds::LaidLanes;
 use crate::lane_ends::set_end_of;
-use crate::machine_sets::MachineSet;
-use crate::raises::{raise, raise_blocks};
+use crate::machine_raises::MachineRaises;
 use crate::states::State;
 use shop_lanes::StateLanes;
 use shop_layout::Grid;
@@ -63,7 +61,7 @@ pub(crate) fn go_on<L: StateLanes>(
 #[inline(always)]
 pub(crate) fn advance_below<L: StateLanes>(
     state: &mut State<L>,
-    raises: &mut [LaneRaise<L::Number>],
+    raises: &mut MachineRaises<L>,
     ceilings: &[u64],
     grid: &Grid<L>,
     dispatch: Dispatch,
@@ -72,9 +70,8 @@ pub(crate) fn advance_below<L: StateLanes>(
     requires is { IsDispatchOf grid.now (L.heads state.old.lanes) state.old.next.items dispatch }
     requires can { CanAdvance L.GREATEST grid.now
         (rows_of grid.now (L.heads state.old.lanes) (L.ends state.old.lanes)) state.old.next.items
-        dispatch.job range.least (length (raises_in L.value raises.old)) ceilings.now }
-    requires at_rest { AreEmpty (raises_in L.value raises.old) }
-    requires few { 0 < L.EACH → length (raises_in L.value raises.old) ≤ 64 }
+        dispatch.job range.least (length raises.old) ceilings.now }
+    requires at_rest { AreEmpty raises.old }
     requires limit { range.limit < 2 ^ 63 }
     ensures told { (shop : Shop) (w : List ℕ) → IsAdvancing L.GREATEST shop w grid.now
         (rows_of grid.now (L.heads state.old.lanes) (L.ends state.old.lanes)) state.old.next.items
@@ -90,7 +87,7 @@ pub(crate) fn advance_below<L: StateLanes>(
         (rows_of grid.now (L.heads state.new.lanes) (L.ends state.new.lanes))
         state.old.next.items state.new.next.items }
     ensures machines { length raises.new ≡ length raises.old }
-    ensures rest { AreEmpty (raises_in L.value raises.new) }
+    ensures rest { AreEmpty raises.new }
 {
     if range.limit <= range.least {
         return None;
@@ -99,10 +96,9 @@ pub(crate) fn advance_below<L: StateLanes>(
     let lanes = &mut state.lanes;
     let next = state.next.as_mut_slice();
     lanes.set_head(position, 0);
-    let raised = raise(lanes, raises, grid, next, dispatch);
+    let raised = raises.raise(lanes, grid, next, dispatch);
     let laid = LaidLanes { lanes, grid };
-    let (least, limit) = (range.least + 1, range.limit + 1);
-    let bound = take_spans(raises, raised, ceilings, &laid, least, limit) - 1;
+    let bound = raises.take_bound(raised, ceilings, &laid, range.least, range.limit);
     if range.limit <= bound {
         return None;
     }
@@ -132,8 +128,7 @@ pub(crate) fn advance<L: StateLanes>(state: &mut State<L>, grid: &Grid<L>, dispa
     let lanes = &mut state.lanes;
     let next = state.next.as_mut_slice();
     lanes.set_head(position, 0);
-    let (mut raises, mut raised) = ([], MachineSet::none());
-    raise_blocks::<L, false>(lanes, &mut raises, &mut raised, grid, next, dispatch);
+    delay(lanes, grid, next, dispatch);
     go_on(lanes, next, grid, job, position);
 }
 

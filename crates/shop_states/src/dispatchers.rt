@@ -12,7 +12,7 @@ use crate::candidate_lists::list_candidates;
 use crate::dispatches::Dispatch;
 use crate::dispatching::{Candidate, Dispatching};
 use crate::fills::fill_state;
-use crate::head_raises::no_raises;
+use crate::machine_raises::MachineRaises;
 use crate::siblings::{Siblings, bound_children};
 use crate::states::{Scratch, State};
 use shop_lanes::StateLanes;
@@ -72,7 +72,6 @@ impl<'a, L: StateLanes> Dispatching<State<L>> for LaidOut<'a, L> {
     ghost use Rattle.std.specs.Prelude.{◌∷◌, ◌++◌, [], vec_capacity};
     ghost use Rattle.shop_states.specs.inner.Candidates.{IsCandidateOf};
     ghost use Rattle.shop_states.specs.inner.Ceilings.{AreChildCeilings};
-    ghost use Rattle.shop_states.specs.inner.HeadRaises.{raises_in};
     ghost use Rattle.shop_states.specs.inner.Scratches.{IsScratchOf};
     ghost use Rattle.shop_states.specs.inner.AskedStates.{IsKeptFor};
     ghost use Rattle.shop_states.specs.inner.LaneStates.{HasRoom};
@@ -88,9 +87,9 @@ impl<'a, L: StateLanes> Dispatching<State<L>> for LaidOut<'a, L> {
     ghost IsStateOf = { λ d w s. IsKeptFor L.GREATEST d w
         (rows_of d.layout (L.heads s.lanes) (L.ends s.lanes)) s.next.items };
 
-    ghost IsScratch = { λ d s. IsScratchOf L.EACH d.shop d.layout (length s.ready.items)
-        (length s.free.items) s.beginning (raises_in L.value s.raises.items)
-        (length s.owns.items) (length s.ceilings.items) };
+    ghost IsScratch = { λ d s. IsScratchOf d.shop d.layout (length s.ready.items)
+        (length s.free.items) s.beginning s.raises (length s.owns.items)
+        (length s.ceilings.items) };
 
     ghost IsCandidate = { λ d w c. IsCandidateOf d.shop w d.layout c.job c.own };
 
@@ -103,7 +102,7 @@ impl<'a, L: StateLanes> Dispatching<State<L>> for LaidOut<'a, L> {
         let free = vec![in alloc; 0; instance.machines()]?;
         let beginning = Beginning::new(alloc, self)?;
         let grid = self.grid();
-        let raises = no_raises::<L>(alloc, instance.machines())?;
+        let raises = MachineRaises::new(alloc, instance.machines())?;
         let owns = vec![in alloc; L::narrowed(0); grid.most_positions()]?;
         let ceilings = vec![in alloc; 0; instance.machines()]?;
         Ok(Scratch {
@@ -124,7 +123,7 @@ impl<'a, L: StateLanes> Dispatching<State<L>> for LaidOut<'a, L> {
     }
 
     fn fill(&self, scratch: &mut Scratch<L>, path: &[u16], state: &mut State<L>) {
-        // its promises: the lanes hold every head and end, and the layout only numbers the machines anew
+        // its promise: the layout differs from the instance in the numbers of machines alone
         let _ = self.grid();
         let next = state.next.as_mut_slice();
         let ready = scratch.ready.as_mut_slice();
@@ -174,9 +173,8 @@ impl<'a, L: StateLanes> Dispatching<State<L>> for LaidOut<'a, L> {
     ) -> Option<u64> {
         let grid = self.grid();
         let range = range_of(candidate, bound, limit);
-        let raises = scratch.raises.as_mut_slice();
         let dispatch = Dispatch::of(state, grid, candidate.job as usize);
-        advance_below(state, raises, &[], grid, dispatch, range)
+        advance_below(state, &mut scratch.raises, &[], grid, dispatch, range)
     }
 
     #[inline(always)]
@@ -191,9 +189,8 @@ impl<'a, L: StateLanes> Dispatching<State<L>> for LaidOut<'a, L> {
     ) -> Option<u64> {
         let grid = self.grid();
         let range = range_of(candidate, bound, limit);
-        let raises = scratch.raises.as_mut_slice();
         let dispatch = dispatch_in_copy(grid, from, to, candidate.job);
-        advance_below(to, raises, &[], grid, dispatch, range)
+        advance_below(to, &mut scratch.raises, &[], grid, dispatch, range)
     }
 
     fn bound_children(
@@ -208,16 +205,13 @@ impl<'a, L: StateLanes> Dispatching<State<L>> for LaidOut<'a, L> {
             return None;
         }
         room.lanes.copy_from(&state.lanes);
-        let raises = scratch.raises.as_mut_slice();
-        let ceilings = scratch.ceilings.as_mut_slice();
-        let next = state.next.as_slice();
         let siblings = Siblings { candidates, bound };
         Some(bound_children(
             &mut room.lanes,
-            raises,
-            ceilings,
+            &mut scratch.raises,
+            scratch.ceilings.as_mut_slice(),
             self.grid(),
-            next,
+            state.next.as_slice(),
             &siblings,
         ))
     }
@@ -233,10 +227,9 @@ impl<'a, L: StateLanes> Dispatching<State<L>> for LaidOut<'a, L> {
     ) -> Option<u64> {
         let grid = self.grid();
         let range = range_of(candidate, bound, limit);
-        let raises = scratch.raises.as_mut_slice();
         let dispatch = Dispatch::of(state, grid, candidate.job as usize);
         let ceilings = scratch.ceilings.as_slice();
-        advance_below(state, raises, ceilings, grid, dispatch, range)
+        advance_below(state, &mut scratch.raises, ceilings, grid, dispatch, range)
     }
 
     #[inline(never)]
@@ -251,10 +244,9 @@ impl<'a, L: StateLanes> Dispatching<State<L>> for LaidOut<'a, L> {
     ) -> Option<u64> {
         let grid = self.grid();
         let range = range_of(candidate, bound, limit);
-        let raises = scratch.raises.as_mut_slice();
         let dispatch = dispatch_in_copy(grid, from, to, candidate.job);
         let ceilings = scratch.ceilings.as_slice();
-        advance_below(to, raises, ceilings, grid, dispatch, range)
+        advance_below(to, &mut scratch.raises, ceilings, grid, dispatch, range)
     }
 
     #[inline(never)]

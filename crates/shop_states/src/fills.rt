@@ -6,7 +6,6 @@ ghost use Rattle.shop_states.specs.inner.Fills.{AreNextsSet, CanFill, HasFilled,
 ghost use Rattle.shop_states.specs.inner.Fills.{IsAtLeg, IsAtSomeLeg, IsNextSet, IsOnSomeRoute};
 ghost use Rattle.shop_states.specs.inner.LaneStates.{HasRoom, IsKeptInLanes};
 ghost use Rattle.shop_states.specs.inner.PlacedNexts.{IsPlacedAt, IsWordAt, placement_at};
-ghost use Rattle.shop_layout.specs.LaidOuts.{IsReady};
 ghost use Rattle.shop_layout.specs.Lanes.{rows_of};
 
 use shop_lanes::StateLanes;
@@ -126,7 +125,6 @@ pub(crate) fn fill_state<L: StateLanes>(
     ready: &[u64],
     free: &[u64],
 )
-    requires ready { IsReady L.GREATEST laid_out.now.shop laid_out.now.layout }
     requires room { HasRoom laid_out.now.shop laid_out.now.layout (L.heads lanes.old)
         (L.ends lanes.old) next.old }
     requires of { IsWordAt laid_out.now.shop laid_out.now.layout next.old ready.now free.now }
@@ -136,6 +134,8 @@ pub(crate) fn fill_state<L: StateLanes>(
         → IsKeptInLanes L.GREATEST laid_out.now.shop w laid_out.now.layout
         (rows_of laid_out.now.layout (L.heads lanes.new) (L.ends lanes.new)) next.new }
 {
+    // its promise: the lanes hold every head and end
+    let _ = laid_out.grid();
     lanes.clear();
     fill_jobs(lanes, laid_out, next, ready, free);
 }

@@ -1,13 +1,11 @@
 // The raise on a machine: of the heads that rose there, the least old one and the greatest new one.
-ghost use Rattle.std.specs.Prelude.{◌≡◌, ◌≤◌, ◌<◌, IfOk, IsTrue, min, max, length};
-ghost use Rattle.std.specs.Prelude.{slice_set};
+ghost use Rattle.std.specs.Prelude.{◌≡◌, ◌≤◌, ◌<◌, min, max, length, slice_set};
 ghost use Rattle.shop_states.specs.inner.HeadRaises.{nothing_raised, raise_in, raise_of};
 ghost use Rattle.shop_states.specs.inner.HeadRaises.{raises_in, widened};
-ghost use Rattle.shop_states.specs.inner.MachineRaises.{AreEmpty, AreListed};
+ghost use Rattle.shop_states.specs.inner.MachineRaises.{AreListed};
 
 use crate::machine_sets::MachineSet;
 use shop_lanes::StateLanes;
-use std::alloc::{AllocError as NoMemory, Global};
 use std::mem;
 
 /// The raise on a machine. Of the heads that rose there, `from` is the least value before and `to` the greatest after.
@@ -27,21 +25,6 @@ pub(crate) fn no_raise<L: StateLanes>() -> LaneRaise<L::Number>
         from: L::narrowed(L::GREATEST),
         to: L::narrowed(0),
     }
-}
-
-/// Makes the raises of `machines` machines on which no head rose. Fails with `NoMemory` if memory runs out.
-pub(crate) fn no_raises<L: StateLanes>(
-    alloc: Global,
-    machines: usize,
-) -> Result<Vec<LaneRaise<L::Number>>, NoMemory>
-    ensures machines { IfOk result (λ v. length (raises_in L.value v.items) ≡ machines) }
-    ensures empty { IfOk result (λ v. AreEmpty (raises_in L.value v.items)) }
-{
-    let mut raises = Vec::with_capacity(alloc, machines)?;
-    for _ in 0..machines {
-        raises.push(no_raise::<L>()).unwrap();
-    }
-    Ok(raises)
 }
 
 /// Answers the lesser of `number` and `other`, in the width of the lanes.
@@ -85,29 +68,25 @@ fn with_head<L: StateLanes>(
     }
 }
 
-/// Notes, if `NOTES`, that a head rose from `before` to `after`: widens the raise of `machine`, and puts `machine` into
-/// `raised`.
+/// Notes that a head rose from `before` to `after`: widens the raise of `machine`, and puts `machine` into `raised`.
 #[inline(always)]
-pub(crate) fn see<L: StateLanes, const NOTES: bool>(
+pub(crate) fn see<L: StateLanes>(
     raises: &mut [LaneRaise<L::Number>],
     raised: &mut MachineSet,
     machine: u32,
     before: u64,
     after: u64,
 )
-    requires listed { IsTrue NOTES → AreListed (raises_in L.value raises.old) raised.old }
-    requires few { IsTrue NOTES → 0 < L.EACH → length raises.old ≤ 64 }
-    requires known { IsTrue NOTES → machine < length raises.old }
+    requires listed { AreListed (raises_in L.value raises.old) raised.old }
+    requires machines_fit { 0 < L.EACH → length raises.old ≤ 64 }
+    requires known { machine < length raises.old }
     requires rises { before ≤ after }
     requires fits { after ≤ L.GREATEST }
-    ensures raises { IsTrue NOTES → raises_in L.value raises.new
+    ensures raises { raises_in L.value raises.new
         ≡ slice_set (raises_in L.value raises.old) machine
         (widened (raise_of (raises_in L.value raises.old) machine) before after) }
-    ensures listed { IsTrue NOTES → AreListed (raises_in L.value raises.new) raised.new }
+    ensures listed { AreListed (raises_in L.value raises.new) raised.new }
 {
-    if !NOTES {
-        return;
-    }
     let raise = raises[machine as usize];
     raised.put(machine, L::EACH > 0);
     raises[machine as usize] = with_head::<L>(raise, before, after);

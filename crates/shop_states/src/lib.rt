@@ -4,6 +4,7 @@
 mod advances;
 mod beginnings;
 mod candidate_lists;
+mod delays;
 mod dispatchers;
 mod dispatches;
 mod dispatching;
@@ -13,6 +14,7 @@ mod job_sets;
 mod lane_bounds;
 mod lane_choices;
 mod lane_ends;
+mod machine_raises;
 mod machine_sets;
 mod placing;
 mod raises;

@@ -1,33 +1,35 @@
-// Raises heads after an operation is dispatched. Where machines are bounded afterwards (`NOTES`), notes in `raises` how
-// far heads rose, and puts the machines whose heads rose into `raised`.
-ghost use Rattle.std.specs.Prelude.{◌≡◌, ◌+◌, ◌≤◌, ◌<◌, ◌^◌, [], IsTrue, length, slice_index};
+// Raises heads after an operation is dispatched.
+ghost use Rattle.std.specs.Prelude.{◌≡◌, ◌+◌, ◌≤◌, ◌<◌, ◌^◌, [], length, slice_index};
 ghost use Rattle.shop_layout.specs.Lanes.{rows_of};
+ghost use Rattle.shop_states.specs.inner.Dispatches.{AreDelayedOn};
 ghost use Rattle.shop_states.specs.inner.HeadRaises.{raises_in};
-ghost use Rattle.shop_states.specs.inner.RaiseCalls.{CanDelay, CanNote, CanRaise, HasNoted};
-ghost use Rattle.shop_states.specs.inner.Raises.{AreWaiting, IsPosition, IsRaisable};
+ghost use Rattle.shop_states.specs.inner.RaiseCalls.{CanRaise, HasRaised};
+ghost use Rattle.shop_states.specs.inner.Raises.{AreWaiting, HasBlocks, IsPosition, IsRaisable};
 ghost use Rattle.shop_states.specs.inner.Raises.{IsOnMachine, Raises, SetsEndAt};
 ghost use Rattle.shop_states.specs.inner.RisingLists.{IsIn};
-ghost use Rattle.shop_states.specs.inner.Watchers.{Notes};
+ghost use Rattle.shop_states.specs.inner.Watchers.{AreKnown, Notes, Sees, Watches, no_floor};
+ghost use Rattle.shop_states.specs.inner.MachineRaises.{AreListed};
 
 use crate::dispatches::{Dispatch, MOST_MARKED};
 use crate::head_raises::{LaneRaise, see};
 use crate::machine_sets::MachineSet;
 use shop_lanes::{Marks, StateLanes};
 use shop_layout::{Grid, Routes};
+use std::mem;
 
 /// The routes of an instance, and at which position each job's next operation stands after a word.
 #[derive(Drop)]
-struct OpenRoutes<'a> {
-    routes: Routes<'a>,
-    next: &'a [u32],
+pub(crate) struct OpenRoutes<'a> {
+    pub routes: Routes<'a>,
+    pub next: &'a [u32],
 }
 
-/// Raises the head at `position` to `end`, then every later head on its route that is now too early. If `NOTES`, notes
-/// in `raises` how far each later head rose, and puts its machine into `raised`. Takes a step for each head that rises;
-/// the legs of a route lie side by side, so that no step waits until the one before it has read where the next
-/// operation stands. At the end of a route the head is the greatest number, and the raise stops.
+/// Raises the head at `position` to `end`, then every later head on its route that is now too early. Notes in `raises`
+/// how far each later head rose, and puts its machine into `raised`. Takes a step for each head that rises; the legs of
+/// a route lie side by side, so that no step waits until the one before it has read where the next operation stands. At
+/// the end of a route the head is the greatest number, and the raise stops.
 #[inline(always)]
-pub(crate) fn raise_route<L: StateLanes, const NOTES: bool>(
+pub(crate) fn raise_route<L: StateLanes>(
     lanes: &mut L,
     raises: &mut [LaneRaise<L::Number>],
     raised: &mut MachineSet,
@@ -39,17 +41,19 @@ pub(crate) fn raise_route<L: StateLanes, const NOTES: bool>(
     requires below { slice_index (L.heads lanes.old) position ≤ end }
     requires raisable { IsRaisable L.GREATEST routes.now []
         (rows_of routes.now (L.heads lanes.old) (L.ends lanes.old)) (IsPosition position) end }
-    requires note { IsTrue NOTES
-        → CanNote L.EACH routes.now.machines (raises_in L.value raises.old) raised.old }
+    requires known { AreKnown routes.now.machines (length raises.old) }
+    requires machines_fit { 0 < L.EACH → length raises.old ≤ 64 }
+    requires listed { AreListed (raises_in L.value raises.old) raised.old }
     ensures raises { Raises L.GREATEST routes.now [] (IsPosition position) end
         (rows_of routes.now (L.heads lanes.old) (L.ends lanes.old))
         (rows_of routes.now (L.heads lanes.new) (L.ends lanes.new)) }
-    ensures noted { IsTrue NOTES → HasNoted routes.now.machines (IsPosition position) end
-        (L.heads lanes.old) (L.heads lanes.new) (raises_in L.value raises.old)
-        (raises_in L.value raises.new) raised.new }
-    ensures behind { IsTrue NOTES → Notes routes.now.machines position end
+    ensures seen { Sees routes.now.machines (IsPosition position) end
         (L.heads lanes.old) (L.heads lanes.new) (raises_in L.value raises.old)
         (raises_in L.value raises.new) }
+    ensures noted { Notes routes.now.machines position end
+        (L.heads lanes.old) (L.heads lanes.new) (raises_in L.value raises.old)
+        (raises_in L.value raises.new) }
+    ensures listed { AreListed (raises_in L.value raises.new) raised.new }
 {
     lanes.set_head(position, end);
     let mut ready = end + routes.time(position);
@@ -62,7 +66,7 @@ pub(crate) fn raise_route<L: StateLanes, const NOTES: bool>(
             return;
         }
         lanes.set_head(here, ready);
-        see::<L, NOTES>(raises, raised, leg.machine, head, ready);
+        see::<L>(raises, raised, leg.machine, head, ready);
         ready += leg.time;
         index += 1;
     }
@@ -70,7 +74,7 @@ pub(crate) fn raise_route<L: StateLanes, const NOTES: bool>(
 
 /// Sets the end of the operation at `position` to `begin` plus its time, if it is its job's next operation.
 #[inline(always)]
-fn set_end_at<L: StateLanes>(
+pub(crate) fn set_end_at<L: StateLanes>(
     lanes: &mut L,
     routes: &Routes,
     next: &[u32],
@@ -96,7 +100,7 @@ fn set_end_at<L: StateLanes>(
 /// Raises the head at `position` to `end`, then every later head on its route that is now too early. Sets the end of
 /// the operation at `position` if it is its job's next one.
 #[inline(always)]
-fn raise_from<L: StateLanes, const NOTES: bool>(
+fn raise_from<L: StateLanes>(
     lanes: &mut L,
     raises: &mut [LaneRaise<L::Number>],
     raised: &mut MachineSet,
@@ -107,24 +111,22 @@ fn raise_from<L: StateLanes, const NOTES: bool>(
     requires waits { 0 < slice_index (L.heads lanes.old) position }
     requires below { slice_index (L.heads lanes.old) position ≤ end }
     requires can { CanRaise L.GREATEST ahead.now.routes ahead.now.next.now (IsPosition position) end
-        (rows_of ahead.now.routes (L.heads lanes.old) (L.ends lanes.old)) }
-    requires note { IsTrue NOTES
-        → CanNote L.EACH ahead.now.routes.machines (raises_in L.value raises.old) raised.old }
-    ensures raises { Raises L.GREATEST ahead.now.routes ahead.now.next.now (IsPosition position) end
+        (rows_of ahead.now.routes (L.heads lanes.old) (L.ends lanes.old)) (length raises.old) }
+    requires machines_fit { 0 < L.EACH → length raises.old ≤ 64 }
+    requires listed { AreListed (raises_in L.value raises.old) raised.old }
+    ensures { HasRaised L.GREATEST ahead.now.routes ahead.now.next.now (IsPosition position) end
         (rows_of ahead.now.routes (L.heads lanes.old) (L.ends lanes.old))
-        (rows_of ahead.now.routes (L.heads lanes.new) (L.ends lanes.new)) }
-    ensures noted { IsTrue NOTES → HasNoted ahead.now.routes.machines (IsPosition position) end
-        (L.heads lanes.old) (L.heads lanes.new) (raises_in L.value raises.old)
-        (raises_in L.value raises.new) raised.new }
+        (rows_of ahead.now.routes (L.heads lanes.new) (L.ends lanes.new))
+        (raises_in L.value raises.old) (raises_in L.value raises.new) raised.new }
 {
     set_end_at(lanes, &ahead.routes, ahead.next, position, end);
-    raise_route::<L, NOTES>(lanes, raises, raised, &ahead.routes, position, end);
+    raise_route(lanes, raises, raised, &ahead.routes, position, end);
 }
 
 /// Raises to `end` each head below `end` at the marked positions, where operations wait. Also raises every later head
 /// on their routes that is too early then, so that a marked head may have risen before its turn comes.
 #[inline(always)]
-fn raise_marked<L: StateLanes, const NOTES: bool>(
+fn raise_marked<L: StateLanes>(
     lanes: &mut L,
     raises: &mut [LaneRaise<L::Number>],
     raised: &mut MachineSet,
@@ -134,28 +136,27 @@ fn raise_marked<L: StateLanes, const NOTES: bool>(
 )
     requires marks { AreWaiting (L.heads lanes.old) marks }
     requires can { CanRaise L.GREATEST ahead.now.routes ahead.now.next.now (IsIn marks) end
-        (rows_of ahead.now.routes (L.heads lanes.old) (L.ends lanes.old)) }
-    requires note { IsTrue NOTES
-        → CanNote L.EACH ahead.now.routes.machines (raises_in L.value raises.old) raised.old }
-    ensures raises { Raises L.GREATEST ahead.now.routes ahead.now.next.now (IsIn marks) end
+        (rows_of ahead.now.routes (L.heads lanes.old) (L.ends lanes.old)) (length raises.old) }
+    requires machines_fit { 0 < L.EACH → length raises.old ≤ 64 }
+    requires listed { AreListed (raises_in L.value raises.old) raised.old }
+    ensures { HasRaised L.GREATEST ahead.now.routes ahead.now.next.now (IsIn marks) end
         (rows_of ahead.now.routes (L.heads lanes.old) (L.ends lanes.old))
-        (rows_of ahead.now.routes (L.heads lanes.new) (L.ends lanes.new)) }
-    ensures noted { IsTrue NOTES → HasNoted ahead.now.routes.machines (IsIn marks) end
-        (L.heads lanes.old) (L.heads lanes.new) (raises_in L.value raises.old)
-        (raises_in L.value raises.new) raised.new }
+        (rows_of ahead.now.routes (L.heads lanes.new) (L.ends lanes.new))
+        (raises_in L.value raises.old) (raises_in L.value raises.new) raised.new }
 {
     let mut todo = marks;
     while let Some(position) = todo.pop_first() {
         if lanes.head(position) < end {
-            raise_from::<L, NOTES>(lanes, raises, raised, ahead, position, end);
+            raise_from(lanes, raises, raised, ahead, position, end);
         }
     }
 }
 
-/// Does what `raise` does, for machines of any number of blocks, and notes how far heads rose only if `NOTES`: raises
-/// what is marked in the first eight blocks, then marks and raises eight blocks after another.
-#[inline(always)]
-pub(crate) fn raise_blocks<L: StateLanes, const NOTES: bool>(
+/// Does what `raise` does, for machines of four or more blocks, or of different numbers of blocks: raises what is
+/// marked in the first eight blocks, then marks and raises eight blocks after another. Stays out of line, so that the
+/// code inlined for short machines stays small.
+#[inline(never)]
+fn raise_longer<L: StateLanes>(
     lanes: &mut L,
     raises: &mut [LaneRaise<L::Number>],
     raised: &mut MachineSet,
@@ -163,16 +164,19 @@ pub(crate) fn raise_blocks<L: StateLanes, const NOTES: bool>(
     next: &[u32],
     dispatch: Dispatch,
 )
-    requires can { CanDelay L.GREATEST grid.now next.now dispatch
-        (rows_of grid.now (L.heads lanes.old) (L.ends lanes.old)) }
-    requires note { IsTrue NOTES
-        → CanNote L.EACH grid.now.machines (raises_in L.value raises.old) raised.old }
-    ensures raises { Raises L.GREATEST grid.now next.now (IsOnMachine grid.now dispatch.machine) dispatch.end
+    requires machine { HasBlocks grid.now (length (L.heads lanes.old)) dispatch.machine }
+    requires delayed { AreDelayedOn grid.now dispatch.machine dispatch.end (L.heads lanes.old)
+        dispatch.delayed }
+    requires can { CanRaise L.GREATEST grid.now next.now
+        (IsOnMachine grid.now dispatch.machine) dispatch.end
+        (rows_of grid.now (L.heads lanes.old) (L.ends lanes.old)) (length raises.old) }
+    requires machines_fit { 0 < L.EACH → length raises.old ≤ 64 }
+    requires listed { AreListed (raises_in L.value raises.old) raised.old }
+    ensures { HasRaised L.GREATEST grid.now next.now
+        (IsOnMachine grid.now dispatch.machine) dispatch.end
         (rows_of grid.now (L.heads lanes.old) (L.ends lanes.old))
-        (rows_of grid.now (L.heads lanes.new) (L.ends lanes.new)) }
-    ensures noted { IsTrue NOTES → HasNoted grid.now.machines (IsOnMachine grid.now dispatch.machine) dispatch.end
-        (L.heads lanes.old) (L.heads lanes.new) (raises_in L.value raises.old)
-        (raises_in L.value raises.new) raised.new }
+        (rows_of grid.now (L.heads lanes.new) (L.ends lanes.new))
+        (raises_in L.value raises.old) (raises_in L.value raises.new) raised.new }
 {
     let routes = grid.routes();
     let ahead = OpenRoutes { routes, next };
@@ -180,70 +184,51 @@ pub(crate) fn raise_blocks<L: StateLanes, const NOTES: bool>(
     let end = dispatch.end;
     let mut from = grid.block(dispatch.machine);
     let mut marks = dispatch.delayed;
+    // taken out, so that the set stays in registers
+    let mut machines = mem::replace(raised, MachineSet::none());
     loop {
-        raise_marked::<L, NOTES>(lanes, raises, raised, &ahead, marks, end);
+        raise_marked(lanes, raises, &mut machines, &ahead, marks, end);
         from += (behind - from).min(MOST_MARKED);
         if from == behind {
-            return;
+            break;
         }
         marks = lanes.below(from, from + (behind - from).min(MOST_MARKED), end);
     }
-}
-
-/// Does what `raise` does, for machines of four or more blocks, or of different numbers of blocks. Stays out of line,
-/// so that the code inlined for short machines stays small.
-#[inline(never)]
-fn raise_longer<L: StateLanes>(
-    lanes: &mut L,
-    raises: &mut [LaneRaise<L::Number>],
-    grid: &Grid<L>,
-    next: &[u32],
-    dispatch: Dispatch,
-) -> MachineSet
-    requires can { CanDelay L.GREATEST grid.now next.now dispatch
-        (rows_of grid.now (L.heads lanes.old) (L.ends lanes.old)) }
-    requires note { CanNote L.EACH grid.now.machines (raises_in L.value raises.old) [] }
-    ensures raises { Raises L.GREATEST grid.now next.now (IsOnMachine grid.now dispatch.machine) dispatch.end
-        (rows_of grid.now (L.heads lanes.old) (L.ends lanes.old))
-        (rows_of grid.now (L.heads lanes.new) (L.ends lanes.new)) }
-    ensures noted { HasNoted grid.now.machines (IsOnMachine grid.now dispatch.machine) dispatch.end
-        (L.heads lanes.old) (L.heads lanes.new) (raises_in L.value raises.old)
-        (raises_in L.value raises.new) result }
-{
-    let mut raised = MachineSet::none();
-    raise_blocks::<L, true>(lanes, raises, &mut raised, grid, next, dispatch);
-    raised
+    *raised = machines;
 }
 
 /// Raises each head below the end of a dispatch on its machine to that end, then every later head on its route that is
-/// now too early, and updates the ends of next operations. Notes in `raises` how far these later heads rose, and
-/// answers the set of their machines. The heads are those that the dispatch delays; its own operation waits no longer.
+/// now too early. Notes how far these later heads rose, and updates the ends of next operations. The heads are those
+/// that the dispatch delays; its own operation waits no longer.
 #[inline(always)]
 pub(crate) fn raise<L: StateLanes>(
     lanes: &mut L,
     raises: &mut [LaneRaise<L::Number>],
+    raised: &mut MachineSet,
     grid: &Grid<L>,
     next: &[u32],
     dispatch: Dispatch,
-) -> MachineSet
-    requires can { CanDelay L.GREATEST grid.now next.now dispatch
-        (rows_of grid.now (L.heads lanes.old) (L.ends lanes.old)) }
-    requires note { CanNote L.EACH grid.now.machines (raises_in L.value raises.old) [] }
-    ensures raises { Raises L.GREATEST grid.now next.now (IsOnMachine grid.now dispatch.machine) dispatch.end
+)
+    requires machine { HasBlocks grid.now (length (L.heads lanes.old)) dispatch.machine }
+    requires delayed { AreDelayedOn grid.now dispatch.machine dispatch.end (L.heads lanes.old)
+        dispatch.delayed }
+    requires can { CanRaise L.GREATEST grid.now next.now
+        (IsOnMachine grid.now dispatch.machine) dispatch.end
+        (rows_of grid.now (L.heads lanes.old) (L.ends lanes.old)) (length raises.old) }
+    requires machines_fit { 0 < L.EACH → length raises.old ≤ 64 }
+    requires listed { AreListed (raises_in L.value raises.old) raised.old }
+    ensures { HasRaised L.GREATEST grid.now next.now
+        (IsOnMachine grid.now dispatch.machine) dispatch.end
         (rows_of grid.now (L.heads lanes.old) (L.ends lanes.old))
-        (rows_of grid.now (L.heads lanes.new) (L.ends lanes.new)) }
-    ensures noted { HasNoted grid.now.machines (IsOnMachine grid.now dispatch.machine) dispatch.end
-        (L.heads lanes.old) (L.heads lanes.new) (raises_in L.value raises.old)
-        (raises_in L.value raises.new) result }
+        (rows_of grid.now (L.heads lanes.new) (L.ends lanes.new))
+        (raises_in L.value raises.old) (raises_in L.value raises.new) raised.new }
 {
     let each = grid.blocks_each();
     if each == 0 || each > 3 {
-        return raise_longer(lanes, raises, grid, next, dispatch);
+        return raise_longer(lanes, raises, raised, grid, next, dispatch);
     }
     let routes = grid.routes();
     let ahead = OpenRoutes { routes, next };
     let (marks, end) = (dispatch.delayed, dispatch.end);
-    let mut raised = MachineSet::none();
-    raise_marked::<L, true>(lanes, raises, &mut raised, &ahead, marks, end);
-    raised
+    raise_marked(lanes, raises, raised, &ahead, marks, end);
 }

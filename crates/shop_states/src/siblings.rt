@@ -13,16 +13,16 @@ ghost use Rattle.shop_states.specs.inner.Ceilings.{AreChildCeilings};
 ghost use Rattle.shop_states.specs.inner.HeadRaises.{raises_in};
 ghost use Rattle.shop_states.specs.inner.LaneStates.{IsKeptInLanes};
 ghost use Rattle.shop_states.specs.inner.MachineRaises.{AreEmpty, AreListed};
-ghost use Rattle.shop_states.specs.inner.RaiseCalls.{CanNote};
 ghost use Rattle.shop_states.specs.inner.Siblings.{AreLatest, AreSiblings, CanBoundChildren};
 ghost use Rattle.shop_states.specs.inner.Siblings.{CanEnd};
 ghost use Rattle.shop_states.specs.inner.Siblings.{CanRaiseBehind, IsAmong, IsEndAt, IsLateOn};
 ghost use Rattle.shop_states.specs.inner.Siblings.{RaisesBehind, end_by, job_at};
-ghost use Rattle.shop_states.specs.inner.Watchers.{Watches, no_floor};
+ghost use Rattle.shop_states.specs.inner.Watchers.{AreKnown, Watches, no_floor};
 
 use crate::dispatching::Candidate;
 use crate::head_raises::{LaneRaise, see};
-use crate::lane_bounds::{LaidLanes, take_ceilings};
+use crate::lane_bounds::LaidLanes;
+use crate::machine_raises::MachineRaises;
 use crate::machine_sets::MachineSet;
 use crate::raises::raise_route;
 use shop_lanes::StateLanes;
@@ -32,10 +32,10 @@ use shop_layout::{Grid, Routes};
 /// has that operation, and `second` is the latest end of the other jobs, or 0 if there are none. Ends are one higher,
 /// like heads in lanes.
 #[derive(Clone, Copy)]
-struct Latest {
-    job: usize,
-    end: u64,
-    second: u64,
+pub(crate) struct Latest {
+    pub job: usize,
+    pub end: u64,
+    pub second: u64,
 }
 
 /// Answers when the next operation of `job` ends if it goes first. The end is one higher, like heads in lanes.
@@ -139,13 +139,16 @@ fn raise_behind<L: StateLanes>(
     requires waits { 0 < slice_index (L.heads lanes.old) position }
     requires can { CanRaiseBehind L.GREATEST routes.now
         (rows_of routes.now (L.heads lanes.old) (L.ends lanes.old)) (IsEndAt position free) }
-    requires note { CanNote L.EACH routes.now.machines (raises_in L.value raises.old) raised.old }
+    requires known { AreKnown routes.now.machines (length raises.old) }
+    requires machines_fit { 0 < L.EACH → length raises.old ≤ 64 }
+    requires listed { AreListed (raises_in L.value raises.old) raised.old }
     ensures raises { RaisesBehind routes.now (IsEndAt position free)
         (rows_of routes.now (L.heads lanes.old) (L.ends lanes.old))
         (rows_of routes.now (L.heads lanes.new) (L.ends lanes.new)) }
     ensures noted { Watches no_floor routes.now.machines (L.heads lanes.old) (L.heads lanes.new)
         (raises_in L.value raises.old) (raises_in L.value raises.new) }
     ensures listed { AreListed (raises_in L.value raises.new) raised.new }
+    ensures machines { length raises.new ≡ length raises.old }
 {
     let ready = free + routes.time(position);
     let leg = routes.leg(routes.behind(position));
@@ -154,8 +157,8 @@ fn raise_behind<L: StateLanes>(
     if ready <= head {
         return;
     }
-    see::<L, true>(raises, raised, leg.machine, head, ready);
-    raise_route::<L, true>(lanes, raises, raised, routes, first, ready);
+    see::<L>(raises, raised, leg.machine, head, ready);
+    raise_route(lanes, raises, raised, routes, first, ready);
 }
 
 /// Tells whether an operation with this head waits and can begin before `end`.
@@ -180,46 +183,48 @@ fn free_at(position: usize, last: usize, latest: Latest) -> u64
     latest.end
 }
 
-/// A machine whose operations some candidates delay, all on that machine. It has positions `from` up to `to`
-/// (excluded). The candidates' operation that ends last stands at `last`, and `latest` tells when.
+/// A machine whose operations some candidates delay, all on that machine. It has positions `from` up to `to` (excluded);
+/// the candidates' operation that ends last stands at `last`, and `latest` tells when.
 #[derive(Clone, Copy)]
-struct LateMachine {
-    from: usize,
-    to: usize,
-    last: usize,
-    latest: Latest,
+pub(crate) struct LateMachine {
+    pub from: usize,
+    pub to: usize,
+    pub last: usize,
+    pub latest: Latest,
 }
 
 /// Raises the heads behind each operation that waits on a late machine, as if the operation began at the latest time
-/// until which candidates can delay it, see `free_at`. Notes how far heads rose, and answers the set of their machines.
-/// No head of a child is then higher, except on that machine, where heads stay.
-fn raise_late<L: StateLanes>(
+/// until which candidates can delay it, see `free_at`. Notes how far heads rose. No head of a child is then higher,
+/// except on that machine, where heads stay.
+pub(crate) fn raise_late<L: StateLanes>(
     lanes: &mut L,
     raises: &mut [LaneRaise<L::Number>],
+    raised: &mut MachineSet,
     routes: &Routes,
     late: LateMachine,
-) -> MachineSet
+)
     requires ordered { late.from ≤ late.to }
     requires within { late.to ≤ length (L.heads lanes.old) }
     requires second { late.latest.second ≤ late.latest.end }
     requires can { CanRaiseBehind L.GREATEST routes.now
         (rows_of routes.now (L.heads lanes.old) (L.ends lanes.old)) (IsLateOn late) }
-    requires note { CanNote L.EACH routes.now.machines (raises_in L.value raises.old) [] }
+    requires known { AreKnown routes.now.machines (length raises.old) }
+    requires machines_fit { 0 < L.EACH → length raises.old ≤ 64 }
+    requires listed { AreListed (raises_in L.value raises.old) raised.old }
     ensures raises { RaisesBehind routes.now (IsLateOn late)
         (rows_of routes.now (L.heads lanes.old) (L.ends lanes.old))
         (rows_of routes.now (L.heads lanes.new) (L.ends lanes.new)) }
     ensures noted { Watches no_floor routes.now.machines (L.heads lanes.old) (L.heads lanes.new)
         (raises_in L.value raises.old) (raises_in L.value raises.new) }
-    ensures listed { AreListed (raises_in L.value raises.new) result }
+    ensures listed { AreListed (raises_in L.value raises.new) raised.new }
+    ensures machines { length raises.new ≡ length raises.old }
 {
-    let mut raised = MachineSet::none();
     for position in late.from..late.to {
         if is_delayed(lanes.head(position), late.latest.end) {
             let free = free_at(position, late.last, late.latest);
-            raise_behind(lanes, raises, &mut raised, routes, position, free);
+            raise_behind(lanes, raises, raised, routes, position, free);
         }
     }
-    raised
 }
 
 /// Answers the first position of `machine`, and the position behind its last one.
@@ -259,19 +264,18 @@ fn greatest_own(candidates: &[Candidate], bound: u64) -> u64 {
 #[inline(never)]
 pub(crate) fn bound_children<L: StateLanes>(
     lanes: &mut L,
-    raises: &mut [LaneRaise<L::Number>],
+    raises: &mut MachineRaises<L>,
     ceilings: &mut [u64],
     grid: &Grid<L>,
     next: &[u32],
     siblings: &Siblings,
 ) -> u64
-    requires at_rest { AreEmpty (raises_in L.value raises.old) }
-    requires few { 0 < L.EACH → length (raises_in L.value raises.old) ≤ 64 }
-    requires room { length ceilings.old ≡ length (raises_in L.value raises.old) }
+    requires at_rest { AreEmpty raises.old }
+    requires room { length ceilings.old ≡ length raises.old }
     requires some { 0 < length siblings.now.candidates.now }
     requires can { CanBoundChildren L.GREATEST grid.now
         (rows_of grid.now (L.heads lanes.old) (L.ends lanes.old)) next.now
-        siblings.now.candidates.now siblings.now.bound (length (raises_in L.value raises.old)) }
+        siblings.now.candidates.now siblings.now.bound (length raises.old) }
     ensures known { (shop : Shop) (w : List ℕ) → IsKeptInLanes L.GREATEST shop w grid.now
         (rows_of grid.now (L.heads lanes.old) (L.ends lanes.old)) next.now
         → AreSiblings shop w siblings.now.candidates.now → siblings.now.bound ≡ lb shop w
@@ -289,7 +293,7 @@ pub(crate) fn bound_children<L: StateLanes>(
     ensures positions { length (L.heads lanes.new) ≡ length (L.heads lanes.old) }
     ensures ends { L.ends lanes.new ≡ L.ends lanes.old }
     ensures machines { length raises.new ≡ length raises.old }
-    ensures rest { AreEmpty (raises_in L.value raises.new) }
+    ensures rest { AreEmpty raises.new }
 {
     let (candidates, bound) = (siblings.candidates, siblings.bound);
     let routes = grid.routes();
@@ -303,8 +307,7 @@ pub(crate) fn bound_children<L: StateLanes>(
         last,
         latest,
     };
-    let raised = raise_late(lanes, raises, &routes, late);
-    let limit = greatest_own(candidates, bound).saturating_add(3);
-    let laid = LaidLanes { lanes, grid };
-    take_ceilings(raises, raised, ceilings, &laid, bound + 1, limit) - 1
+    let raised = raises.raise_late(lanes, &routes, late);
+    let limit = greatest_own(candidates, bound).saturating_add(2);
+    raises.take_ceilings(raised, ceilings, &LaidLanes { lanes, grid }, bound, limit)
 }

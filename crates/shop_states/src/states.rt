@@ -1,6 +1,6 @@
 // The state of a word, and the scratch room of fills and dispatches.
 use crate::beginnings::Beginning;
-use crate::head_raises::LaneRaise;
+use crate::machine_raises::MachineRaises;
 use shop_lanes::StateLanes;
 
 /// The state of a word: the head of each waiting operation, by position, and each job's next operation with its end.
@@ -20,9 +20,8 @@ pub struct Scratch<L: StateLanes> {
     pub(crate) free: Vec<u64>,
     /// the first jobs of the last filled word with their placement, since the next word often shares them
     pub(crate) beginning: Beginning,
-    /// raises[machine]: of the heads that rose in a dispatch, the least value before and the greatest after; there are
-    /// at most 128 machines, and at most 64 in lanes for a fixed number of blocks a machine; empty between dispatches
-    pub(crate) raises: Vec<LaneRaise<L::Number>>,
+    /// how far heads rose on each machine in a dispatch; empty between dispatches
+    pub(crate) raises: MachineRaises<L>,
     /// owns[i]: how late a machine's operations end, tails included, if the one at its place `i` goes first; there is
     /// room for the machine with the most operations
     pub(crate) owns: Vec<L::Number>,

@@ -1,8 +1,8 @@
 -- What a dispatch needs beside a state.
---     IsScratchOf each shop l ..     room for the times of jobs and machines, a beginning of a word,
+--     IsScratchOf shop l ready ..    room for the times of jobs and machines, a beginning of a word,
 --                                    raises at rest, an own span for each position of any one
 --                                    machine, a ceiling for each machine
-use Rattle.std.specs.Prelude.{◌≡◌, ℕ, ◌≤◌, ◌<◌, List, length}
+use Rattle.std.specs.Prelude.{◌≡◌, ℕ, List, length}
 use Rattle.shop_model.specs.Shop.{Shop}
 use Rattle.shop_layout.specs.Positions.{HoldsMachines, LayoutState}
 use Rattle.shop_states.specs.inner.MachineRaises.{AreEmpty}
@@ -10,13 +10,12 @@ use Rattle.shop_states.specs.inner.HeadRaises.{Raise}
 use Rattle.shop_states.specs.declared.beginnings.Beginning.{Beginning}
 use Rattle.shop_states.specs.inner.Beginnings.{IsBeginningOf}
 
-pub record IsScratchOf (each : ℕ) (shop : Shop) (l : LayoutState) (ready free : ℕ)
-    (beginning : Beginning) (raises : List Raise) (owns numbers : ℕ) : Type 0 where
+pub record IsScratchOf (shop : Shop) (l : LayoutState) (ready free : ℕ) (beginning : Beginning)
+    (raises : List Raise) (owns numbers : ℕ) : Type 0 where
   pub jobs_ready : ready ≡ length shop.jobs
   pub machines_free : free ≡ shop.machines
   pub begun : IsBeginningOf shop l beginning
   pub machines : length raises ≡ shop.machines
-  pub few : 0 < each → length raises ≤ 64
   pub at_rest : AreEmpty raises
   pub holds : HoldsMachines l owns
   pub ceilings : numbers ≡ shop.machines

@@ -1,16 +1,39 @@
-use Rattle.std.proofs.Common.{ℕ, List, ◌∙◌, ap, refl, arith, length}
+use Rattle.std.proofs.Common.{ℕ, List, ◌∙◌, ap, get_or, refl, sym, arith, length}
 use Rattle.std.proofs.lemmas.List.{length-set}
+use Rattle.shop_lanes.specs.Marks.{positions_among}
 use Rattle.shop_layout.proofs.Written.{written_vec}
-use Rattle.shop_states.proofs.Trials.{its_job, its_position, trial_can_delay, trial_keep, trial_kept}
+use Rattle.shop_states.specs.inner.Dispatches.{marked_up_to}
+use Rattle.shop_states.proofs.Trials.{its_end, its_job, its_position, trial_blocks, trial_keep, trial_kept}
+use Rattle.shop_states.proofs.Trials.{trial_raisable}
 use Rattle.shop_states.proofs.advances.advance.Goals as goal
 
 pub set_head-requires-clause-in_range : goal.set_head-requires-clause-in_range
 set_head-requires-clause-in_range g c =
     its_position c.requires.can.kept c.args.dispatch.job c.requires.can.fits c.requires.is.position_is
 
-pub raise_blocks-requires-clause-can : goal.raise_blocks-requires-clause-can
-raise_blocks-requires-clause-can g c = rw c.as_mut_slice-next.ensures.value (trial_can_delay c.requires.can.kept
-    c.requires.can.fits c.requires.is c.set_head.ensures.heads c.set_head.ensures.ends)
+pub delay-requires-clause-machine : goal.delay-requires-clause-machine
+delay-requires-clause-machine g c = trial_blocks c.requires.can.kept c.args.dispatch.job c.requires.can.fits
+    c.requires.is.position_is c.requires.is.machine_is c.requires.is.end_is c.set_head.ensures.heads
+    c.set_head.ensures.ends
+
+pub delay-requires-clause-delayed : goal.delay-requires-clause-delayed
+delay-requires-clause-delayed g c =
+    let l = c.args.grid.now in let m = c.args.dispatch.machine
+    in c.requires.is.delayed_are ∙ ap (λ (hs : List ℕ). positions_among hs (get_or l.blocks m 0) (marked_up_to l m)
+    c.args.dispatch.end) (sym c.set_head.ensures.heads)
+
+pub delay-requires-clause-fits : goal.delay-requires-clause-fits
+delay-requires-clause-fits g c = its_end c.requires.can.kept c.args.dispatch.job c.requires.can.fits
+    c.requires.is.position_is c.requires.is.machine_is c.requires.is.end_is
+
+pub delay-requires-clause-raisable : goal.delay-requires-clause-raisable
+delay-requires-clause-raisable g c = rw c.as_mut_slice-next.ensures.value (trial_raisable c.requires.can.kept
+    c.args.dispatch.job c.requires.can.fits c.requires.is.position_is c.requires.is.machine_is c.requires.is.end_is
+    c.set_head.ensures.heads c.set_head.ensures.ends)
+
+pub delay-requires-clause-jobs : goal.delay-requires-clause-jobs
+delay-requires-clause-jobs g c = rw c.as_mut_slice-next.ensures.value
+    (let nexts = c.requires.can.kept.are_next.jobs in let routes = c.requires.can.kept.kept.laid.jobs in omega arith)
 
 pub go_on-requires-clause-job : goal.go_on-requires-clause-job
 go_on-requires-clause-job g c = rw c.as_mut_slice-next.ensures.value
@@ -24,17 +47,19 @@ go_on-requires-clause-position g c =
 
 pub go_on-requires-clause-keep : goal.go_on-requires-clause-keep
 go_on-requires-clause-keep g c =
-    let raised = rw c.as_mut_slice-next.ensures.value at c.raise_blocks.ensures.raises
-    in rw c.as_mut_slice-next.ensures.value (trial_keep c.requires.can.kept c.requires.can.fits c.requires.is
+    let raised = rw c.as_mut_slice-next.ensures.value at c.delay.ensures
+    in rw c.as_mut_slice-next.ensures.value (trial_keep c.requires.can.kept c.args.dispatch.job
+    c.requires.can.fits c.requires.is.position_is c.requires.is.machine_is c.requires.is.end_is
     c.set_head.ensures.heads c.set_head.ensures.ends raised refl)
 
 pub returns-clause-state : goal.returns-clause-state
 returns-clause-state g c = λ shop w kept fits.
-    let raised = rw c.as_mut_slice-next.ensures.value at c.raise_blocks.ensures.raises
+    let raised = rw c.as_mut_slice-next.ensures.value at c.delay.ensures
     in let on = rw c.as_mut_slice-next.ensures.value at c.go_on.ensures
     in let long = ap (λ (ns : List ℕ). length ns) c.go_on.ensures.are_next
     ∙ length-set c.as_mut_slice-next.result.now _ _
     in let whole = written_vec c.args.state.now.next c.as_mut_slice-next.result.now c.go_on.new.next
     c.as_mut_slice-next.ensures.value long
-    in rw whole (trial_kept kept fits c.requires.is c.set_head.ensures.heads c.set_head.ensures.ends
+    in rw whole (trial_kept kept c.args.dispatch.job fits c.requires.is.position_is
+    c.requires.is.machine_is c.requires.is.end_is c.set_head.ensures.heads c.set_head.ensures.ends
     raised on.are_next on.ends)

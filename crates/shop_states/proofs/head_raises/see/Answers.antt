@@ -1,5 +1,4 @@
-use Rattle.std.proofs.Common.{IsTrue, List, eqb, not, refl, sym, subst, arith}
-use Rattle.std.proofs.lemmas.Bool.{ne_eqb}
+use Rattle.std.proofs.Common.{List, sym, subst, arith}
 use Rattle.std.proofs.lemmas.List.{length-map}
 use Rattle.shop_states.specs.inner.HeadRaises.{Raise, raise_in, raises_in}
 use Rattle.shop_states.specs.inner.MachineRaises.{AreListed}
@@ -7,24 +6,21 @@ use Rattle.shop_states.proofs.RaisedMachines.{listed_more, widened_in}
 use Rattle.shop_states.proofs.head_raises.see.Goals as goal
 
 pub put-requires-clause-known : goal.put-requires-clause-known
-put-requires-clause-known g c =
-    let notes : IsTrue (not (eqb g.row.NOTES 0)) = rw (ne_eqb g.row.NOTES 0 c.if-not-this.false) refl
-    in let few = (c.requires.listed notes).few
-    in let many = length-map c.args.raises.now (raise_in g.L.StateLanes.value) in let known = c.requires.known notes
+put-requires-clause-known g c = let few = c.requires.listed.few
+    in let many = length-map c.args.raises.now (raise_in g.L.StateLanes.value) in let known = c.requires.known
     in omega arith
 
 pub returns-clause-raises : goal.returns-clause-raises
-returns-clause-raises g c = λ notes. widened_in g.L.StateLanes.value c.args.raises.now c.args.machine c.args.before
+returns-clause-raises g c = widened_in g.L.StateLanes.value c.args.raises.now c.args.machine c.args.before
     c.args.after
-    c.index-raises-machine.result c.with_head.result (c.requires.known notes) c.index-raises-machine.is
-    c.with_head.ensures
+    c.index-raises-machine.result c.with_head.result c.requires.known c.index-raises-machine.is c.with_head.ensures
 
 pub returns-clause-listed : goal.returns-clause-listed
-returns-clause-listed g c = λ notes.
-    let many = length-map c.args.raises.now (raise_in g.L.StateLanes.value) in let known = c.requires.known notes
+returns-clause-listed g c =
+    let many = length-map c.args.raises.now (raise_in g.L.StateLanes.value) in let known = c.requires.known
     in subst (λ (rs : List Raise). AreListed rs c.put.new.self) (sym
     (widened_in g.L.StateLanes.value c.args.raises.now
     c.args.machine c.args.before c.args.after c.index-raises-machine.result c.with_head.result
-    known c.index-raises-machine.is c.with_head.ensures))
+    c.requires.known c.index-raises-machine.is c.with_head.ensures))
     (listed_more (raises_in g.L.StateLanes.value c.args.raises.now) c.args.raised.now c.put.new.self c.args.machine
-    c.args.before c.args.after (c.requires.listed notes) (omega arith) c.put.ensures)
+    c.args.before c.args.after c.requires.listed (omega arith) c.put.ensures)

@@ -1,5 +1,9 @@
-use Rattle.std.proofs.Common.{ℕ, List, get_or, ap, arith}
+use Rattle.std.proofs.Common.{ℕ, List, get_or, ap, subst, arith}
+use Rattle.shop_states.specs.inner.HeadRaises.{raises_in}
+use Rattle.shop_states.specs.inner.Raises.{IsPosition}
+use Rattle.shop_states.specs.inner.Watchers.{Sees}
 use Rattle.shop_states.proofs.RaisedEnds.{mid_raisable, raised_with_ends, raised_within, raised_fits}
+use Rattle.shop_states.proofs.Watching.{sees_long}
 use Rattle.shop_states.proofs.raises.raise_from.Goals as goal
 
 pub set_end_at-requires : goal.set_end_at-requires
@@ -10,8 +14,8 @@ set_end_at-requires g c =
     in record {
       within = (let timed = can.timed in omega arith);
       job = omega arith;
-      known = (let job = (can.places c.args.position c.requires.waits).job in let many = c.requires.can.jobs
-          in omega arith);
+      known = (let job = (can.places c.args.position c.requires.waits).job in let many = c.requires.can.jobs in omega
+          arith);
       ends = can.ends;
       fits = raised_fits can c.requires.waits;
       computable = can.computable;
@@ -25,12 +29,18 @@ raise_route-requires g c =
       waits = omega arith;
       below = omega arith;
       raisable = mid_raisable c.requires.can.raisable c.set_end_at.ensures;
-      note = c.requires.note;
+      known = c.requires.can.known;
+      machines_fit = c.requires.machines_fit;
+      listed = c.requires.listed;
     }
 
 pub returns : goal.returns
 returns g c = record {
   raises = raised_with_ends c.requires.can.raisable c.set_end_at.ensures c.requires.waits c.requires.below
       c.raise_route.ensures.raises;
-  noted = λ notes. rw c.set_end_at.ensures.heads at (c.raise_route.ensures.noted notes);
+  seen = subst (λ (hs : List ℕ). Sees c.args.ahead.now.routes.machines (IsPosition c.args.position) c.args.end hs
+      (g.L.StateLanes.heads c.raise_route.new.lanes) (raises_in g.L.StateLanes.value c.args.raises.now)
+      (raises_in g.L.StateLanes.value c.raise_route.new.raises)) c.set_end_at.ensures.heads c.raise_route.ensures.seen;
+  listed = c.raise_route.ensures.listed;
+  machines = sees_long c.raise_route.ensures.seen;
 }

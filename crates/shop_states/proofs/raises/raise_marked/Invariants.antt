@@ -1,8 +1,9 @@
-use Rattle.std.proofs.Common.{IsTrue, eqb, not, length}
+use Rattle.std.proofs.Common.{◌≡◌, length}
 use Rattle.shop_layout.specs.Lanes.{rows_of}
 use Rattle.shop_states.specs.inner.HeadRaises.{raises_in}
-use Rattle.shop_states.specs.inner.RaiseCalls.{HasNoted}
+use Rattle.shop_states.specs.inner.MachineRaises.{AreListed}
 use Rattle.shop_states.specs.inner.RisingLists.{IsIn}
+use Rattle.shop_states.specs.inner.Watchers.{Sees}
 use Rattle.shop_states.proofs.RaiseLoops.{AreMarksRaised}
 use Rattle.shop_states.proofs.raises.raise_marked.Given as goal
 
@@ -11,9 +12,12 @@ invariant-loop-position g l = record {
   raised : AreMarksRaised g.L.StateLanes.GREATEST l.ahead.routes l.ahead.next.now l.fn.marks l.end l.todo
       (rows_of l.ahead.routes (g.L.StateLanes.heads l.fn.lanes) (g.L.StateLanes.ends l.fn.lanes))
       (rows_of l.ahead.routes (g.L.StateLanes.heads l.lanes) (g.L.StateLanes.ends l.lanes));
-  noted : IsTrue (not (eqb g.row.NOTES 0)) → HasNoted l.ahead.routes.machines (IsIn l.fn.marks) l.end
-      (g.L.StateLanes.heads l.fn.lanes) (g.L.StateLanes.heads l.lanes) (raises_in g.L.StateLanes.value l.fn.raises)
-      (raises_in g.L.StateLanes.value l.raises) l.raised;
+  seen : Sees l.ahead.routes.machines (IsIn l.fn.marks) l.end (g.L.StateLanes.heads l.fn.lanes)
+      (g.L.StateLanes.heads l.lanes) (raises_in g.L.StateLanes.value l.fn.raises)
+      (raises_in g.L.StateLanes.value l.raises);
+  machines : length (raises_in g.L.StateLanes.value l.raises)
+      ≡ length (raises_in g.L.StateLanes.value l.fn.raises);
+  listed : AreListed (raises_in g.L.StateLanes.value l.raises) l.raised;
 }
 
 abbrev pub decreases-loop-position : goal.decreases-loop-position

@@ -1,6 +1,7 @@
 use Rattle.std.proofs.Common.{refl, arith}
 use Rattle.std.proofs.lemmas.List.{length-map}
 use Rattle.shop_states.specs.inner.HeadRaises.{raise_in}
+use Rattle.shop_states.proofs.RaisedMachines.{lengths_in}
 use Rattle.shop_states.proofs.RaiseSteps.{begun_following, ended_at, followed, is_there, leg_fits, leg_known}
 use Rattle.shop_states.proofs.RaiseSteps.{leg_machine}
 use Rattle.shop_states.proofs.RaiseSteps.{position_up_to, put_is, read_there}
@@ -13,12 +14,9 @@ loop-ready-init g c = record {
   following = begun_following c.requires.raisable c.requires.waits c.requires.below (put_is c.args.routes.now
       (g.L.StateLanes.heads c.args.lanes.now) c.args.position c.args.end c.set_head.ensures.heads
       c.set_head.ensures.ends) c.behind-index.ensures.index c.time.ensures refl;
-  noted = λ notes. record {
-    seen = sees_first c.set_head.ensures.heads (raised_within c.requires.raisable c.requires.waits);
-    listed = (c.requires.note notes).listed;
-    machines = refl;
-  };
-  behind = λ notes. notes_first c.set_head.ensures.heads (raised_within c.requires.raisable c.requires.waits);
+  seen = sees_first c.set_head.ensures.heads (raised_within c.requires.raisable c.requires.waits);
+  noted = notes_first c.set_head.ensures.heads (raised_within c.requires.raisable c.requires.waits);
+  listed = c.requires.listed;
 }
 
 pub leg-leg-requires : goal.leg-leg-requires
@@ -46,25 +44,21 @@ pub see-requires-clause-fits : goal.see-requires-clause-fits
 see-requires-clause-fits g c = (leg_fits c.requires.raisable c.requires.waits c.loop-ready.invariant.following
     c.leg-leg.ensures c.head_or_greatest-head.ensures c.if-ready-head.false).0
 
-pub see-requires-clause-listed : goal.see-requires-clause-listed
-see-requires-clause-listed g c = λ notes. (c.loop-ready.invariant.noted notes).listed
-
-pub see-requires-clause-few : goal.see-requires-clause-few
-see-requires-clause-few g c = λ notes fixed.
-    let long = length-map c.loop-ready.raises (raise_in g.L.StateLanes.value)
-    in let same = (c.loop-ready.invariant.noted notes).machines
-    in let few = (c.requires.note notes).few fixed in omega arith
+pub see-requires-clause-machines_fit : goal.see-requires-clause-machines_fit
+see-requires-clause-machines_fit g c = λ fixed.
+    let long = lengths_in g.L.StateLanes.value c.args.raises.now c.loop-ready.raises
+    (sees_long c.loop-ready.invariant.seen) in let few = c.requires.machines_fit fixed in omega arith
 
 pub see-requires-clause-known : goal.see-requires-clause-known
-see-requires-clause-known g c = λ notes.
-    let long = length-map c.loop-ready.raises (raise_in g.L.StateLanes.value)
-    in let same = (c.loop-ready.invariant.noted notes).machines
+see-requires-clause-known g c =
+    let long = lengths_in g.L.StateLanes.value c.args.raises.now c.loop-ready.raises
+    (sees_long c.loop-ready.invariant.seen)
     in let there = is_there c.requires.raisable c.requires.waits c.loop-ready.invariant.following c.leg-leg.ensures
     c.head_or_greatest-head.ensures c.if-ready-head.false
     in let machine = leg_machine c.requires.raisable c.requires.waits c.loop-ready.invariant.following
     c.leg-leg.ensures c.head_or_greatest-head.ensures c.if-ready-head.false
     in let machines = c.requires.raisable.machines
-    in let known = (c.requires.note notes).known c.leg-leg.result.position (omega arith)
+    in let known = c.requires.known c.leg-leg.result.position (omega arith)
     in omega arith
 
 pub overflow_add-ready-in-loop-ready : goal.overflow_add-ready-in-loop-ready
@@ -88,24 +82,22 @@ loop-ready-preserved g c =
     c.head_or_greatest-head.ensures c.if-ready-head.false
     in let machine = leg_machine c.requires.raisable c.requires.waits c.loop-ready.invariant.following
     c.leg-leg.ensures c.head_or_greatest-head.ensures c.if-ready-head.false
-    in let read = read_there c.requires.raisable c.requires.waits c.loop-ready.invariant.following c.leg-leg.ensures
-    c.head_or_greatest-head.ensures c.if-ready-head.false
     in let machines = c.requires.raisable.machines
     in let long = c.loop-ready.invariant.following.walking.up_to.positions
+    in let known = c.requires.known c.leg-leg.result.position (omega arith)
+    in let many = length-map c.args.raises.now (raise_in g.L.StateLanes.value)
     in record {
       following = followed c.requires.raisable c.requires.waits c.loop-ready.invariant.following c.leg-leg.ensures
           c.head_or_greatest-head.ensures c.if-ready-head.false (put_is c.args.routes.now (g.L.StateLanes.heads
           c.loop-ready.lanes) c.leg-leg.result.position c.loop-ready.ready
           c.set_head-in-loop-ready.ensures.heads c.set_head-in-loop-ready.ensures.ends) refl;
-      noted = λ notes.
-          let so = c.loop-ready.invariant.noted notes
-          in let known = (c.requires.note notes).known c.leg-leg.result.position (omega arith)
-          in let seen = sees_next so.seen c.set_head-in-loop-ready.ensures.heads (omega arith) read
-          c.if-ready-head.false machine (omega arith) (c.see.ensures.raises notes)
-          in record { seen = seen; listed = c.see.ensures.listed notes; machines = sees_long seen };
-      behind = λ notes.
-          let known = (c.requires.note notes).known c.leg-leg.result.position (omega arith)
-          in notes_next c.loop-ready.ready (c.loop-ready.invariant.behind notes)
-          (c.loop-ready.invariant.noted notes).machines c.set_head-in-loop-ready.ensures.heads (omega arith) read
-          machine (omega arith) (c.see.ensures.raises notes);
+      seen = sees_next c.loop-ready.invariant.seen c.set_head-in-loop-ready.ensures.heads (omega arith) (read_there
+          c.requires.raisable c.requires.waits c.loop-ready.invariant.following c.leg-leg.ensures
+          c.head_or_greatest-head.ensures c.if-ready-head.false) c.if-ready-head.false machine (omega arith)
+          c.see.ensures.raises;
+      noted = notes_next c.loop-ready.ready c.loop-ready.invariant.noted (sees_long c.loop-ready.invariant.seen)
+          c.set_head-in-loop-ready.ensures.heads (omega arith) (read_there
+          c.requires.raisable c.requires.waits c.loop-ready.invariant.following c.leg-leg.ensures
+          c.head_or_greatest-head.ensures c.if-ready-head.false) machine (omega arith) c.see.ensures.raises;
+      listed = c.see.ensures.listed;
     }

@@ -1,10 +1,10 @@
-use Rattle.std.proofs.Common.{◌-◌, IsTrue, eqb, not, length}
+use Rattle.std.proofs.Common.{◌-◌, length}
 use Rattle.shop_layout.specs.Lanes.{rows_of}
 use Rattle.shop_layout.specs.Legs.{all_legs}
 use Rattle.shop_states.specs.inner.HeadRaises.{raises_in}
 use Rattle.shop_states.specs.inner.Raises.{IsPosition}
-use Rattle.shop_states.specs.inner.RaiseCalls.{HasNoted}
-use Rattle.shop_states.specs.inner.Watchers.{Notes}
+use Rattle.shop_states.specs.inner.MachineRaises.{AreListed}
+use Rattle.shop_states.specs.inner.Watchers.{Notes, Sees}
 use Rattle.shop_states.proofs.RaiseSteps.{IsFollowing}
 use Rattle.shop_states.proofs.raises.raise_route.Given as goal
 
@@ -13,12 +13,13 @@ invariant-loop-ready g l = record {
   following : IsFollowing g.L.StateLanes.GREATEST l.routes l.position l.end l.index l.ready
       (rows_of l.routes (g.L.StateLanes.heads l.fn.lanes) (g.L.StateLanes.ends l.fn.lanes))
       (rows_of l.routes (g.L.StateLanes.heads l.lanes) (g.L.StateLanes.ends l.lanes));
-  noted : IsTrue (not (eqb g.row.NOTES 0)) → HasNoted l.routes.machines (IsPosition l.position) l.end
-      (g.L.StateLanes.heads l.fn.lanes) (g.L.StateLanes.heads l.lanes) (raises_in g.L.StateLanes.value l.fn.raises)
-      (raises_in g.L.StateLanes.value l.raises) l.raised;
-  behind : IsTrue (not (eqb g.row.NOTES 0)) → Notes l.routes.machines l.position l.end
+  seen : Sees l.routes.machines (IsPosition l.position) l.end
       (g.L.StateLanes.heads l.fn.lanes) (g.L.StateLanes.heads l.lanes) (raises_in g.L.StateLanes.value l.fn.raises)
       (raises_in g.L.StateLanes.value l.raises);
+  noted : Notes l.routes.machines l.position l.end
+      (g.L.StateLanes.heads l.fn.lanes) (g.L.StateLanes.heads l.lanes) (raises_in g.L.StateLanes.value l.fn.raises)
+      (raises_in g.L.StateLanes.value l.raises);
+  listed : AreListed (raises_in g.L.StateLanes.value l.raises) l.raised;
 }
 
 abbrev pub decreases-loop-ready : goal.decreases-loop-ready

@@ -1,9 +1,8 @@
-use Rattle.std.proofs.Common.{◌∙◌, refl, arith}
+use Rattle.std.proofs.Common.{◌+◌, ◌∙◌, refl, arith}
 use Rattle.shop_states.proofs.ChildrenBounds.{bound_small, children_can, children_known, children_settled}
 use Rattle.shop_states.proofs.ChildrenBounds.{late_raises_fit, machine_blocks}
 use Rattle.shop_states.proofs.LateHeads.{can_end, second_low}
-use Rattle.shop_states.proofs.RaisedMachines.{lengths_in}
-use Rattle.shop_states.proofs.Trials.{rest_note, same_machines}
+use Rattle.shop_states.proofs.Trials.{same_machines}
 use Rattle.shop_states.proofs.siblings.bound_children.Goals as goal
 
 pub latest_of-latest-requires-clause-can : goal.latest_of-latest-requires-clause-can
@@ -61,12 +60,13 @@ raise_late-raised-requires-clause-can g c =
     in rw c.routes-routes.ensures (children_can c.requires.can.kept c.requires.can.siblings latest on
     c.positions_of-from.ensures.first c.positions_of-from.ensures.behind)
 
-pub raise_late-raised-requires-clause-note : goal.raise_late-raised-requires-clause-note
-raise_late-raised-requires-clause-note g c = rw c.routes-routes.ensures (rest_note c.requires.can.kept
-    c.requires.can.machines_are c.requires.few c.requires.at_rest)
+pub raise_late-raised-requires-clause-known : goal.raise_late-raised-requires-clause-known
+raise_late-raised-requires-clause-known g c = rw c.routes-routes.ensures (λ q here.
+    let a = c.requires.can.kept.kept.laid.machines_at.known q here
+    in let b = c.requires.can.machines_are in omega arith)
 
-pub overflow_add-bound : goal.overflow_add-bound
-overflow_add-bound g c =
+pub take_ceilings-requires-clause-least : goal.take_ceilings-requires-clause-least
+take_ceilings-requires-clause-least g c =
     let latest = rw c.routes-routes.ensures at c.latest_of-latest.ensures
     in let on = rw c.routes-routes.ensures at c.machine-machine.ensures
     in let small = bound_small c.requires.can.kept c.requires.can.siblings latest on
@@ -97,7 +97,7 @@ returns-clause-known g c = λ shop w kept siblings bound_is i here.
     in let noted = rw c.routes-routes.ensures at c.raise_late-raised.ensures.noted
     in children_known kept siblings latest on c.positions_of-from.ensures.first c.positions_of-from.ensures.behind
     raises c.requires.at_rest (c.requires.can.machines_are ∙ same_machines c.requires.can.kept.kept.laid
-    kept.kept.laid) noted bound_is c.take_ceilings.ensures.bounds i here
+    kept.kept.laid) noted bound_is (c.take_ceilings.ensures.bounds (c.take_ceilings.result + 1) refl) i here
 
 pub returns-clause-settled : goal.returns-clause-settled
 returns-clause-settled g c = λ shop w kept siblings bound_is i least here advancing enough.
@@ -107,12 +107,12 @@ returns-clause-settled g c = λ shop w kept siblings bound_is i least here advan
     in let noted = rw c.routes-routes.ensures at c.raise_late-raised.ensures.noted
     in let many = c.requires.can.machines_are ∙ same_machines c.requires.can.kept.kept.laid kept.kept.laid
     in children_settled kept siblings latest on c.positions_of-from.ensures.first c.positions_of-from.ensures.behind
-    raises c.requires.at_rest many noted bound_is c.take_ceilings.ensures.bounds
+    raises c.requires.at_rest many noted bound_is (c.take_ceilings.ensures.bounds (c.take_ceilings.result + 1) refl)
     (c.take_ceilings.ensures.long ∙ (c.requires.room ∙ many)) i least here advancing (omega arith)
 
 pub returns-clause-machines : goal.returns-clause-machines
-returns-clause-machines g c = lengths_in g.L.StateLanes.value c.args.raises.now c.take_ceilings.new.raises
-    (c.take_ceilings.ensures.bounds.long ∙ c.raise_late-raised.ensures.noted.long)
+returns-clause-machines g c = (c.take_ceilings.ensures.bounds (c.take_ceilings.result + 1) refl).long
+    ∙ c.raise_late-raised.ensures.machines
 
 pub returns-clause-positions : goal.returns-clause-positions
 returns-clause-positions g c = (rw c.routes-routes.ensures at c.raise_late-raised.ensures.raises).positions

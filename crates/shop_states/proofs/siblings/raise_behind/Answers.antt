@@ -1,7 +1,6 @@
-use Rattle.std.proofs.Common.{◌∙◌, length, ap, refl, arith}
-use Rattle.std.proofs.lemmas.List.{length-map, length-set}
-use Rattle.shop_states.specs.inner.HeadRaises.{raise_in, raises_in}
-use Rattle.shop_states.proofs.MarkedRaises.{still_note}
+use Rattle.std.proofs.Common.{refl, arith}
+use Rattle.std.proofs.lemmas.List.{length-map}
+use Rattle.shop_states.specs.inner.HeadRaises.{raise_in}
 use Rattle.shop_states.proofs.BehindRaises.{its_end, its_leg, its_place, its_within, late_enough, leg_up_to}
 use Rattle.shop_states.proofs.BehindRaises.{next_machine, next_raisable, next_read, next_there, next_waits}
 use Rattle.shop_states.proofs.BehindRaises.{raised_behind}
@@ -38,7 +37,7 @@ pub returns-then-ready-head-clause-noted : goal.returns-then-ready-head-clause-n
 returns-then-ready-head-clause-noted g c = watch_none no_floor _ _ _
 
 pub see-requires-clause-known : goal.see-requires-clause-known
-see-requires-clause-known g c = λ _.
+see-requires-clause-known g c =
     let many = length-map c.args.raises.now (raise_in g.L.StateLanes.value)
     in let time = c.time.ensures
     in let there = next_there c.requires.can c.requires.waits c.behind.ensures.index c.leg-leg.ensures
@@ -46,15 +45,7 @@ see-requires-clause-known g c = λ _.
     in let machine = next_machine c.requires.can c.requires.waits c.behind.ensures.index c.leg-leg.ensures
     c.head_or_greatest-head.ensures (omega arith) c.if-ready-head.false
     in let machines = c.requires.can.machines
-    in let known = c.requires.note.known c.leg-leg.result.position (omega arith) in omega arith
-
-pub see-requires-clause-listed : goal.see-requires-clause-listed
-see-requires-clause-listed g c = λ _. c.requires.note.listed
-
-pub see-requires-clause-few : goal.see-requires-clause-few
-see-requires-clause-few g c = λ _ fixed.
-    let many = length-map c.args.raises.now (raise_in g.L.StateLanes.value)
-    in let few = c.requires.note.few fixed in omega arith
+    in let known = c.requires.known c.leg-leg.result.position (omega arith) in omega arith
 
 pub see-requires-clause-fits : goal.see-requires-clause-fits
 see-requires-clause-fits g c =
@@ -66,15 +57,16 @@ raise_route-requires g c =
     in let read = next_read c.requires.can c.requires.waits c.behind.ensures.index c.leg-leg.ensures
     c.head_or_greatest-head.ensures (omega arith) c.if-ready-head.false
     in let below = c.if-ready-head.false
-    in let many = ap length (c.see.ensures.raises refl) ∙ length-set (raises_in g.L.StateLanes.value c.args.raises.now)
-    _ _
+    in let many = c.see.auto.raises
     in record {
       waits = next_waits c.requires.can c.requires.waits c.behind.ensures.index c.leg-leg.ensures
           c.head_or_greatest-head.ensures (omega arith) c.if-ready-head.false;
       below = omega arith;
       raisable = next_raisable c.requires.can c.requires.waits c.behind.ensures.index c.leg-leg.ensures
           c.head_or_greatest-head.ensures (omega arith) c.if-ready-head.false;
-      note = λ _. still_note c.requires.note many (c.see.ensures.listed refl);
+      known = λ q here. let known = c.requires.known q here in omega arith;
+      machines_fit = λ fixed. (let few = c.requires.machines_fit fixed in omega arith);
+      listed = c.see.ensures.listed;
     }
 
 pub returns-clause-raises : goal.returns-clause-raises
@@ -93,9 +85,8 @@ returns-clause-noted g c =
     c.head_or_greatest-head.ensures (omega arith) c.if-ready-head.false
     in let many = length-map c.args.raises.now (raise_in g.L.StateLanes.value)
     in let machines = c.requires.can.machines
-    in let known = c.requires.note.known c.leg-leg.result.position (omega arith)
-    in noted_behind (c.raise_route.ensures.behind refl) (c.raise_route.ensures.noted refl).seen (c.see.ensures.raises
-    refl) machine (omega arith)
+    in let known = c.requires.known c.leg-leg.result.position (omega arith)
+    in noted_behind c.raise_route.ensures.noted c.raise_route.ensures.seen c.see.ensures.raises machine (omega arith)
     (next_read c.requires.can c.requires.waits c.behind.ensures.index c.leg-leg.ensures
     c.head_or_greatest-head.ensures (omega arith) c.if-ready-head.false)
     (c.raise_route.ensures.raises.raised.raised.reach c.leg-leg.result.position refl waits)

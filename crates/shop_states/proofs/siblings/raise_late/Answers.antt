@@ -1,8 +1,7 @@
-use Rattle.std.proofs.Common.{inl, inr, arith}
+use Rattle.std.proofs.Common.{◌∙◌, inl, inr, refl, arith}
 use Rattle.shop_layout.specs.Lanes.{rows_of}
 use Rattle.shop_states.specs.inner.Watchers.{no_floor}
 use Rattle.shop_states.proofs.BehindRaises.{late_begins, late_can, late_ends, late_on, late_past}
-use Rattle.shop_states.proofs.MarkedRaises.{still_note}
 use Rattle.shop_states.proofs.Watching.{watch_both, watch_none}
 use Rattle.shop_states.proofs.siblings.raise_late.Goals.{then-is_delayed, else-is_delayed}
 use Rattle.shop_states.proofs.siblings.raise_late.Goals as goal
@@ -12,17 +11,14 @@ loop-position-init g c = record {
   raises = late_begins (rows_of c.args.routes.now (g.L.StateLanes.heads c.args.lanes.now) (g.L.StateLanes.ends
       c.args.lanes.now)) c.requires.can;
   noted = watch_none no_floor _ _ _;
-  listed = rw c.none-raised.ensures c.requires.note.listed;
+  listed = c.requires.listed;
+  machines = refl;
 }
 
 pub raise_behind-requires-clause-can : goal.raise_behind-requires-clause-can
 raise_behind-requires-clause-can g c =
     late_can c.loop-position.invariant.raises c.loop-position.auto.position c.free_at-free.ensures
     c.loop-position-test.true c.requires.can
-
-pub raise_behind-requires-clause-note : goal.raise_behind-requires-clause-note
-raise_behind-requires-clause-note g c = still_note c.requires.note c.loop-position.invariant.noted.long
-    c.loop-position.invariant.listed
 
 pub loop-position-preserved : goal.loop-position-preserved
 loop-position-preserved g c =
@@ -33,6 +29,7 @@ loop-position-preserved g c =
         noted = watch_both no_floor _ _ _ _ w.raise_behind.ensures.raises.raised.rises so.noted
             w.raise_behind.ensures.noted;
         listed = w.raise_behind.ensures.listed;
+        machines = w.raise_behind.ensures.machines ∙ so.machines;
       })
       | else-is_delayed w ↦ rw (w.lanes-is, w.raises-is, w.raised-is) (record {
         raises = late_past so.raises low c.requires.second (let h = c.head.ensures
@@ -42,6 +39,7 @@ loop-position-preserved g c =
             ]);
         noted = so.noted;
         listed = so.listed;
+        machines = so.machines;
       })
     ]
 

@@ -1,3 +1,4 @@
+use Rattle.std.proofs.Common.{◌≡◌, length}
 use Rattle.shop_layout.specs.Lanes.{rows_of}
 use Rattle.shop_states.specs.inner.HeadRaises.{raises_in}
 use Rattle.shop_states.specs.inner.MachineRaises.{AreListed}
@@ -14,4 +15,5 @@ invariant-loop-position g l = record {
   noted : Watches no_floor l.routes.machines (g.L.StateLanes.heads l.fn.lanes) (g.L.StateLanes.heads l.lanes)
       (raises_in g.L.StateLanes.value l.fn.raises) (raises_in g.L.StateLanes.value l.raises);
   listed : AreListed (raises_in g.L.StateLanes.value l.raises) l.raised;
+  machines : length l.raises ≡ length l.fn.raises;
 }

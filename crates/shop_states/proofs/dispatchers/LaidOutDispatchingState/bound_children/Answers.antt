@@ -10,20 +10,19 @@ use Rattle.shop_states.specs.inner.Ceilings.{AreChildCeilings}
 use Rattle.shop_states.proofs.AskedStates.{bound_behind, bound_there, listed_here}
 use Rattle.shop_states.proofs.ListedCandidates.{are_siblings, listed_at}
 use Rattle.shop_states.proofs.OwnSpans.{candidate_advancing}
-use Rattle.shop_states.proofs.ReadStates.{candidate_read, kept_copied, scratch_again}
+use Rattle.shop_states.proofs.ReadStates.{candidate_read, kept_copied}
 use Rattle.shop_states.proofs.dispatchers.LaidOutDispatchingState.bound_children.Goals as goal
 
 pub bound_children-requires-clause-can : goal.bound_children-requires-clause-can
 bound_children-requires-clause-can g c = record {
   shop = c.args.self.now.shop;
   word = c.requires.can.word;
-  kept = kept_copied c.grid.ensures.grid c.copy_from.ensures.heads c.copy_from.ensures.ends
-      c.as_slice-next.ensures.value
+  kept = kept_copied c.grid.ensures.grid c.copy_from.ensures.heads c.copy_from.ensures.ends c.as_slice.ensures.value
       c.requires.can.is_word.kept;
   siblings = are_siblings c.requires.can.is_word.kept.kept.word
       (listed_here c.requires.can.is_word c.requires.can.listed);
   bound_is = bound_there c.requires.can.is_word c.requires.can.bound_is;
-  machines_are = rw c.as_mut_slice-raises.ensures.value c.requires.scratch.machines;
+  machines_are = c.requires.scratch.machines;
 }
 
 pub returns-clause-settled : goal.returns-clause-settled
@@ -34,15 +33,15 @@ returns-clause-settled g c = λ w limit others of bound_is lists k d here enough
     in let own = get_or cs k d
     in let same : (get_or cs k none).job ≡ own.job = ap (λ (x : Candidate). x.job) (get_or_default cs k none d here)
     in let copied = kept_copied c.grid.ensures.grid c.copy_from.ensures.heads c.copy_from.ensures.ends
-    c.as_slice-next.ensures.value of.kept
+    c.as_slice.ensures.value of.kept
     in let candidate = (listed_at lists k d here).1
     in let advancing = candidate_advancing copied own.job candidate.fits own.own
-    (candidate_read c.grid.ensures.grid candidate) c.as_slice-next.result.now refl c.args.bound
+    (candidate_read c.grid.ensures.grid candidate) c.as_slice.result.now refl c.args.bound
     (bound_there of bound_is)
     (max c.args.bound own.own) refl
     in let its = subst (λ (j : ℕ). IsAdvancing g.L.StateLanes.GREATEST shop w c.grid.result.now
     (rows_of c.grid.result.now (g.L.StateLanes.heads c.copy_from.new.self) (g.L.StateLanes.ends c.copy_from.new.self))
-    c.as_slice-next.result.now j (max c.args.bound own.own)) (sym same) advancing
+    c.as_slice.result.now j (max c.args.bound own.own)) (sym same) advancing
     in sym (bound_behind of own.job candidate.fits)
     ∙ subst (λ (j : ℕ). lb shop (w ++ j ∷ []) ≡ max c.args.bound own.own) same
     (c.bound_children.ensures.settled shop w copied (are_siblings of.kept.kept.word (listed_here of lists))
@@ -56,12 +55,11 @@ returns-clause-known g c = λ w limit others of bound_is lists k d here.
     in let same : (get_or cs k none).job ≡ (get_or cs k d).job =
     ap (λ (x : Candidate). x.job) (get_or_default cs k none d here)
     in let copied = kept_copied c.grid.ensures.grid c.copy_from.ensures.heads c.copy_from.ensures.ends
-    c.as_slice-next.ensures.value of.kept
+    c.as_slice.ensures.value of.kept
     in let known = c.bound_children.ensures.known shop w copied
     (are_siblings of.kept.kept.word (listed_here of lists)) (bound_there of bound_is) k here
-    in let whole = written_vec c.args.scratch.now.ceilings c.as_mut_slice-ceilings.result.now
-    c.bound_children.new.ceilings
-    c.as_mut_slice-ceilings.ensures.value c.bound_children.ensures.long
+    in let whole = written_vec c.args.scratch.now.ceilings c.as_mut_slice.result.now c.bound_children.new.ceilings
+    c.as_mut_slice.ensures.value c.bound_children.ensures.long
     in subst (λ (xs : List ℕ). AreChildCeilings shop w c.args.self.now.layout (get_or cs k d).job xs) (sym whole)
     (subst (λ (l : LayoutState). AreChildCeilings shop w l (get_or cs k d).job c.bound_children.new.ceilings)
     c.grid.ensures.grid
@@ -77,12 +75,3 @@ returns-clause-room g c =
       jobs_with_ends = omega arith;
       jobs_with_nexts = c.requires.room.jobs_with_nexts;
     }
-
-pub returns-clause-scratch : goal.returns-clause-scratch
-returns-clause-scratch g c =
-    let whole = written_vec c.args.scratch.now.ceilings c.as_mut_slice-ceilings.result.now
-    c.bound_children.new.ceilings c.as_mut_slice-ceilings.ensures.value c.bound_children.ensures.long
-    in let same = c.bound_children.ensures.long ∙ ap length c.as_mut_slice-ceilings.ensures.value
-    in rw (whole, same) (scratch_again g.L.StateLanes.value c.args.scratch.now.raises c.bound_children.new.raises
-    c.as_mut_slice-raises.ensures.value c.bound_children.ensures.machines c.bound_children.ensures.rest
-    c.requires.scratch)

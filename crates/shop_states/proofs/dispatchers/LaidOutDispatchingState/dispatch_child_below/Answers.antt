@@ -1,19 +1,22 @@
-use Rattle.std.proofs.Common.{ℕ, List, subst, sym}
+use Rattle.std.proofs.Common.{ℕ, List, refl, subst, sym}
 use Rattle.shop_states.specs.inner.Ceilings.{AreChildCeilings}
 use Rattle.shop_states.proofs.CandidateDispatches.{candidate_can, candidate_kept, candidate_told}
-use Rattle.shop_states.proofs.AskedStates.{bound_there, kept_on_some, told_behind}
-use Rattle.shop_states.proofs.ReadStates.{goes_on, scratch_again}
+use Rattle.shop_states.proofs.AskedStates.{bound_there, kept_on_some, told_behind, word_there}
+use Rattle.shop_states.proofs.ReadStates.{kept_read}
 use Rattle.shop_states.proofs.dispatchers.LaidOutDispatchingState.dispatch_child_below.Goals as goal
 
 pub of-dispatch-requires : goal.of-dispatch-requires
-of-dispatch-requires g c =
-    goes_on c.grid-grid.ensures.grid c.requires.can.is.0.kept c.requires.can.is.1.fits
+of-dispatch-requires g c = record {
+  shop = c.args.self.now.shop;
+  word = c.requires.can.word;
+  kept = kept_read c.grid-grid.ensures.grid refl c.requires.can.is.0.kept;
+  fits = c.requires.can.is.1.fits;
+}
 
 pub advance_below-requires-clause-can : goal.advance_below-requires-clause-can
 advance_below-requires-clause-can g c = candidate_can c.grid-grid.ensures.grid c.of-dispatch.ensures.job
-    c.requires.can.is.0.kept c.requires.can.is.1 (bound_there c.requires.can.is.0 c.requires.can.bound_is)
-    c.range_of-range.ensures.least
-    (rw c.as_mut_slice-raises.ensures.value c.requires.scratch.machines)
+    c.requires.can.is.0.kept c.requires.can.is.1 (bound_there c.requires.can.is.0 c.requires.can.bound_is) c.range_of-range.ensures.least
+    c.requires.scratch.machines
     (subst (λ (xs : List ℕ). AreChildCeilings c.args.self.now.shop c.requires.can.word
     c.args.self.now.layout c.args.candidate.job xs) (sym c.as_slice-ceilings.ensures.value) c.requires.can.is.2)
 
@@ -27,12 +30,3 @@ pub returns-clause-state : goal.returns-clause-state
 returns-clause-state g c = λ w of candidate. kept_on_some of _ _ _ c.advance_below.result
     (candidate_kept c.grid-grid.ensures.grid c.of-dispatch.ensures.job of.kept candidate.fits c.advance_below.result
     _ _ _ c.advance_below.ensures.state)
-
-pub advance_below-requires-clause-at_rest : goal.advance_below-requires-clause-at_rest
-advance_below-requires-clause-at_rest g c = rw c.as_mut_slice-raises.ensures.value c.requires.scratch.at_rest
-
-pub returns-clause-scratch : goal.returns-clause-scratch
-returns-clause-scratch g c = scratch_again g.L.StateLanes.value c.args.scratch.now.raises
-    c.advance_below.new.raises c.as_mut_slice-raises.ensures.value c.advance_below.ensures.machines
-    c.advance_below.ensures.rest
-    c.requires.scratch

@@ -1,25 +1,33 @@
-use Rattle.std.proofs.Common.{ℕ, List, refl, subst, sym}
+use Rattle.std.proofs.Common.{ℕ, List, ◌∙◌, refl, subst, sym}
 use Rattle.shop_states.specs.inner.Ceilings.{AreChildCeilings}
 use Rattle.shop_states.proofs.CandidateDispatches.{candidate_can, candidate_kept, candidate_told}
-use Rattle.shop_states.proofs.AskedStates.{bound_there, kept_on_some, told_behind}
-use Rattle.shop_states.proofs.ReadStates.{as_long, goes_on, kept_copied, scratch_again}
+use Rattle.shop_states.proofs.AskedStates.{bound_there, kept_on_some, told_behind, word_there}
+use Rattle.shop_states.proofs.ReadStates.{kept_copied, kept_read}
 use Rattle.shop_states.proofs.dispatchers.LaidOutDispatchingState.dispatch_child_below_in_copy.Goals as goal
 
 pub dispatch_in_copy-dispatch-requires-clause-can : goal.dispatch_in_copy-dispatch-requires-clause-can
-dispatch_in_copy-dispatch-requires-clause-can g c =
-    goes_on c.grid-grid.ensures.grid c.requires.can.is.0.kept c.requires.can.is.1.fits
+dispatch_in_copy-dispatch-requires-clause-can g c = record {
+  shop = c.args.self.now.shop;
+  word = c.requires.can.word;
+  kept = kept_read c.grid-grid.ensures.grid refl c.requires.can.is.0.kept;
+  fits = c.requires.can.is.1.fits;
+}
 
 pub dispatch_in_copy-dispatch-requires-clause-long : goal.dispatch_in_copy-dispatch-requires-clause-long
-dispatch_in_copy-dispatch-requires-clause-long g c = as_long g.L.StateLanes.heads g.L.StateLanes.ends
-    c.args.from.now c.args.to.now c.requires.can.is.0.kept c.requires.to
+dispatch_in_copy-dispatch-requires-clause-long g c =
+    let from = c.requires.can.is.0.kept in let to = c.requires.to
+    in record {
+      positions = to.positions ∙ sym from.kept.heads.positions;
+      jobs = to.jobs_with_ends ∙ sym from.ends.jobs;
+      nexts = to.jobs_with_nexts ∙ sym from.are_next.jobs;
+    }
 
 pub advance_below-requires-clause-can : goal.advance_below-requires-clause-can
 advance_below-requires-clause-can g c =
     let copied = c.dispatch_in_copy-dispatch.ensures.copied
     in candidate_can c.grid-grid.ensures.grid c.dispatch_in_copy-dispatch.ensures.job
     (kept_copied refl copied.heads_are copied.ends_are copied.nexts_are c.requires.can.is.0.kept) c.requires.can.is.1
-    (bound_there c.requires.can.is.0 c.requires.can.bound_is) c.range_of-range.ensures.least (rw
-    c.as_mut_slice-raises.ensures.value c.requires.scratch.machines)
+    (bound_there c.requires.can.is.0 c.requires.can.bound_is) c.range_of-range.ensures.least c.requires.scratch.machines
     (subst (λ (xs : List ℕ). AreChildCeilings c.args.self.now.shop c.requires.can.word
     c.args.self.now.layout c.args.candidate.job xs) (sym c.as_slice-ceilings.ensures.value) c.requires.can.is.2)
 
@@ -39,12 +47,3 @@ returns-clause-state g c = λ w of candidate.
     c.dispatch_in_copy-dispatch.ensures.job
     (kept_copied refl copied.heads_are copied.ends_are copied.nexts_are of.kept) candidate.fits
     c.advance_below.result _ _ _ c.advance_below.ensures.state)
-
-pub advance_below-requires-clause-at_rest : goal.advance_below-requires-clause-at_rest
-advance_below-requires-clause-at_rest g c = rw c.as_mut_slice-raises.ensures.value c.requires.scratch.at_rest
-
-pub returns-clause-scratch : goal.returns-clause-scratch
-returns-clause-scratch g c = scratch_again g.L.StateLanes.value c.args.scratch.now.raises
-    c.advance_below.new.raises c.as_mut_slice-raises.ensures.value c.advance_below.ensures.machines
-    c.advance_below.ensures.rest
-    c.requires.scratch

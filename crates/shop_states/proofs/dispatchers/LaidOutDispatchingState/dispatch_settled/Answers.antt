@@ -1,14 +1,23 @@
+use Rattle.std.proofs.Common.{refl}
 use Rattle.shop_states.proofs.AskedStates.{kept_on}
-use Rattle.shop_states.proofs.ReadStates.{goes_on}
+use Rattle.shop_states.proofs.ReadStates.{kept_read}
 use Rattle.shop_states.proofs.dispatchers.LaidOutDispatchingState.dispatch_settled.Goals as goal
 
 pub of-dispatch-requires : goal.of-dispatch-requires
-of-dispatch-requires g c =
-    goes_on c.grid-grid.ensures.grid c.requires.can.is.0.kept c.requires.can.is.1.fits
+of-dispatch-requires g c = record {
+  shop = c.args.self.now.shop;
+  word = c.requires.can.word;
+  kept = kept_read c.grid-grid.ensures.grid refl c.requires.can.is.0.kept;
+  fits = c.requires.can.is.1.fits;
+}
 
 pub advance-requires-clause-can : goal.advance-requires-clause-can
-advance-requires-clause-can g c = rw c.of-dispatch.ensures.job
-    (goes_on c.grid-grid.ensures.grid c.requires.can.is.0.kept c.requires.can.is.1.fits)
+advance-requires-clause-can g c = record {
+  shop = c.args.self.now.shop;
+  word = c.requires.can.word;
+  kept = kept_read c.grid-grid.ensures.grid refl c.requires.can.is.0.kept;
+  fits = rw c.of-dispatch.ensures.job c.requires.can.is.1.fits;
+}
 
 pub returns-clause-state : goal.returns-clause-state
 returns-clause-state g c = λ told w of candidate. kept_on of (rw (c.grid-grid.ensures.grid, c.of-dispatch.ensures.job)

@@ -1,0 +1,106 @@
+// Raises heads after an operation is dispatched, where the bound is known: nothing is noted.
+ghost use Rattle.std.specs.Prelude.{◌≤◌, ◌<◌, [], length, slice_index};
+ghost use Rattle.shop_layout.specs.Lanes.{rows_of};
+ghost use Rattle.shop_states.specs.inner.Dispatches.{AreDelayedOn};
+ghost use Rattle.shop_states.specs.inner.Raises.{AreWaiting, HasBlocks, IsOnMachine, IsPosition, IsRaisable, Raises};
+ghost use Rattle.shop_states.specs.inner.RisingLists.{IsIn};
+
+use crate::dispatches::{Dispatch, MOST_MARKED};
+use crate::raises::{OpenRoutes, set_end_at};
+use shop_lanes::{Marks, StateLanes};
+use shop_layout::{Grid, Routes};
+
+/// Does what `raise_route` does, but notes nothing.
+#[inline(always)]
+fn delay_route<L: StateLanes>(lanes: &mut L, routes: &Routes, position: usize, end: u64)
+    requires waits { 0 < slice_index (L.heads lanes.old) position }
+    requires below { slice_index (L.heads lanes.old) position ≤ end }
+    requires raisable { IsRaisable L.GREATEST routes.now []
+        (rows_of routes.now (L.heads lanes.old) (L.ends lanes.old)) (IsPosition position) end }
+    ensures { Raises L.GREATEST routes.now [] (IsPosition position) end
+        (rows_of routes.now (L.heads lanes.old) (L.ends lanes.old))
+        (rows_of routes.now (L.heads lanes.new) (L.ends lanes.new)) }
+{
+    lanes.set_head(position, end);
+    let mut ready = end + routes.time(position);
+    let mut index = routes.behind(position);
+    loop {
+        let leg = routes.leg(index);
+        let here = leg.position as usize;
+        let head = lanes.head_or_greatest(here);
+        if ready <= head {
+            return;
+        }
+        lanes.set_head(here, ready);
+        ready += leg.time;
+        index += 1;
+    }
+}
+
+/// Does what `raise_from` does, but notes nothing.
+#[inline(always)]
+fn delay_from<L: StateLanes>(lanes: &mut L, ahead: &OpenRoutes, position: usize, end: u64)
+    requires waits { 0 < slice_index (L.heads lanes.old) position }
+    requires below { slice_index (L.heads lanes.old) position ≤ end }
+    requires raisable { IsRaisable L.GREATEST ahead.now.routes ahead.now.next.now
+        (rows_of ahead.now.routes (L.heads lanes.old) (L.ends lanes.old)) (IsPosition position) end }
+    requires jobs { length ahead.now.routes.places ≤ length ahead.now.next.now }
+    ensures { Raises L.GREATEST ahead.now.routes ahead.now.next.now (IsPosition position) end
+        (rows_of ahead.now.routes (L.heads lanes.old) (L.ends lanes.old))
+        (rows_of ahead.now.routes (L.heads lanes.new) (L.ends lanes.new)) }
+{
+    set_end_at(lanes, &ahead.routes, ahead.next, position, end);
+    delay_route(lanes, &ahead.routes, position, end);
+}
+
+/// Does what `raise_marked` does, but notes nothing.
+#[inline(always)]
+fn delay_marked<L: StateLanes>(lanes: &mut L, ahead: &OpenRoutes, marks: Marks, end: u64)
+    requires marks { AreWaiting (L.heads lanes.old) marks }
+    requires raisable { IsRaisable L.GREATEST ahead.now.routes ahead.now.next.now
+        (rows_of ahead.now.routes (L.heads lanes.old) (L.ends lanes.old)) (IsIn marks) end }
+    requires jobs { length ahead.now.routes.places ≤ length ahead.now.next.now }
+    ensures { Raises L.GREATEST ahead.now.routes ahead.now.next.now (IsIn marks) end
+        (rows_of ahead.now.routes (L.heads lanes.old) (L.ends lanes.old))
+        (rows_of ahead.now.routes (L.heads lanes.new) (L.ends lanes.new)) }
+{
+    let mut todo = marks;
+    while let Some(position) = todo.pop_first() {
+        if lanes.head(position) < end {
+            delay_from(lanes, ahead, position, end);
+        }
+    }
+}
+
+/// Raises each head below the end of a dispatch on its machine to that end, then every later head on its route that is
+/// now too early, and updates the ends of next operations. Does what `raise` does, for machines of any number of blocks
+/// in one form, but notes nothing: each head that rises takes fewer steps, and no machine can be bounded afterwards.
+#[inline(always)]
+pub(crate) fn delay<L: StateLanes>(lanes: &mut L, grid: &Grid<L>, next: &[u32], dispatch: Dispatch)
+    requires machine { HasBlocks grid.now (length (L.heads lanes.old)) dispatch.machine }
+    requires delayed { AreDelayedOn grid.now dispatch.machine dispatch.end (L.heads lanes.old)
+        dispatch.delayed }
+    requires fits { dispatch.end ≤ L.GREATEST }
+    requires raisable { IsRaisable L.GREATEST grid.now next.now
+        (rows_of grid.now (L.heads lanes.old) (L.ends lanes.old))
+        (IsOnMachine grid.now dispatch.machine) dispatch.end }
+    requires jobs { length grid.now.places ≤ length next.now }
+    ensures { Raises L.GREATEST grid.now next.now (IsOnMachine grid.now dispatch.machine) dispatch.end
+        (rows_of grid.now (L.heads lanes.old) (L.ends lanes.old))
+        (rows_of grid.now (L.heads lanes.new) (L.ends lanes.new)) }
+{
+    let routes = grid.routes();
+    let ahead = OpenRoutes { routes, next };
+    let behind = grid.block(dispatch.machine + 1);
+    let end = dispatch.end;
+    let mut from = grid.block(dispatch.machine);
+    let mut marks = dispatch.delayed;
+    loop {
+        delay_marked(lanes, &ahead, marks, end);
+        from += (behind - from).min(MOST_MARKED);
+        if from == behind {
+            return;
+        }
+        marks = lanes.below(from, from + (behind - from).min(MOST_MARKED), end);
+    }
+}
