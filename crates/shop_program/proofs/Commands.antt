@@ -1,6 +1,7 @@
 -- A command that is set to need a subcommand reads as the simple command that needs one.
-use Rattle.std.proofs.Common.{◌≡◌, ◌∙◌, true, ap}
-use Rattle.clap.specs.Simple.{app_of_fields}
+use Rattle.std.proofs.Common.{arith}
+use Rattle.std.proofs.lemmas.Grind.{common_steps}
+use Rattle.std.proofs.Common.{◌≡◌, true}
 use Rattle.clap.specs.Words.{App}
 use Rattle.clap.specs.declared.builder.command.Command.{Command}
 use Rattle.clap.specs.declared.builder.command.Command.TheViews.{out-Command}
@@ -9,8 +10,4 @@ use Rattle.shop_program.specs.CommandLine.{IsCommandOf, needing_subcommand}
 pub needs_subcommand : (app : App) (old new : Command)
     → IsCommandOf app old → out-Command new ≡ record (out-Command old) { subcommand_required = true } →
     IsCommandOf (needing_subcommand app) new
-needs_subcommand app old new is same = (
-  ap app_of_fields same ∙ ap needing_subcommand is.0,
-  ap (λ f.
-      f.has_globals) same ∙ is.1,
-)
+needs_subcommand app old new is same = grind (arith, common_steps, is.0, is.1)

@@ -1,9 +1,10 @@
 -- What the getters of clap's matches read, by the rows of the matches.
+use Rattle.std.proofs.lemmas.Grind.{common_steps}
 use Rattle.std.specs.Str.Parse.{IsNumeral, digits_value, without_leading_plus}
-use Rattle.std.proofs.Common.{arith, ◌<◌, ◌^◌, ◌≡◌, ◌∙◌, ℕ, sym, ap, subst, Option, Some, None, Bool, true, false, refl}
+use Rattle.std.proofs.Common.{arith, ◌<◌, ◌^◌, ◌≡◌, ◌∙◌, ℕ, sym, ap, Option, Some, None, Bool, true, false}
 use Rattle.std.proofs.Common.{codes, Result, Ok, Err}
 use Rattle.std.specs.Result.{IsErrAnd}
-use Rattle.clap.specs.Words.{Text, first_value, one_of, one_text, rows_of}
+use Rattle.clap.specs.Words.{Text, first_value, one_text, rows_of}
 use Rattle.clap.specs.declared.parser.matches.Found.{Found}
 use Rattle.clap.proofs.WalkLemmas.{first_value-rows, one_text-rows}
 use Rattle.shop_program.specs.CommandLine.{HasText, HasNumber, HasFlag, MayHave, NumberIs, UnlessNoMemory}
@@ -20,19 +21,11 @@ may_have f id text given = sym (first_value-rows f id) ∙ sym given
 
 pub has_number : (f : Found) (id : Text) (n : ℕ) → (one_text f id ≡ None → Some n ≡ None)
     → ((t : Text) → one_text f id ≡ Some t → NumberIs t n) → HasNumber (rows_of f) id n
-has_number f id n none some = go (one_text f id) (sym (one_text-rows f id)) none some
-  where
-    go : (o : Option Text) → one_of id (rows_of f) ≡ o → (o ≡ None → Some n ≡ None)
-        → ((t : Text) → o ≡ Some t → NumberIs t n) → HasNumber (rows_of f) id n
-    go None e none some = absurd (let bad : Some n ≡ None = none refl in cc)
-    go (Some t) e none some = (t, e, some t refl)
+has_number f id n none some = grind (arith, common_steps, one_text-rows)
 
 pub has_flag : (f : Found) (id : Text) (flag : Bool) → (one_text f id ≡ Some (codes "true") → flag ≡ true)
     → (one_text f id ≡ Some (codes "false") → flag ≡ false) → HasFlag (rows_of f) id flag
-has_flag f id flag given absent = record {
-  given = λ e. given (one_text-rows f id ∙ e);
-  absent = λ e. absent (one_text-rows f id ∙ e);
-}
+has_flag f id flag given absent = grind (arith, common_steps, one_text-rows)
 
 -- ---- what isn't there
 
@@ -53,9 +46,7 @@ pub no_number : (f : Found) (id : Text) (n : ℕ)
     → ((t : Text) → one_text f id ≡ Some t
     → IsNumeral 10 (without_leading_plus t) × (digits_value 10 (without_leading_plus t) < 2 ^ 64) → ⊥)
     → n < 2 ^ 64 → HasNumber (rows_of f) id n → ⊥
-no_number f id n unread fits has =
-    let is = has.2.1
-    in unread has.0 (one_text-rows f id ∙ has.1) (has.2.0, omega arith)
+no_number f id n unread fits has = grind (arith, common_steps, one_text-rows, has.2.1, has.0, has.1, has.2.0)
 
 -- what follows where it isn't want of memory
 pub weaker : (P Q : Type 0) → (P → Q) → (fault : LineFault) → UnlessNoMemory P fault → UnlessNoMemory Q fault
@@ -66,6 +57,4 @@ weaker P Q f (Usage error) h = f h
 pub passed_on : {A : Type 0} (P : Type 0) (Is : A → Type 0) (r : Result A LineFault) (fault : LineFault)
     → (P → (value : A) → Is value → ⊥) → UnlessNoMemory P fault → IsErrAnd r (λ e. e ≡ fault) → Reads Is r
 passed_on P Is (Ok value) fault h p is = absurd is
-passed_on {A = A} P Is (Err e) fault h p is =
-    let none : Type 0 = (value : A) → Is value → ⊥ in
-    subst (UnlessNoMemory none) (sym is) (weaker P none h fault p)
+passed_on {A = A} P Is (Err e) fault h p is = grind (arith, common_steps, weaker)

@@ -1,4 +1,6 @@
 -- A line is what its subcommand's matches say.
+use Rattle.std.proofs.Common.{arith}
+use Rattle.std.proofs.lemmas.Grind.{common_steps}
 use Rattle.std.proofs.Common.{◌≡◌, ◌∙◌, sym, ap, subst, refl, Option, Some, None, List, Bool, true, false, inl, inr}
 use Rattle.std.specs.Prelude.{option_map, Result, Ok, Err, IfOk, IfErr}
 use Rattle.clap.specs.Words.{HasMatchesOf, Row, Text, app_of, is_simple, subcommand_name_of}
@@ -37,10 +39,7 @@ together : {B : Type 0} (name_in : B → Text) (rows_in : B → List Row) (sub :
     (beside name_in rows_in) sub)
     → option_map (beside name_in rows_in) sub ≡ Some (name, rows)
 together name_in rows_in None name rows is has = absurd (cc)
-together name_in rows_in (Some b) name rows is has =
-    let first : name_in b ≡ name = cc in
-    let second : rows_in b ≡ rows = cc in
-    ap Some (pair (name_in b) name (rows_in b) rows first second)
+together name_in rows_in (Some b) name rows is has = grind (arith, common_steps, pair)
 
 -- a parse reads what the matches have
 read_of : (words : List Text) (matches : ArgMatches) (command : Command) (sub : Option (Text × List Row))
@@ -111,15 +110,12 @@ none_of (Some p) e = absurd cc
 pub unread_without : (words : List Text) (matches : ArgMatches) (command : Command)
     → IsCommandLine command → HasMatchesOf (app_of command) words matches
     → None ≡ option_map (λ (p : Text × List Row). p.1) (subcommand_rows_of matches) → IsUnread words
-unread_without words matches command line has none =
-    unread_by words matches command None line has (none_of (subcommand_rows_of matches) none)
-    (λ args m e given. absurd cc)
+unread_without words matches command line has none = grind (arith, common_steps, unread_by, none_of)
 
 by_kind : (P : Type 0) (fault : Error) (kind : ErrorKind) (taken : Bool) → (taken ≡ false → P)
     → (taken ≡ true → kind ≡ OutOfMemory) → UnlessNoMemory P (line_fault_by kind fault)
-by_kind P fault kind false p memory = unless P (line_fault_by kind fault) (p refl)
-by_kind P fault kind true p memory =
-    subst (λ (k : ErrorKind). UnlessNoMemory P (line_fault_by k fault)) (sym (memory refl)) tt
+by_kind P fault kind false p memory = grind (arith, common_steps, unless)
+by_kind P fault kind true p memory = grind (arith, common_steps)
 
 -- clap doesn't take the words
 pub untaken : (words : List Text) (command : Command) (fault : Error) → IsCommandLine command
