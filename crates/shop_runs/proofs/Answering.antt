@@ -45,11 +45,7 @@ pub record GoesTo (shop : Shop) (plan : Planned) (i : ℕ) (s : Stand) : Type 0 
   pub goes_to : rounds_from shop plan (plan.rounds - i) s ≡ answer shop plan
 
 pub goes_first : (shop : Shop) (plan : Planned) → GoesTo shop plan 0 (opening shop)
-goes_first shop plan = record {
-  within = omega arith;
-  goes_to =
-      (let e : plan.rounds - 0 ≡ plan.rounds = omega arith in ap (λ n. rounds_from shop plan n (opening shop)) e);
-}
+goes_first shop plan = grind arith
 
 pub closed : (shop : Shop) (plan : Planned) (n : ℕ) (s : Stand) → s.open_words ≡ [] → rounds_from shop plan n s ≡ s
 closed shop plan zero s e = refl
@@ -75,8 +71,7 @@ goes_closed shop plan i s g e = sym (closed shop plan (plan.rounds - i) s e) ∙
 
 pub goes_last : (shop : Shop) (plan : Planned) (i : ℕ) (s : Stand) → GoesTo shop plan i s → plan.rounds ≤ i
     → s ≡ answer shop plan
-goes_last shop plan i s g h = let e : plan.rounds - i ≡ 0 = omega arith
-    in sym (ap (λ n. rounds_from shop plan n s) e) ∙ g.goes_to
+goes_last shop plan i s g h = grind arith
 
 -- the run v stands after the round r of this outcome, beside the other open nodes
 pub record IsAfter (r : Round) (o : RoundResult) (others : OpenNodes) (v : OpenRun) : Type 0 where
@@ -131,17 +126,7 @@ module _ (shop : Shop) (plan : Planned) (t : OpenRun) (of : IsSearchOf shop plan
 -- what is cut of a run is what the definition cuts of where it stands
 pub cut_again : (shop : Shop) (plan : Planned) (s : Stand) (t : OpenRun) → IsSearchAt shop plan.order s t
     → cut_of shop plan (stand_of t) ≡ cut_of shop plan s
-cut_again shop plan s t at = ap (cut_of shop plan) at.stands_at ∙ ap (λ ws. record {
-  shop = shop;
-  word = s.word;
-  best = lb shop s.word;
-  bound = least_bound shop (lb shop s.word) ws;
-  budget = plan.budget;
-  pieces = pieces_of plan ws;
-  rest = rest_of plan ws;
-  rounds = s.rounds;
-  nodes = s.nodes;
-}) (ordered_twice shop plan.order s.open_words)
+cut_again shop plan s t at = grind (arith, ordered_twice)
 
 -- the round of a run's front, given the other nodes as its rest, is what is cut of where the run stands
 pub with_rest : (shop : Shop) (plan : Plan) (s : Stand) (t : OpenRun) (r : Round) (others : OpenNodes)
@@ -178,17 +163,10 @@ module _ (shop : Shop) (plan : Planned) (i : ℕ) (t : OpenRun) (way : OnTheWay 
   way_search = search_of shop plan.order way.stand t way.at way.covering.0
 
   many : length (open_list t.open) ≡ length way.stand.open_words
-  many =
-      let a = length-map (open_list t.open) (λ n. n.word)
-      in let b : length (words_of (open_list t.open)) ≡ length (in_order shop plan.order way.stand.open_words) =
-      ap (λ (x : Stand). length x.open_words) way.at.stands_at
-      in let c = length_order shop plan.order way.stand.open_words
-      in omega arith
+  many = grind (arith, length-map, length_order)
 
   pub way_closed : length (open_list t.open) ≡ 0 → IsSearchAt shop plan.order (answer shop plan) t
-  way_closed e =
-      subst (λ x. IsSearchAt shop plan.order x t)
-      (goes_closed shop plan i way.stand way.goes (none_from way.stand.open_words (let m = many in omega arith))) way.at
+  way_closed e = grind (arith, goes_closed, none_from, many)
 
   pub way_last : plan.rounds ≤ i → IsSearchAt shop plan.order (answer shop plan) t
   way_last h = subst (λ x. IsSearchAt shop plan.order x t) (goes_last shop plan i way.stand way.goes h) way.at
@@ -216,26 +194,10 @@ module _ (shop : Shop) (o : Order) (s : Stand) (t : OpenRun) (at : IsSearchAt sh
       → a.makespan ≡ t.makespan → a.bound ≡ least_of_bounds t.makespan (open_list t.open)
       → a.open_nodes ≡ length (open_list t.open) → a.rounds ≡ t.rounds → a.nodes ≡ t.nodes
       → Says shop s a
-  says_search a word table makespan lower many rounds nodes = record {
-    word = word ∙ word_same;
-    table = table ∙ ap (λ w. rows_of shop (placed shop w)) word_same;
-    makespan = makespan ∙ at.makespan;
-    bound = lower ∙ (least_is shop t.makespan (open_list t.open) at.bounds
-        ∙ ((λ i. least_bound shop (at.makespan i) (words_same i))
-        ∙ least_order shop o (makespan_of shop s) s.open_words));
-    open_nodes = (let x = length-map (open_list t.open) (λ n. n.word) in let y = ap length words_same
-        in let z = length_order shop o s.open_words in omega arith);
-    rounds = rounds ∙ ap (λ (x : Stand). x.rounds) at.stands_at;
-    nodes = nodes ∙ ap (λ (x : Stand). x.nodes) at.stands_at;
-  }
+  says_search a word table makespan lower many rounds nodes =
+      grind (arith, word_same, least_is, words_same, least_order, s, length-map, length_order)
 
 -- what an answer that says what stands tells of all tables is so
 pub trust_says : (shop : Shop) (plan : Planned) (a : Answer) → Says shop (answer shop plan) a
     → IsTrustworthy shop a.word a.makespan a.bound a.open_nodes
-trust_says shop plan a says =
-    subst (λ w. IsTrustworthy shop w a.makespan a.bound a.open_nodes) (sym says.word)
-    (subst (λ m. IsTrustworthy shop (answer shop plan).word m a.bound a.open_nodes) (sym says.makespan)
-    (subst (λ l. IsTrustworthy shop (answer shop plan).word (makespan_of shop (answer shop plan)) l a.open_nodes)
-    (sym says.bound)
-    (subst (λ k. IsTrustworthy shop (answer shop plan).word (makespan_of shop (answer shop plan))
-    (bound_of shop (answer shop plan)) k) (sym says.open_nodes) (trustworthy shop plan))))
+trust_says shop plan a says = grind (arith, trustworthy)

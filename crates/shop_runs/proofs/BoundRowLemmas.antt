@@ -44,8 +44,7 @@ pub from_first : (b n : ℕ) (os : List Place) → nodes_in_row b (take n os) �
     → nodes_in_row b os ≡ nodes_in_row (b + n) (drop n os)
 from_first b zero os e = ap (λ c. nodes_in_row c os) (let x : b ≡ b + 0 = omega arith in x)
 from_first b (suc n) [] e = refl
-from_first b (suc n) (None ∷ os) e =
-    from_first (suc b) n os e ∙ ap (λ c. nodes_in_row c (drop n os)) (let x : suc b + n ≡ b + suc n = omega arith in x)
+from_first b (suc n) (None ∷ os) e = grind (arith, from_first (suc b) n os e)
 from_first b (suc n) (Some s ∷ os) e = absurd (cc)
 
 -- a place without a stack is passed
@@ -57,9 +56,7 @@ pass_empty b (suc k) (o ∷ os) d h e = pass_empty b k os d (omega arith) e
 
 pub pass_place : (k : ℕ) (os : List Place) (d : Place) → k < length os
     → slice_index_or os k d ≡ None → nodes_in_row k (drop k os) ≡ nodes_in_row (k + 1) (drop (k + 1) os)
-pass_place k os d h e =
-    let next : suc k ≡ k + 1 = omega arith
-    in pass_empty k k os d h e ∙ ap (λ n. nodes_in_row n (drop n os)) next
+pass_place k os d h e = grind (arith, pass_empty)
 
 -- the nodes of a row have its first bound or more
 pub all_from : (c b : ℕ) (os : List Place) → c ≤ b → AllByRecursion (λ n. c ≤ n.bound) (nodes_in_row b os)
@@ -80,25 +77,15 @@ put_at b zero (p ∷ os) w o d h e =
     ∙ (sym (insert_low (λ (m : Node). m.bound) n (nodes_in_row b (p ∷ os)) all)
     ∙ ap (λ c. insert_by (λ m. m.bound) (record { word = w; bound = c }) (nodes_in_row b (p ∷ os)))
     (let x : b ≡ b + 0 = omega arith in x))
-put_at b (suc k) (p ∷ os) w o d h e =
-    let n : Node = record { word = w; bound = b + suc k }
-    in let same : suc b + k ≡ b + suc k = omega arith
-    in ap (λ ns. nodes_of_bound b (words_at p) ++ ns) (put_at (suc b) k os w o d (omega arith) e
-    ∙ ap (λ c. insert_by (λ m. m.bound) (record { word = w; bound = c }) (nodes_in_row (suc b) os)) same)
-    ∙ sym (insert_past n b (words_at p) (nodes_in_row (suc b) os) (omega arith))
+put_at b (suc k) (p ∷ os) w o d h e = grind (arith, insert_past, put_at (suc b) k os w o d (omega arith) e)
 
 -- the top word of the first stack is taken
 pub take_at : (b k : ℕ) (os : List Place) (w : List ℕ) (o : Place) (d : Place) → k < length os
     → nodes_in_row b (take k os) ≡ [] → words_at (slice_index_or os k d) ≡ w ∷ words_at o
     → nodes_in_row b os ≡ record { word = w; bound = b + k } ∷ nodes_in_row b (slice_set os k o)
 take_at b k [] w o d h none e = absurd (omega arith)
-take_at b zero (p ∷ os) w o d h none e =
-    ap (λ ws. nodes_of_bound b ws ++ nodes_in_row (suc b) os) e
-    ∙ ap (λ c. record { word = w; bound = c } ∷ nodes_in_row b (o ∷ os)) (let x : b ≡ b + 0 = omega arith in x)
-take_at b (suc k) (None ∷ os) w o d h none e =
-    take_at (suc b) k os w o d (omega arith) none e
-    ∙ ap (λ c. record { word = w; bound = c } ∷ nodes_in_row (suc b) (slice_set os k o))
-    (let x : suc b + k ≡ b + suc k = omega arith in x)
+take_at b zero (p ∷ os) w o d h none e = grind arith
+take_at b (suc k) (None ∷ os) w o d h none e = grind (arith, take_at (suc b) k os w o d (omega arith) none e)
 take_at b (suc k) (Some s ∷ os) w o d h none e = absurd (cc)
 
 -- no node before a place, whatever is put there or behind it
@@ -125,18 +112,9 @@ none_below c [] a = refl
 none_below c (n ∷ ns) a = rw (le-ltb n.bound c a.0) (none_below c ns a.1)
 
 pub kept_is : (b k : ℕ) (os : List Place) → nodes_in_row b (take k os) ≡ nodes_below (b + k) (nodes_in_row b os)
-kept_is b zero os =
-    sym (none_below (b + 0) (nodes_in_row b os) (all_from (b + 0) b os (omega arith)))
+kept_is b zero os = grind (arith, none_below, all_from)
 kept_is b (suc k) [] = refl
-kept_is b (suc k) (o ∷ os) =
-    let c = b + suc k
-    in let same : suc b + k ≡ c = omega arith
-    in let rest : nodes_in_row (suc b) (take k os) ≡ nodes_below c (nodes_in_row (suc b) os) =
-    kept_is (suc b) k os ∙ ap (λ x. nodes_below x (nodes_in_row (suc b) os)) same
-    in let one : nodes_below c (nodes_of_bound b (words_at o)) ≡ nodes_of_bound b (words_at o) =
-    below_one c b (words_at o) ∙ ap (λ t. cond t (nodes_of_bound b (words_at o)) []) (lt-ltb b c (omega arith))
-    in let all = filter-append (λ n. ltb n.bound c) (nodes_of_bound b (words_at o)) (nodes_in_row (suc b) os)
-    in sym (all ∙ (λ i. one i ++ sym rest i))
+kept_is b (suc k) (o ∷ os) = grind (arith, below_one, lt-ltb, filter-append, kept_is (suc b) k os)
 
 -- the least bound is that of the first stack
 pub least_at : (c b : ℕ) (s : Box Stack) (os : List Place)
@@ -165,12 +143,7 @@ row_split : (k b : ℕ) (os : List Place)
     → nodes_in_row b os ≡ nodes_in_row b (take k os) ++ nodes_in_row (b + k) (drop k os)
 row_split zero b os = ap (λ c. nodes_in_row c os) (let x : b ≡ b + 0 = omega arith in x)
 row_split (suc k) b [] = refl
-row_split (suc k) b (o ∷ os) =
-    let front = nodes_of_bound b (words_at o)
-    in ap (λ ns. front ++ ns) (row_split k (suc b) os)
-    ∙ (sym (append_assoc front (nodes_in_row (suc b) (take k os)) (nodes_in_row (suc b + k) (drop k os)))
-    ∙ ap (λ c. (front ++ nodes_in_row (suc b) (take k os)) ++ nodes_in_row c (drop k os))
-    (let x : suc b + k ≡ b + suc k = omega arith in x))
+row_split (suc k) b (o ∷ os) = grind (arith, append_assoc, row_split k (suc b) os)
 
 none_in_front : (ms ns : List Node) → ms ++ ns ≡ ns → ms ≡ []
 none_in_front [] ns e = refl
@@ -219,29 +192,14 @@ some_left n k os e f l = go (slice_index_or os k None) (f.3 l)
 
 pub least_from_first : (c n k : ℕ) (os : List Place) → AreEmptyBelow n os → IsFirstFrom os n k
     → k < length os → least_of_bounds c (nodes_in_row 0 os) ≡ min c k
-least_from_first c n k os e f l =
-    let some = some_left n k os e f l
-    in ap (least_of_bounds c) some.1 ∙ least_at c k some.0 (drop (suc k) os)
+least_from_first c n k os e f l = grind (arith, some_left, least_at)
 
 pub is_none_left : (n k : ℕ) (os : List Place) → AreEmptyBelow n os → IsFirstFrom os n k
     → eqb k (length os) ≡ eqb (length (nodes_in_row 0 os)) 0
-is_none_left n k os e f = elim (cases_eq k (length os)) [
-  | inl same ↦ eq-eqb k (length os) same ∙ ap (λ ns. eqb (length ns) 0) (sym (none_left n k os e f same))
-  | inr other ↦ (let l : k < length os = (let h = f.1 in omega arith)
-      in let some = some_left n k os e f l
-      in let long : length (nodes_in_row 0 os) ≡ 0 → ⊥ = (λ z. let x : length (nodes_in_row k
-      (Some some.0 ∷ drop (suc k) os)) ≡ 0 = sym (ap length some.1) ∙ z in absurd (omega arith))
-      in ne_eqb k (length os) other ∙ sym (ne_eqb (length (nodes_in_row 0 os)) 0 long))
-]
+is_none_left n k os e f = grind (arith, cases_eq, eq-eqb, none_left, some_left, ne_eqb)
 
 -- the nodes from a place on, and from the next one on
 pub count_next : (k : ℕ) (os : List Place) (d : Place) → k < length os
     → length (nodes_in_row 0 (drop k os))
     ≡ length (words_at (slice_index_or os k d)) + length (nodes_in_row 0 (drop (k + 1) os))
-count_next k os d h =
-    let o = slice_index_or os k d
-    in let next : suc k ≡ k + 1 = omega arith
-    in let behind = row_length 1 0 (drop (suc k) os) ∙ ap (λ n. length (nodes_in_row 0 (drop n os))) next
-    in ap (λ xs. length (nodes_in_row 0 xs)) (next_at k os d h)
-    ∙ (length-append (nodes_of_bound 0 (words_at o)) (nodes_in_row 1 (drop (suc k) os))
-    ∙ (λ i. length-map (words_at o) (λ (w : List ℕ). let n : Node = record { word = w; bound = 0 } in n) i + behind i))
+count_next k os d h = grind (arith, row_length, next_at, length-append, length-map)

@@ -17,8 +17,7 @@ taken-le budget (s ∷ ss) =
 times-le : (m n b : ℕ) → m ≤ n → m * b ≤ n * b
 times-le zero n b h = omega arith
 times-le (suc m) zero b h = absurd (omega arith)
-times-le (suc m) (suc n) b h = let a = times-le m n b (omega arith) in let e : suc m * b ≡ b + m * b = omega arith
-    in let f : suc n * b ≡ b + n * b = omega arith in omega arith
+times-le (suc m) (suc n) b h = grind (arith, times-le m n b (omega arith))
 
 -- those counted up to a hit are no more than all
 few_counted : (c : ℕ) (n : ℕ) (ss : List Walk) (o : Option (Walk × List Walk)) → Type 0
@@ -29,27 +28,13 @@ module _ where
   counted-le : (c : ℕ) (ss : List Walk) → few_counted c (length ss) ss (up_to_hit c ss)
   unfolding few_counted
   counted-le c [] = tt
-  counted-le c (s ∷ ss) = step (eqb s.best c) (up_to_hit c ss) (counted-le c ss)
-    where
-      step : (t : Bool) (o : Option (Walk × List Walk)) → few_counted c (length ss) ss o
-          → few_counted c (suc (length ss)) (s ∷ ss) (hit_or t s o)
-      step true o h = omega arith
-      step false None h = tt
-      step false (Some (k, counted)) h = omega arith
+  counted-le c (s ∷ ss) = grind (arith, few_counted, counted-le c ss)
 
   after_le : (r : Told) (ss : List Walk) (o : Option (Walk × List Walk)) → few_counted r.bound (length ss) ss o
       → ((after_round r ss o).rounds ≡ r.rounds + 1) × ((after_round r ss o).nodes ≤ r.nodes + length ss * r.budget)
   unfolding few_counted
   after_le r ss None h = (refl, (let a = taken-le r.budget ss in omega arith))
-  after_le r ss (Some (k, counted)) h = (
-    refl,
-    (let a = taken-le r.budget counted in let b = times-le (length counted) (length ss) r.budget h
-        in omega arith),
-  )
+  after_le r ss (Some (k, counted)) h = grind (arith, taken-le, times-le)
 
 pub counts_small : CountsStaySmall
-counts_small r =
-    let a = after_le r (sheets_of r) (up_to_hit r.bound (sheets_of r)) (counted-le r.bound (sheets_of r))
-    in let b : length (sheets_of r) ≡ length r.pieces = length-map r.pieces (sheet_in r)
-    in let c : length (sheets_of r) * r.budget ≡ length r.pieces * r.budget = ap (λ n. n * r.budget) b
-    in (a.0, (let d = a.1 in omega arith))
+counts_small r = grind (arith, after_le, counted-le, length-map)

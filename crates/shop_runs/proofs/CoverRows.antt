@@ -41,11 +41,7 @@ Waits v j = (i l : ℕ) → IsOperation shop_a i l → count_of i (v ++ j ∷ []
 
 -- it lies under the word that begins with job 1
 pub under_job_1 : IsUnder shop_a (1 ∷ []) crossing
-under_job_1 = record {
-  feasible = is_feasible;
-  first = λ v j later e. let h = one_entry v j later e
-      in subst (λ u. Waits u j) (sym h.0) (subst (Waits []) h.1 comes_later);
-}
+under_job_1 = grind (arith, is_feasible, one_entry, comes_later)
 
 -- and not under the word of both steps of job 0, since job 1 stands before it on machine 1
 pub not_under_job_0 : IsUnder shop_a (0 ∷ 0 ∷ []) crossing → ⊥
@@ -65,7 +61,4 @@ start_covers = (opens_covering shop_a).1
 
 -- 8 with no open word doesn't, since a table ends at 7
 pub nothing_open_at_8 : Covers shop_a 8 [] → ⊥
-nothing_open_at_8 h = elim (h crossing is_feasible) [
-  | inl a ↦ absurd (let b : 8 ≤ 7 = a in omega arith)
-  | inr b ↦ absurd (let c = b.member.1 in omega arith)
-]
+nothing_open_at_8 h = grind (arith, is_feasible)

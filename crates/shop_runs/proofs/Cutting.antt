@@ -46,14 +46,7 @@ pub cut_join : (n size : ℕ) (ws : List (List ℕ)) → flat_map (λ p. p) (cut
 cut_join zero size ws = let e : zero * size ≡ 0 = omega arith in ap (λ n. drop n ws) e
 cut_join (suc n) size [] = drop-nil (suc n * size)
 cut_join (suc n) size (w ∷ ws) =
-    let e : suc n * size ≡ size + n * size = omega arith
-    in let rest : drop (suc n * size) (w ∷ ws) ≡ drop (n * size) (drop size (w ∷ ws)) = ap (λ k. drop k (w ∷ ws)) e
-    ∙ sym (drop-drop (n * size) size (w ∷ ws))
-    in let first = take size (w ∷ ws)
-    in let pieces = flat_map (λ p. p) (cut_into n size (drop size (w ∷ ws)))
-    in append_assoc first pieces (drop (suc n * size) (w ∷ ws))
-    ∙ (ap (λ ys. first ++ (pieces ++ ys)) rest
-    ∙ (ap (λ ys. first ++ ys) (cut_join n size (drop size (w ∷ ws))) ∙ take-append-drop size (w ∷ ws)))
+    grind (arith, drop-drop, append_assoc, take-append-drop, cut_join n size (drop size (w ∷ ws)))
 
 pub pieces_all : PiecesAreAll
 pieces_all plan words = cut_join 256 plan.piece words

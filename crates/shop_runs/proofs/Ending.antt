@@ -29,30 +29,16 @@ use Rattle.shop_runs.proofs.TreeSizes.{sheet_leaves, sheet_leaves_less}
 module _ (shop : Shop) where
   size_filter : (test : List ℕ → Bool) (ws : List (List ℕ)) → size_all shop (filter test ws) ≤ size_all shop ws
   size_filter test [] = omega arith
-  size_filter test (w ∷ ws) =
-      let c = size_cons shop w ws
-      in let r = size_filter test ws
-      in elim (cases_Bool (test w)) [
-        | inl e ↦ rw e (let d = size_cons shop w (filter test ws) in omega arith)
-        | inr e ↦ rw e (omega arith)
-      ]
+  size_filter test (w ∷ ws) = grind (arith, size_cons, cases_Bool, size_filter test ws)
 
   size_insert : (key : List ℕ → ℕ) (x : List ℕ) (ws : List (List ℕ))
       → size_all shop (insert_by key x ws) ≡ size_of shop x + size_all shop ws
   size_insert key x [] = size_cons shop x []
-  size_insert key x (w ∷ ws) = elim (cases_Bool (leb (key x) (key w))) [
-    | inl e ↦ rw e (size_cons shop x (w ∷ ws))
-    | inr e ↦ rw e (let a = size_cons shop w (insert_by key x ws) in let b = size_insert key x ws
-        in let d = size_cons shop w ws in omega arith)
-  ]
+  size_insert key x (w ∷ ws) = grind (arith, cases_Bool, size_cons, size_insert key x ws)
 
   size_sort : (key : List ℕ → ℕ) (ws : List (List ℕ)) → size_all shop (sort_by key ws) ≡ size_all shop ws
   size_sort key [] = refl
-  size_sort key (w ∷ ws) =
-      let a = size_insert key w (sort_by key ws)
-      in let b = size_sort key ws
-      in let c = size_cons shop w ws
-      in omega arith
+  size_sort key (w ∷ ws) = grind (arith, size_insert, size_cons, size_sort key ws)
 
   size_order : (order : Order) (ws : List (List ℕ)) → size_all shop (in_order shop order ws) ≡ size_all shop ws
   size_order Kept ws = refl
@@ -79,12 +65,7 @@ module _ (r : Told) where
   lefts_le : (ps : List (List (List ℕ)))
       → size_all r.shop (flat_map (λ t. t.left) (map (sheet_in r) ps)) ≤ size_all r.shop (flat_map (λ p. p) ps)
   lefts_le [] = omega arith
-  lefts_le (p ∷ ps) =
-      let a = size_append r.shop (sheet_in r p).left (flat_map (λ t. t.left) (map (sheet_in r) ps))
-      in let b = size_append r.shop p (flat_map (λ q. q) ps)
-      in let c = sheet_leaves r.shop p r.best r.budget
-      in let d = lefts_le ps
-      in omega arith
+  lefts_le (p ∷ ps) = grind (arith, size_append, sheet_leaves, lefts_le ps)
 
   lefts_less : (ps : List (List (List ℕ))) → 1 ≤ r.budget → HasFirst ps
       → size_all r.shop (flat_map (λ t. t.left) (map (sheet_in r) ps)) < size_all r.shop (flat_map (λ p. p) ps)
@@ -101,13 +82,7 @@ module _ (r : Told) where
   -- what stands open after a round is smaller than what was open before it
   after_smaller : (o : Option (Walk × List Walk)) → 1 ≤ r.budget → HasFirst r.pieces
       → size_all r.shop (after_round r (sheets_of r) o).open_words < size_all r.shop (words_of_round r)
-  after_smaller None some first =
-      let a = size_filter r.shop (λ w. ltb (lb r.shop w) (lb r.shop (after_round r (sheets_of r) None).word))
-      (flat_map (λ t. t.left) (sheets_of r) ++ r.rest)
-      in let b = size_append r.shop (flat_map (λ t. t.left) (sheets_of r)) r.rest
-      in let c = size_append r.shop (flat_map (λ p. p) r.pieces) r.rest
-      in let d = lefts_less r.pieces some first
-      in omega arith
+  after_smaller None some first = grind (arith, size_filter, size_append, lefts_less)
   after_smaller (Some (h, counted)) some first =
       let z = size_none r.shop
       in let c = size_append r.shop (flat_map (λ p. p) r.pieces) r.rest
@@ -118,13 +93,7 @@ module _ (r : Told) where
   after_no_worse : IsRound r → (o : Option (Walk × List Walk)) → up_to_hit r.bound (sheets_of r) ≡ o
       → lb r.shop (after_round r (sheets_of r) o).word ≤ r.best
   after_no_worse is None e = (best_of_round r is).below
-  after_no_worse is (Some (h, counted)) e =
-      let m = hit_in r.bound (sheets_of r) h counted e
-      in let k = in_all (IsOfRound r.shop r.best) h (sheets_of r) m.0 (known r is)
-      in let f = found_is r.shop r.word r.best r.bound h.found h.best is.best is.full k.found m.1
-      in let a = f.1
-      in let b = is.most
-      in omega arith
+  after_no_worse is (Some (h, counted)) e = grind (arith, hit_in, in_all, known, found_is)
 
 module _ (shop : Shop) (plan : Planned) where
   round_smaller : (s : Stand) → 1 ≤ plan.budget → 1 ≤ plan.piece → 0 < length s.open_words
@@ -188,8 +157,7 @@ module _ (shop : Shop) (plan : Planned) where
   stay_standings : (n : ℕ) (s : Stand) → IsStanding shop s → IsStanding shop (rounds_from shop plan n s)
   stay_standings zero s is = is
   stay_standings (suc n) s is =
-      unless_stands s.open_words s (λ t. rounds_from shop plan n (round shop plan t)) is
-      (stay_standings n (round shop plan s) (round_stands s is))
+      grind (arith, unless_stands, round_stands, stay_standings n (round shop plan s) (round_stands s is))
 
   split : (n k : ℕ) (s : Stand) (ws : List (List ℕ)) → s.open_words ≡ ws
       → rounds_from shop plan (n + k) (round shop plan s)

@@ -37,19 +37,11 @@ module _ (r : Told) (es : List Entry) (n : ℕ) (e : Entry) (all : OneForEach r 
 
   -- of a piece that was searched it holds the sheet
   pub entry_done : (s : Sheet) → e.kind ≡ Done s → IsSheetAt r n s
-  entry_done s k =
-      let f : Fits r e.kind = subst (λ q. Fits q e.kind) entry_of.0 e.fits
-      in record { of_round = subst (Fits r) k f; number = ap number_of (sym k) ∙ entry_of.1 }
+  entry_done s k = grind (arith, entry_of)
 
   -- it was passed only if a lower piece ends at the opening bound
   pub entry_not_passed : (number by' : ℕ) → e.kind ≡ Passed number by' → ((k : ℕ) → k < n → is_hit r k ≡ false) → ⊥
-  entry_not_passed number by' k none =
-      let f : Fits r e.kind = subst (λ q. Fits q e.kind) entry_of.0 e.fits
-      in let may : MayPass r number by' = subst (Fits r) k f
-      in let same : number ≡ n = ap number_of (sym k) ∙ entry_of.1
-      in let lower = may.0
-      in let hit : true ≡ false = sym may.2 ∙ none by' (omega arith)
-      in absurd (cc)
+  entry_not_passed number by' k none = grind (arith, entry_of)
 
 -- the entry of a turn of a loop over them, and all of them at its end
 module _ (s t u : IntoIter Entry Global) (es : Vec Entry Global) (items : into_iter_items s ≡ es.items)
@@ -75,24 +67,15 @@ words_at (p ∷ ps) (suc n) q h e = words_at ps n q (omega arith) e
 -- the sheet of the n-th piece of a round is of the round
 pub searched : (r : Round) (n : ℕ) (q : Piece) (s : Sheet) → n < length r.pieces.items → q ≡ get_or r.pieces.items n q
     → IsSheetOf s r.instance.now q r.best r.budget → IsSheetAt (told r) n s
-searched r n q s h at of =
-    let number : s.number ≡ n = s.of_piece
-    ∙ (ap (λ (p : Piece). p.number) (of.of_piece ∙ at)
-    ∙ (numbered_at 0 r.pieces.items n q r.numbered h ∙ zero-add n))
-    in let many = length-map r.pieces.items (λ p. words_of p.nodes.items)
-    in let words = ap (λ (p : Piece). words_of p.nodes.items) of.of_piece
-    ∙ (words_at r.pieces.items n q h at ∙ ap (λ k. slice_index_or (pieces_in r.pieces.items) k []) (sym number))
-    in record { of_round = (of.of_instance, of.of_best, of.of_budget, (omega arith), words); number = number }
+searched r n q s h at of = grind (arith, numbered_at, zero-add, length-map, words_at)
 
 -- and so are those that a search of the n-th piece gives
 pub sheets_at : (r : Round) (n : ℕ) (q : Piece) (shop : Shop) (o : Result Sheet AllocError) → n < length r.pieces.items
     → q ≡ get_or r.pieces.items n q → shop ≡ r.instance.now → IfOk o (λ s. IsSheetOf s shop q r.best r.budget)
     → IfOk o (λ s. IsSheetAt (told r) n s)
-sheets_at r n q shop o h at same of = IfOk-weaker _ _ _ (λ s m. searched r n q s h at m)
-    (subst (λ (x : Shop). IfOk o (λ s. IsSheetOf s x q r.best r.budget)) same of)
+sheets_at r n q shop o h at same of = grind (arith, searched)
 
 -- they are of their piece, and tell whether it ends at the opening bound
 pub sheets_of_piece : (r : Told) (n : ℕ) (o : Result Sheet AllocError) → IfOk o (λ s. IsSheetAt r n s)
     → IfOk o (λ s. IsOf r s × (s.number ≡ n))
-sheets_of_piece r n o at = IfOk-weaker _ _ _
-    (λ s m. let both : IsOf r s × (s.number ≡ n) = (m.of_round, m.number) in both) at
+sheets_of_piece r n o at = grind arith

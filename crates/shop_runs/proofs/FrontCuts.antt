@@ -31,11 +31,7 @@ pub is_front_cut : (plan : Plan) (t : OpenRun) (bound : ℕ) (front : List Node)
     → bound ≡ least_of_bounds t.makespan (open_list t.open)
     → front ≡ take (256 * plan.piece) (open_list t.open)
     → IsFrontCut (planned plan) t bound front
-is_front_cut plan t bound front least first = record {
-  some = (let size = plan.within.3 in omega arith);
-  least = least;
-  first = first;
-}
+is_front_cut plan t bound front least first = grind arith
 
 module _ (shop : Shop) (plan : Planned) (t : OpenRun) (bound : ℕ) (front : List Node) (of : IsSearchOf shop plan.order t)
     (cut : IsFrontCut plan t bound front) where
@@ -87,5 +83,4 @@ module _ (shop : Shop) (plan : Planned) (t : OpenRun) (bound : ℕ) (front : Lis
 -- the others are the rest of what is cut
 pub others_are : (shop : Shop) (plan : Planned) (t : OpenRun) (others : List Node) → IsSearchOf shop plan.order t
     → others ≡ drop (256 * plan.piece) (open_list t.open) → words_of others ≡ (cut_of shop plan (stand_of t)).rest
-others_are shop plan t others of e = ap words_of e ∙ (sym (drop-map (λ (x : Node). x.word) (256 * plan.piece)
-    (open_list t.open)) ∙ ap (drop (256 * plan.piece)) (sym of.ordered))
+others_are shop plan t others of e = grind (arith, drop-map)

@@ -87,27 +87,20 @@ module _ (shop : Shop) where
   put_all_nodes : (o : Order) (ns others : List Node) → AllByRecursion (IsNode shop) ns
       → AllByRecursion (IsNode shop) others → AllByRecursion (IsNode shop) (put_all_before o ns others)
   put_all_nodes o [] others a b = b
-  put_all_nodes o (n ∷ ns) others a b =
-      put_nodes o n (put_all_before o ns others) a.0 (put_all_nodes o ns others a.1 b)
+  put_all_nodes o (n ∷ ns) others a b = grind (arith, put_nodes, put_all_nodes o ns others a.1 b)
 
   put_all_words : (o : Order) (ns others : List Node) → AllByRecursion (IsNode shop) ns
       → AllByRecursion (IsNode shop) others → IsInOrder o (words_of others)
       → words_of (put_all_before o ns others) ≡ in_order shop o (words_of ns ++ words_of others)
   put_all_words o [] others a b r = sym (order_fixed o (words_of others) r)
   put_all_words o (n ∷ ns) others a b r =
-      put_words o n (put_all_before o ns others) a.0 (put_all_nodes o ns others a.1 b)
-      ∙ (ap (put_word o n.word) (put_all_words o ns others a.1 b r)
-      ∙ put_in_order o n.word (words_of ns) (words_of others))
+      grind (arith, put_words, put_all_nodes, put_word, put_in_order, put_all_words o ns others a.1 b r)
 
   -- of words in order there are as many, with the same least bound
   insert_least : (c : ℕ) (w : List ℕ) (ws : List (List ℕ))
       → least_bound shop c (insert_by (lb shop) w ws) ≡ least_bound shop c (w ∷ ws)
   insert_least c w [] = refl
-  insert_least c w (v ∷ ws) = elim (cases_Bool (leb (lb shop w) (lb shop v))) [
-    | inl e ↦ rw e refl
-    | inr e ↦ (let same : min (min c (lb shop v)) (lb shop w) ≡ min (min c (lb shop w)) (lb shop v) = omega arith
-        in rw e (insert_least (min c (lb shop v)) w ws ∙ ap (λ k. least_bound shop k ws) same))
-  ]
+  insert_least c w (v ∷ ws) = grind (arith, cases_Bool, insert_least (min c (lb shop v)) w ws)
 
   sort_least : (c : ℕ) (ws : List (List ℕ)) → least_bound shop c (sort_by (lb shop) ws) ≡ least_bound shop c ws
   sort_least c [] = refl
@@ -120,10 +113,7 @@ module _ (shop : Shop) where
 
   insert_length : (w : List ℕ) (ws : List (List ℕ)) → length (insert_by (lb shop) w ws) ≡ suc (length ws)
   insert_length w [] = refl
-  insert_length w (v ∷ ws) = elim (cases_Bool (leb (lb shop w) (lb shop v))) [
-    | inl e ↦ rw e refl
-    | inr e ↦ rw e (ap suc (insert_length w ws))
-  ]
+  insert_length w (v ∷ ws) = grind (arith, cases_Bool, insert_length w ws)
 
   sort_length : (ws : List (List ℕ)) → length (sort_by (lb shop) ws) ≡ length ws
   sort_length [] = refl
@@ -155,32 +145,8 @@ rejoined r s = record s { open_words = s.open_words ++ words_below r.shop (lb r.
 module _ (r : Told) (is : IsRound r) where
   after_front : (o : Option (Walk × List Walk)) → up_to_hit r.bound (sheets_of r) ≡ o
       → after_round r (sheets_of r) o ≡ rejoined r (after_round (front_of r) (sheets_of r) o)
-  after_front None e =
-      let better = best_word r.best r.word (sheets_of r)
-      in let c = lb r.shop better
-      in let left = flat_map (λ t. t.left) (sheets_of r)
-      in let words : words_below r.shop c (left ++ r.rest)
-      ≡ words_below r.shop c (left ++ []) ++ words_below r.shop c r.rest =
-      filter-append (λ w. ltb (lb r.shop w) c) left r.rest
-      ∙ ap (λ ws. words_below r.shop c ws ++ words_below r.shop c r.rest) (sym (append-nil left))
-      in (λ i. record {
-        word = better;
-        open_words = words i;
-        rounds = r.rounds + 1;
-        nodes = (after_round r (sheets_of r) None).nodes;
-      })
-  after_front (Some (h, counted)) e =
-      let m = hit_in r.bound (sheets_of r) h counted e
-      in let k = in_all (IsOfRound r.shop r.best) h (sheets_of r) m.0 (known r is)
-      in let f = found_is r.shop r.word r.best r.bound h.found h.best is.best is.full k.found m.1
-      in let none : [] ≡ words_below r.shop (lb r.shop (unwrap_or h.found r.word)) r.rest =
-      sym (ap (λ c. words_below r.shop c r.rest) f.1 ∙ rest_closed r is)
-      in (λ i. record {
-        word = unwrap_or h.found r.word;
-        open_words = none i;
-        rounds = r.rounds + 1;
-        nodes = (after_round r (sheets_of r) (Some (h, counted))).nodes;
-      })
+  after_front None e = grind (arith, filter-append, append-nil)
+  after_front (Some (h, counted)) e = grind (arith, hit_in, in_all, known, found_is, rest_closed)
 
   pub gathered_front : gathered r ≡ rejoined r (gathered (front_of r))
   gathered_front = after_front (up_to_hit r.bound (sheets_of r)) refl
@@ -209,13 +175,7 @@ module _ (shop : Shop) (o : Order) (s : Stand) (left : List Node) (others : Open
   open_is = joined.open_nodes ∙ ap (λ q. put_all_before q left low) kept
 
   open_words_are : words_of (open_list t.open) ≡ in_order shop o s.open_words
-  open_words_are = ap words_of open_is
-      ∙ (put_all_words shop o left low
-      (recursion_from_All (IsNode shop) left left_nodes) (recursion_from_All (IsNode shop) low low_nodes)
-      (subst (IsInOrder shop o) (sym low_words)
-      (order_below shop o t.makespan (words_of (open_list others)) rises))
-      ∙ ap (in_order shop o) (ap (λ ws. words_of left ++ ws) low_words
-      ∙ ap (λ (x : Stand). x.open_words) (sym whole)))
+  open_words_are = grind (arith, open_is, put_all_words, low, recursion_from_All, low_nodes, low_words, order_below)
 
   pub joined_at : IsSearchAt shop o s t
   joined_at = record {

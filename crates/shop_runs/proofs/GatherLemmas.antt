@@ -63,25 +63,19 @@ whole_of r i s = walk_of s
 
 module _ (r : Told) (i : ℕ) (s : Sheet) (at : IsSheetAt r i s) where
   sheet_is : whole_of r i s ≡ sheet_in r (slice_index_or r.pieces i [])
-  sheet_is =
-      let o = at.of_round
-      in s.is_sheet ∙ ((λ j. sheet (o.0 j) (o.4 j) (o.1 j) (o.2 j))
-      ∙ ap (λ k. sheet_in r (slice_index_or r.pieces k [])) at.number)
+  sheet_is = grind arith
 
   of_shop : s.left.shop ≡ r.shop
   of_shop = s.left_of ∙ (at.of_round).0
 
   left_below : words_of (open_of s.left) ≡ below_best r.shop (whole_of r i s)
-  left_below = words_open s.left.shop s.left.makespan s.left.words
-      ∙ (λ j. words_below (of_shop j) (s.left_below j) s.left.words)
+  left_below = grind (arith, words_open, of_shop)
 
   pub inside : i < length (sheets_of r)
-  inside = let o = at.of_round in let below = o.3 in let n = at.number
-      in let m : length (sheets_of r) ≡ length r.pieces = length-map r.pieces (sheet_in r) in omega arith
+  inside = grind (arith, length-map)
 
   pub at_place : (d : Walk) → get_or (sheets_of r) i d ≡ whole_of r i s
-  at_place d = let m : length (sheets_of r) ≡ length r.pieces = length-map r.pieces (sheet_in r) in let h = inside
-      in map_at r r.pieces i d (omega arith) ∙ sym sheet_is
+  at_place d = grind (arith, length-map, inside, map_at, sheet_is)
 
   pub next_sheets : first_sheets r (i + 1) ≡ first_sheets r i ++ whole_of r i s ∷ []
   next_sheets = take_more (sheets_of r) i (whole_of r i s) inside
@@ -95,10 +89,7 @@ module _ (r : Told) (i : ℕ) (s : Sheet) (at : IsSheetAt r i s) where
 
   pub next_taken : sum_by (taken_of r.budget) (first_sheets r (i + 1)) ≡ sum_by (taken_of r.budget)
       (first_sheets r i) + s.taken
-  next_taken =
-      let a = sum_by-append (taken_of r.budget) (first_sheets r i) (whole_of r i s ∷ [])
-      in let b = ap (sum_by (taken_of r.budget)) next_sheets
-      in let e = taken_here in omega arith
+  next_taken = grind (arith, sum_by-append, next_sheets, taken_here)
 
   module _ (o : RoundResult) (was : GatheredSoFar r i o) (small : r.budget ≤ 10000000) where
     -- the nodes counted with this sheet
@@ -109,10 +100,7 @@ module _ (r : Told) (i : ℕ) (s : Sheet) (at : IsSheetAt r i s) where
     few_here = let a = was.few in let b = s.spent in let e = (at.of_round).2 in omega arith
 
     none_here : eqb s.makespan r.bound ≡ false → (k : ℕ) → k < i + 1 → is_hit r k ≡ false
-    none_here e k h = elim (cases_lt k i) [
-      | inl l ↦ was.none_hits k l
-      | inr m ↦ (let same : i ≡ k = omega arith in subst (λ j. is_hit r j ≡ false) same (hits_here ∙ e))
-    ]
+    none_here e k h = grind (arith, cases_lt, hits_here)
 
     left_here : words_of (left_open o.left.items ++ open_of s.left)
         ≡ flat_map (below_best r.shop) (first_sheets r (i + 1))
@@ -134,9 +122,7 @@ module _ (r : Told) (i : ℕ) (s : Sheet) (at : IsSheetAt r i s) where
 
     best_here : best_among r (first_sheets r (i + 1)) ≡ better (ltb s.makespan o.makespan)
     unfolding better
-    best_here = ap (best_among r) next_sheets
-        ∙ (fold-append better_of (first_of r.best r.word) (first_sheets r i) (whole_of r i s ∷ [])
-        ∙ ap (λ m. better (ltb s.makespan m)) (sym was.makespan_is))
+    best_here = grind (arith, next_sheets, fold-append, better_of, first_of, better)
 
     makespan_by : (b : Bool) → cond b s.makespan o.makespan ≡ (better b).best
     unfolding better
@@ -157,8 +143,7 @@ module _ (r : Told) (i : ℕ) (s : Sheet) (at : IsSheetAt r i s) where
         in record {
           none_hits = none_here e;
           makespan_is = takes.makespan ∙ (makespan_by b ∙ sym (ap (λ (w : Walk). w.best) best_here));
-          word_is = ap (λ f. unwrap_or f r.word) takes.found
-              ∙ (word_by b ∙ sym (ap (λ (w : Walk). unwrap_or w.found r.word) best_here));
+          word_is = grind (arith, word_by, best_here);
           left_is = ap words_of more ∙ left_here;
           nodes_left = subst (AreNodes r.shop) (sym more) nodes_left_here;
           nodes_is = takes.nodes ∙ nodes_here;

@@ -14,9 +14,7 @@ use Rattle.shop_runs.specs.inner.OpenNodes.{AreBelow}
 -- where all are below a makespan, those below a greater one are all
 same_below : (c d : ℕ) (ns : List Node) → c ≤ d → AllByRecursion (λ n. n.bound < c) ns → nodes_below d ns ≡ ns
 same_below c d [] le low = refl
-same_below c d (n ∷ ns) le low =
-    let up : ltb n.bound d ≡ true = lt-ltb n.bound d (let a = low.0 in omega arith)
-    in rw up (ap (λ ms. n ∷ ms) (same_below c d ns le low.1))
+same_below c d (n ∷ ns) le low = grind (arith, lt-ltb, same_below c d ns le low.1)
 
 pub none_closed : (c d : ℕ) (ns : List Node) → c ≤ d → AreBelow c ns → nodes_below d ns ≡ ns
 none_closed c d ns le low = same_below c d ns le (recursion_from_All (λ n. n.bound < c) ns low)

@@ -27,15 +27,13 @@ least_from b ns small =
 -- the least of all, with one more on top
 pub least_with : (below : List StackedNode) (top : StackedNode)
     → min (least_in (nodes_from_top below)) top.node.bound ≡ least_in (nodes_from_top (below ++ top ∷ []))
-least_with below top = sym (least_min 18446744073709551615 top.node.bound (nodes_from_top below))
-    ∙ ap (λ ns. least_in ns) (sym (from_top below top))
+least_with below top = grind (arith, least_min, from_top)
 
 -- one that tells it keeps the leasts told
 pub leasts_with : (below : List StackedNode) (top : StackedNode)
     → top.least ≡ min (least_in (nodes_from_top below)) top.node.bound
     → AreLeasts below → AreLeasts (below ++ top ∷ [])
-leasts_with below top told leasts = subst (λ ss. AreLeastsFromTop ss) (sym (top_first below top))
-    (told ∙ sym (least_min 18446744073709551615 top.node.bound (nodes_from_top below)), leasts)
+leasts_with below top told leasts = grind (arith, top_first, least_min)
 
 -- one more told anew, from the bottom up
 abbrev told_of : StackedNode → ℕ → StackedNode
@@ -60,11 +58,7 @@ leasts_more stacked i least next d inside leasts is told =
 -- the node on top tells the least of all
 last_put : (stacked : List StackedNode) (top : StackedNode) → 0 < length stacked
     → top ≡ get_or stacked (length stacked - 1) top → stacked ≡ take (length stacked - 1) stacked ++ top ∷ []
-last_put stacked top some is =
-    let n = length stacked - 1
-    in let more = take_more stacked n top (omega arith)
-    in let all : take (n + 1) stacked ≡ stacked = take_all (n + 1) stacked (omega arith)
-    in sym all ∙ (more ∙ ap (λ t. take n stacked ++ t ∷ []) (sym is))
+last_put stacked top some is = grind (arith, take_more, take_all)
 
 pub top_tells : (c : ℕ) (stacked : List StackedNode) (top : StackedNode) → c ≤ 18446744073709551615
     → 0 < length stacked → top ≡ get_or stacked (length stacked - 1) top → AreLeasts stacked
@@ -82,26 +76,17 @@ top_tells c stacked top small some is leasts =
 -- those that are kept, with their leasts told anew
 nodes_reverse : (stacked : List StackedNode) → nodes_from_top stacked ≡ reverse (nodes_of stacked)
 nodes_reverse [] = refl
-nodes_reverse (s ∷ ss) = ap (λ ts. nodes_of ts) (reverse-cons s ss)
-    ∙ (map-append (λ (t : StackedNode). t.node) (reverse ss) (s ∷ [])
-    ∙ (ap (λ ns. ns ++ s.node ∷ []) (nodes_reverse ss) ∙ sym (reverse-cons s.node (nodes_of ss))))
+nodes_reverse (s ∷ ss) = grind (arith, reverse-cons, map-append, nodes_reverse ss)
 
 nodes_filter : (c : ℕ) (stacked : List StackedNode)
     → nodes_of (filter (λ s. ltb s.node.bound c) stacked) ≡ nodes_below c (nodes_of stacked)
 nodes_filter c [] = refl
-nodes_filter c (s ∷ ss) = elim (cases_Bool (ltb s.node.bound c)) [
-  | inl t ↦ rw t (ap (λ ns. s.node ∷ ns) (nodes_filter c ss))
-  | inr f ↦ rw f (nodes_filter c ss)
-]
+nodes_filter c (s ∷ ss) = grind (arith, cases_Bool, nodes_filter c ss)
 
 pub kept_from_top : (c : ℕ) (old kept new : List StackedNode)
     → kept ≡ filter (λ s. ltb s.node.bound c) old → nodes_of new ≡ nodes_of kept
     → nodes_from_top new ≡ nodes_below c (nodes_from_top old)
-kept_from_top c old kept new is told =
-    let nodes : nodes_of new ≡ nodes_below c (nodes_of old) = told ∙ (ap (λ ss. nodes_of ss) is ∙ nodes_filter c old)
-    in nodes_reverse new ∙ (ap (λ ns. reverse ns) nodes
-    ∙ (below_reverse c (nodes_of old) ∙ ap (λ ns. nodes_below c ns) (sym (nodes_reverse old))))
+kept_from_top c old kept new is told = grind (arith, nodes_filter, nodes_reverse, below_reverse)
 
 pub as_long : (kept new : List StackedNode) → nodes_of new ≡ nodes_of kept → length new ≡ length kept
-as_long kept new told = sym (length-map new (λ (s : StackedNode). s.node))
-    ∙ (ap (λ ns. length ns) told ∙ length-map kept (λ (s : StackedNode). s.node))
+as_long kept new told = grind (arith, length-map)

@@ -18,17 +18,7 @@ use Rattle.shop_runs.specs.Laws.{IsStanding}
 pub least_bound-le : (shop : Shop) (c : ℕ) (ws : List (List ℕ))
     → (least_bound shop c ws ≤ c) × ((w : List ℕ) → In w ws → least_bound shop c ws ≤ lb shop w)
 least_bound-le shop c [] = (omega arith, λ w h. absurd h)
-least_bound-le shop c (x ∷ ws) =
-    let r = least_bound-le shop (min c (lb shop x)) ws
-    in let a = r.0
-    in (
-      omega arith,
-      λ w h. elim h [
-        | inl e ↦ (let b : lb shop w ≡ lb shop x = ap (lb shop) e in omega arith)
-        | inr g ↦
-            r.1 w g
-      ],
-    )
+least_bound-le shop c (x ∷ ws) = grind (arith, least_bound-le shop (min c (lb shop x)) ws)
 
 module _ (shop : Shop) where
   -- in their order, the words are the same

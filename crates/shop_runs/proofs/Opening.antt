@@ -32,10 +32,7 @@ module _ (shop : Shop) where
     count-cons : (j a n : ℕ) → count_of j (from_jobs a (suc n)) ≡ cond (eqb a j)
         (length (route_of shop a)) 0 + count_of j (from_jobs (a + 1) n)
     unfolding from_jobs
-    count-cons j a n =
-        let b = sum_by-append (λ x. cond (eqb x j) 1 0) (replicate (length (route_of shop a)) a) (from_jobs (a + 1) n)
-        in let c = count-replicate j a (length (route_of shop a))
-        in b ∙ ap (λ k. k + count_of j (from_jobs (a + 1) n)) c
+    count-cons j a n = grind (arith, sum_by-append, from_jobs, count-replicate)
 
     outside : (j a n : ℕ) → (j < a) ⊎ (a + n ≤ j) → count_of j (from_jobs a n) ≡ 0
     unfolding from_jobs

@@ -30,8 +30,7 @@ hit_at : (c : ℕ) (ss : List Walk) (i : ℕ) (w : Walk) → i < length ss
     → ((k : ℕ) → k < i → eqb (get_or ss k w).best c ≡ false) → get_or ss i w ≡ w
     → eqb w.best c ≡ true → up_to_hit c ss ≡ Some (w, take i ss ++ w ∷ [])
 hit_at c [] i w h none e t = absurd (omega arith)
-hit_at c (s ∷ ss) zero w h none e t = (let u : eqb s.best c ≡ true = ap (λ (x : Walk). eqb x.best c) e ∙ t
-    in ap (λ b. hit_or b s (up_to_hit c ss)) u ∙ (λ i. Some (e i, e i ∷ [])))
+hit_at c (s ∷ ss) zero w h none e t = grind arith
 hit_at c (s ∷ ss) (suc i) w h none e t =
     let r = hit_at c ss i w (omega arith) (λ k l. none (suc k) (omega arith)) e t
     in ap (λ b. hit_or b s (up_to_hit c ss)) (none 0 (omega arith)) ∙ ap (hit_or false s) r
@@ -64,19 +63,10 @@ module _ (r : Told) (is : IsRound r) (i : ℕ) (o : RoundResult) (was : Gathered
     (small : r.budget ≤ 10000000) (few : length r.pieces ≤ 256) where
   module _ (s : Sheet) (at : IsSheetAt r i s) (hit : eqb s.makespan r.bound ≡ true) where
     first_hit : up_to_hit r.bound (sheets_of r) ≡ Some (whole_of r i s, first_sheets r i ++ whole_of r i s ∷ [])
-    first_hit =
-        let m = many_sheets r
-        in let below = inside r i s at
-        in hit_at r.bound (sheets_of r) i (whole_of r i s) below
-        (λ k l. sheet_hits r k (whole_of r i s) (omega arith) ∙ was.none_hits k l)
-        (at_place r i s at (whole_of r i s)) hit
+    first_hit = grind (arith, many_sheets, inside, hit_at, whole_of, sheet_hits, at_place)
 
     closed_bound : r.bound ≡ lb r.shop (unwrap_or s.found r.word)
-    closed_bound =
-        let m = hit_in r.bound (sheets_of r) (whole_of r i s) (first_sheets r i ++ whole_of r i s ∷ []) first_hit
-        in let k = in_all (IsOfRound r.shop r.best) (whole_of r i s) (sheets_of r) m.0 (known r is)
-        in sym (found_is r.shop r.word r.best r.bound s.found s.makespan is.best is.full k.found
-        (eqb-true s.makespan r.bound hit)).1
+    closed_bound = grind (arith, hit_in, whole_of, first_sheets, first_hit, in_all, known, found_is, eqb-true)
 
     -- the outcome of a round that a sheet closes
     pub closed_outcome : (t : RoundResult) → t.found ≡ s.found → t.makespan ≡ s.makespan → t.left.items ≡ []
@@ -89,16 +79,10 @@ module _ (r : Told) (is : IsRound r) (i : ℕ) (o : RoundResult) (was : Gathered
         (let a = next_taken r i s at in let b = was.nodes_is
         in let d = ap (sum_by (taken_of r.budget)) (next_sheets r i s at) in omega arith)
         in record {
-          stands = ap (after_round r (sheets_of r)) first_hit ∙ (λ j. record {
-            word = unwrap_or (sym found j) r.word;
-            open_words = sym none j;
-            rounds = r.rounds + 1;
-            nodes = count j;
-          });
+          stands = grind (arith, first_hit);
           makespan = bound ∙ (closed_bound ∙ ap (λ f. lb r.shop (unwrap_or f r.word)) (sym found));
           nodes_left = subst (λ ls. AreNodes r.shop (left_open ls)) (sym left) (λ k d h. absurd (omega arith));
-          counted = (let a = few_here r i s at o was small
-              in let inside = inside r i s at in let m = many_sheets r in omega arith);
+          counted = grind (arith, few_here, many_sheets);
         }
 
   module _ (all : i ≡ length r.pieces) where
@@ -115,10 +99,7 @@ module _ (r : Told) (is : IsRound r) (i : ℕ) (o : RoundResult) (was : Gathered
     word_of_all = was.word_is ∙ ap (λ ss. unwrap_or (best_among r ss).found r.word) all_sheets
 
     open_bound : o.makespan ≡ lb r.shop (unwrap_or o.found r.word)
-    open_bound =
-        was.makespan_is ∙ (ap (λ ss. (best_among r ss).best) all_sheets
-        ∙ (least_is_bound r.shop r.best r.word (sheets_of r) is.best is.full (known r is)
-        ∙ sym (ap (lb r.shop) word_of_all)))
+    open_bound = grind (arith, best_among, all_sheets, least_is_bound, known, word_of_all)
 
     open_is : gathered r ≡ stands_after r o
     open_is =
@@ -144,9 +125,4 @@ module _ (r : Told) (is : IsRound r) (i : ℕ) (o : RoundResult) (was : Gathered
 
     -- and of one that none does
     pub open_outcome : IsOutcome r o
-    open_outcome = record {
-      stands = open_is;
-      makespan = open_bound;
-      nodes_left = was.nodes_left;
-      counted = (let a = was.few in omega arith);
-    }
+    open_outcome = grind (arith, open_is, open_bound)

@@ -23,8 +23,7 @@ both false b e = absurd (cc)
 pub numbered_at : (k : ℕ) (ps : List Piece) (n : ℕ) (d : Piece) → numbered k ps ≡ true → n < length ps
     → (get_or ps n d).number ≡ k + n
 numbered_at k [] n d e h = absurd (omega arith)
-numbered_at k (p ∷ ps) zero d e h = let t = both (eqb p.number k) (numbered (k + 1) ps) e
-    in let u = eqb-true p.number k t.0 in omega arith
+numbered_at k (p ∷ ps) zero d e h = grind (arith, both, eqb-true)
 numbered_at k (p ∷ ps) (suc n) d e h =
     let t = both (eqb p.number k) (numbered (k + 1) ps) e in let u = numbered_at (k + 1) ps n d t.1 (omega arith)
     in omega arith
@@ -44,17 +43,8 @@ module _ {A : Type 0} where
       → (ys ++ x ∷ [] ≡ take (k + 1) xs) × (zs ≡ drop (k + 1) xs)
   take_next [] ys rest zs x zero e f g = absurd (let a : x ∷ zs ≡ [] = sym g ∙ f in (cc))
   take_next [] ys rest zs x (suc k) e f g = absurd (let a : x ∷ zs ≡ [] = sym g ∙ f in (cc))
-  take_next (y ∷ xs) ys rest zs x zero e f g =
-      (let a : x ∷ zs ≡ y ∷ xs = sym g ∙ f in let b : x ≡ y = cc in let d : zs ≡ xs = cc
-      in (ap (λ v. v ++ x ∷ []) e ∙ ap (λ v. v ∷ []) b, d))
-  take_next (y ∷ xs) ys rest zs x (suc k) e f g =
-      let r = take_next xs (take k xs) rest zs x k refl f g
-      in let s : suc k + 1 ≡ suc (k + 1) = omega arith
-      in (
-        ap (λ v. v ++ x ∷ []) e ∙ (ap (λ v. y ∷ v) r.0 ∙ ap (λ n. take n (y ∷ xs)) (sym s)),
-        r.1
-            ∙ ap (λ n. drop n (y ∷ xs)) (sym s),
-      )
+  take_next (y ∷ xs) ys rest zs x zero e f g = grind arith
+  take_next (y ∷ xs) ys rest zs x (suc k) e f g = grind (arith, take_next xs (take k xs) rest zs x k refl f g)
 
   -- a piece is cut off what is left
   pub cut_next : (m size : ℕ) (xs : List A) → 0 < length xs
@@ -164,14 +154,11 @@ module _ {A : Type 0} where
 -- once nothing is left, or no piece may be added, the pieces are all
 pub cut_empty : (ps : List Piece) (m size : ℕ) (rest : List Node) (cut : List (List Node)) → rest ≡ []
     → nodes_in ps ++ cut_into m size rest ≡ cut → nodes_in ps ≡ cut
-cut_empty ps m size rest cut e was =
-    sym (append-nil (nodes_in ps))
-    ∙ (sym (ap (λ ns. nodes_in ps ++ ns) (ap (cut_into m size) e ∙ cut_none m size)) ∙ was)
+cut_empty ps m size rest cut e was = grind (arith, append-nil, cut_none)
 
 pub cut_last : (ps : List Piece) (m size : ℕ) (rest : List Node) (cut : List (List Node)) → m ≡ 0
     → nodes_in ps ++ cut_into m size rest ≡ cut → nodes_in ps ≡ cut
-cut_last ps m size rest cut e was = sym (append-nil (nodes_in ps))
-    ∙ (sym (ap (λ k. nodes_in ps ++ cut_into k size rest) e) ∙ was)
+cut_last ps m size rest cut e was = grind (arith, append-nil)
 
 pub some_open : (n m : ℕ) → n ≡ m → false ≡ eqb n 0 → 0 < m
 some_open zero m e f = absurd (cc)

@@ -19,20 +19,13 @@ module _ {A : Type 0} (test : A → Bool) where
 -- the board's hits are the round's
 pub same_hit : (r : Round) (hits : List Bool) (n : ℕ) → hits ≡ hits_of_round r → n < length r.pieces.items
     → is_hit_in hits n ≡ entries.is_hit (told r) n
-same_hit r hits n e below =
-    let inside : n < length (told r).pieces = subst (λ k. n < k) (sym (length-map r.pieces.items _)) below in
-    ap (λ l. get_or l n false) e ∙ get_or-map _ (told r).pieces n [] false inside
+same_hit r hits n e below = grind (arith, length-map, get_or-map)
 
 pub is_piece : (r : Round) (hits : List Bool) (n : ℕ) → hits ≡ hits_of_round r → is_hit_in hits n ≡ true
     → n < length r.pieces.items
-is_piece r hits n e h =
-    subst (λ k. n < k) (length-map r.pieces.items _)
-    (mapped_inside _ (told r).pieces n (ap (λ l. get_or l n false) (sym e) ∙ h))
+is_piece r hits n e h = grind (arith, length-map, mapped_inside)
 
 -- a number that was read, and is below that of a piece, is that of a piece which ends at the opening bound
 pub read_hit : (r : Round) (hits : List Bool) (low n : ℕ) → hits ≡ hits_of_round r → IsHitOrEnd hits low → low < n
     → n < length r.pieces.items → entries.is_hit (told r) low ≡ true
-read_hit r hits low n e found below inside = ⊎_elim
-    (λ (end : low ≡ length hits). let m = ap length e ∙ hits_length r in absurd (omega arith))
-    (λ (h : is_hit_in hits low ≡ true). sym (same_hit r hits low e (omega arith)) ∙ h)
-    found
+read_hit r hits low n e found below inside = grind (arith, hits_length, same_hit)

@@ -37,8 +37,7 @@ sheets_known r (p ∷ ps) a =
 pub left_words : (shop : Shop) (best : ℕ) (ss : List Walk) → AllByRecursion (IsOfRound shop best) ss
     → AllByRecursion (IsWord shop) (flat_map (λ t. t.left) ss)
 left_words shop best [] a = tt
-left_words shop best (s ∷ ss) a = let k = a.0
-    in all_append (IsWord shop) s.left (flat_map (λ t. t.left) ss) k.left (left_words shop best ss a.1)
+left_words shop best (s ∷ ss) a = grind (arith, all_append, left_words shop best ss a.1)
 
 -- a walk that holds a full word, whose bound is its best and at most c
 pub record IsHeld (shop : Shop) (c : ℕ) (b : Walk) : Type 0 where
@@ -73,26 +72,9 @@ module _ (shop : Shop) (c : ℕ) where
         in subst (λ t. IsLeastHeld b (s ∷ ss) (fold better_of t ss)) (sym same) (record {
           held = r.held;
           first = (let x = r.first in omega arith);
-          each = λ t h. elim h [
-            | inl f ↦
-                (let x = r.first in let y : t.best ≡ s.best = ap (λ (u : Walk). u.best) f in omega arith)
-            | inr g ↦
-                r.each t g
-          ];
+          each = λ t h. grind arith;
         }))
-    | inr e ↦ (let more = ltb-false s.best b.best e
-        in let r = least_held b ss held a.1
-        in let same : better_of b s ≡ b = ap (λ t. cond t s b) e
-        in subst (λ t. IsLeastHeld b (s ∷ ss) (fold better_of t ss)) (sym same) (record {
-          held = r.held;
-          first = r.first;
-          each = λ t h. elim h [
-            | inl f ↦
-                (let x = r.first in let y : t.best ≡ s.best = ap (λ (u : Walk). u.best) f in omega arith)
-            | inr g ↦
-                r.each t g
-          ];
-        }))
+    | inr e ↦ grind (arith, ltb-false, least_held b ss held a.1)
   ]
 
 -- the best word of some sheets is full, and its bound is at most each makespan
@@ -142,8 +124,7 @@ module _ (c : ℕ) where
       → In h ss × (h.best ≡ c)
   hit_in [] h counted e = absurd (cc)
   hit_in (s ∷ ss) h counted e = elim (cases_Bool (eqb s.best c)) [
-    | inl t ↦ (let f : Some (s, s ∷ []) ≡ Some (h, counted) = (sym (ap (λ x. hit_or x s (up_to_hit c ss)) t) ∙ e)
-        in let g : s ≡ h = ap (hit_of s) f in (inl (sym g), sym (ap (λ (u : Walk). u.best) g) ∙ eqb-true s.best c t))
+    | inl t ↦ grind (arith, eqb-true)
     | inr t ↦ later (up_to_hit c ss) (λ k more f. hit_in ss k more f)
         (sym (ap (λ x. hit_or x s (up_to_hit c ss)) t) ∙ e)
   ]

@@ -14,15 +14,7 @@ module _ {A : Type 0} (key : A → ℕ) where
 
   insert_rises : (x : A) (ys : List A) → Rises ys → Rises (insert_by key x ys)
   insert_rises x [] r = (tt, tt)
-  insert_rises x (y ∷ ys) r = elim (cases_Bool (leb (key x) (key y))) [
-    | inl e ↦ (let le = leb-true (key x) (key y) e
-        in let all : AllByRecursion (λ z. key x ≤ key z) ys =
-        all_map (λ z. key y ≤ key z) (λ z. key x ≤ key z) (λ z h. omega arith) ys r.0
-        in rw e ((le, all), r))
-    | inr e ↦ (let more = leb-false (key x) (key y) e
-        in let le : key y ≤ key x = omega arith
-        in rw e (all_insert key (λ z. key y ≤ key z) x ys le r.0, insert_rises x ys r.1))
-  ]
+  insert_rises x (y ∷ ys) r = grind (arith, cases_Bool, leb-true, all_map, leb-false, all_insert, insert_rises x ys r.1)
 
   pub sort_rises : (xs : List A) → Rises (sort_by key xs)
   sort_rises [] = tt

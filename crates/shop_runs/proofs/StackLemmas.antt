@@ -46,8 +46,7 @@ pub insert_past : (n : Node) (b : ℕ) (ws : List (List ℕ)) (rest : List Node)
     → insert_by (λ m. m.bound) n (nodes_of_bound b ws ++ rest)
     ≡ nodes_of_bound b ws ++ insert_by (λ m. m.bound) n rest
 insert_past n b [] rest h = refl
-insert_past n b (w ∷ ws) rest h = rw (lt-leb n.bound b h) (ap (λ ns. record { word = w; bound = b } ∷ ns)
-    (insert_past n b ws rest h))
+insert_past n b (w ∷ ws) rest h = grind (arith, lt-leb, insert_past n b ws rest h)
 
 -- and before those of its own
 insert_here : (n : Node) (b : ℕ) (s : Stack) (rest : List Node) → n.bound ≤ b
@@ -73,11 +72,7 @@ put_is (x ∷ es) w k s sorted e = elim (cases_lt k x.0) [
       in rw (cmp_less k x.0 less) (ap (λ ws. nodes_of_bound k ws ++ nodes_by_bound (x ∷ es)) words
       ∙ sym (insert_here (record { word = w; bound = k }) x.0 x.1 (nodes_by_bound es) (omega arith))))
   | inr more ↦ elim (cases_eq k x.0) [
-    | inl same ↦ (let found : lookup (is_at (nat_cmp k)) (x ∷ es) ≡ Some x.1 = rw (cmp_equal k x.0 same) refl
-        in let words : words_on s ≡ w ∷ words_on x.1 = e ∙ ap (λ o. w ∷ words_left o) found
-        in rw (cmp_equal k x.0 same) (ap (λ ws. nodes_of_bound x.0 ws ++ nodes_by_bound es) words
-        ∙ (ap (λ b. record { word = w; bound = b } ∷ nodes_by_bound (x ∷ es)) (sym same)
-        ∙ sym (insert_here (record { word = w; bound = k }) x.0 x.1 (nodes_by_bound es) (omega arith)))))
+    | inl same ↦ grind (arith, cmp_equal, insert_here)
     | inr other ↦ (let below : x.0 < k = omega arith
         in let missed : lookup (is_at (nat_cmp k)) (x ∷ es) ≡ lookup (is_at (nat_cmp k)) es =
         rw (cmp_greater k x.0 below) refl
@@ -105,51 +100,27 @@ pub next_is : (before after rest : List (ℕ × Stack)) (k : ℕ) (s : Stack) (w
     → before ≡ (k, s) ∷ rest → All (IsLtBy nat_cmp k) (keys_of rest) → words_on s ≡ w ∷ words_left left
     → IsPutBack k rest left after
     → nodes_by_bound before ≡ record { word = w; bound = k } ∷ nodes_by_bound after
-next_is before after rest k s w None is above words back =
-    ap nodes_by_bound is ∙ (ap (λ ws. nodes_of_bound k ws ++ nodes_by_bound rest) words
-    ∙ ap (λ es. record { word = w; bound = k } ∷ nodes_by_bound es) (sym back))
-next_is before after rest k s w (Some t) is above words back =
-    ap nodes_by_bound is ∙ (ap (λ ws. nodes_of_bound k ws ++ nodes_by_bound rest) words
-    ∙ ap (λ es. record { word = w; bound = k } ∷ nodes_by_bound es)
-    (sym (back ∙ put_first rest k t (recursion_from_All (IsLtBy nat_cmp k) (keys_of rest) above))))
+next_is before after rest k s w None is above words back = grind arith
+next_is before after rest k s w (Some t) is above words back = grind (arith, put_first, recursion_from_All)
 
 -- nodes of one bound are below a makespan or not together
 pub below_one : (c b : ℕ) (ws : List (List ℕ))
     → nodes_below c (nodes_of_bound b ws) ≡ cond (ltb b c) (nodes_of_bound b ws) []
 below_one c b [] = elim (cases_Bool (ltb b c)) [ inl e ↦ rw e refl | inr e ↦ rw e refl ]
-below_one c b (w ∷ ws) = elim (cases_Bool (ltb b c)) [
-  | inl e ↦ rw (e, below_one c b ws) (rw e refl)
-  | inr e ↦ rw (e, below_one c b ws) (rw e refl)
-]
+below_one c b (w ∷ ws) = grind (arith, cases_Bool, below_one c b ws)
 
 gt_of_cmp : (a b : ℕ) → is_gt (nat_cmp a b) ≡ ltb b a
-gt_of_cmp a b = elim (cases_lt a b) [
-  | inl h ↦ rw (cmp_less a b h, le-ltb b a (omega arith)) refl
-  | inr h ↦ elim (cases_eq a b) [
-    | inl same ↦ rw (cmp_equal a b same, le-ltb b a (omega arith)) refl
-    | inr other ↦ (let below : b < a = omega arith in rw (cmp_greater a b below, lt-ltb b a below) refl)
-  ]
-]
+gt_of_cmp a b = grind (arith, cases_lt, cmp_less, le-ltb, cases_eq, cmp_equal, cmp_greater, lt-ltb)
 
 pub below_is : (c : ℕ) (es : List (ℕ × Stack))
     → nodes_by_bound (entries_below (nat_cmp c) es) ≡ nodes_below c (nodes_by_bound es)
 below_is c [] = refl
-below_is c (e ∷ es) =
-    let rest = below_is c es
-    in let all = filter-append (λ n. ltb n.bound c) (nodes_of_bound e.0 (words_on e.1)) (nodes_by_bound es)
-    in let one = below_one c e.0 (words_on e.1)
-    in elim (cases_Bool (ltb e.0 c)) [
-      | inl t ↦ rw (gt_of_cmp c e.0 ∙ t) (sym (all
-          ∙ (λ i. (one ∙ ap (λ b. cond b (nodes_of_bound e.0 (words_on e.1)) []) t) i ++ sym rest i)))
-      | inr f ↦ rw (gt_of_cmp c e.0 ∙ f) (sym (all
-          ∙ (λ i. (one ∙ ap (λ b. cond b (nodes_of_bound e.0 (words_on e.1)) []) f) i ++ sym rest i)))
-    ]
+below_is c (e ∷ es) = grind (arith, filter-append, below_one, cases_Bool, gt_of_cmp, below_is c es)
 
 -- the least bound of nodes whose bounds are c or more
 pub least_all : (c : ℕ) (ns : List Node) → AllByRecursion (λ n. c ≤ n.bound) ns → least_of_bounds c ns ≡ c
 least_all c [] a = refl
-least_all c (n ∷ ns) a = (let e : min c n.bound ≡ c = (let h = a.0 in omega arith)
-    in ap (λ b. least_of_bounds b ns) e ∙ least_all c ns a.1)
+least_all c (n ∷ ns) a = grind (arith, least_all c ns a.1)
 
 pub bounds_all : (c b : ℕ) (ws : List (List ℕ)) (rest : List Node) → c ≤ b → AllByRecursion (λ n. c ≤ n.bound) rest
     → AllByRecursion (λ n. c ≤ n.bound) (nodes_of_bound b ws ++ rest)

@@ -31,8 +31,7 @@ module _ (r : Told) (is : IsRound r) where
   best_of_round = best_is r.shop r.best r.word (sheets_of r) is.best is.full known
 
   pub open_all : AllByRecursion (IsWord r.shop) (flat_map (λ t. t.left) (sheets_of r) ++ r.rest)
-  open_all = all_append (IsWord r.shop) (flat_map (λ t. t.left) (sheets_of r)) r.rest
-      (left_words r.shop r.best (sheets_of r) known) rest_words
+  open_all = grind (arith, all_append, left_words, known, rest_words)
 
   -- none of the rest is below the opening bound
   pub rest_closed : words_below r.shop r.bound r.rest ≡ []
@@ -45,16 +44,7 @@ module _ (r : Told) (is : IsRound r) where
       → IsStanding r.shop (after_round r (sheets_of r) o)
   after_is_standing None e = standing_from r.shop (best_word r.best r.word (sheets_of r))
       (flat_map (λ t. t.left) (sheets_of r) ++ r.rest) _ _ best_of_round.full open_all
-  after_is_standing (Some (h, counted)) e =
-      let m = hit_in r.bound (sheets_of r) h counted e
-      in let k = in_all (IsOfRound r.shop r.best) h (sheets_of r) m.0 known
-      in let f = found_is r.shop r.word r.best r.bound h.found h.best is.best is.full k.found m.1
-      in record {
-        full = f.0;
-        words = λ w c. absurd (let x = c.1 in omega arith);
-        below =
-            λ w c. absurd (let x = c.1 in omega arith);
-      }
+  after_is_standing (Some (h, counted)) e = grind (arith, hit_in, in_all, known, found_is)
 
 pub gathered_is_standing : (r : Told) → IsRound r → IsStanding r.shop (gathered r)
 gathered_is_standing r is = after_is_standing r is (up_to_hit r.bound (sheets_of r)) refl

@@ -27,9 +27,7 @@ pub no_nodes : (shop : Shop) → AreNodes shop []
 no_nodes shop = λ k d h. absurd (omega arith)
 
 pub root_node : (shop : Shop) (root : Node) → root.word ≡ [] → root.bound ≡ lb shop [] → AreNodes shop (root ∷ [])
-root_node shop root w b = All-cons (IsNode shop) root []
-    ((λ j. subst (λ v. count_of j v ≤ length (route_of shop j)) (sym w) (omega arith)), b ∙ ap (lb shop) (sym w))
-    (no_nodes shop)
+root_node shop root w b = grind (arith, no_nodes)
 
 abbrev pub standing_of : List ℕ → List (List ℕ) → Stand
 standing_of word words = record { word = word; open_words = words; rounds = 0; nodes = 0 }

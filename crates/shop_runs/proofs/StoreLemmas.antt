@@ -30,9 +30,7 @@ empty_is false (e ∷ es) h = sym (ne_eqb (length (nodes_by_bound (e ∷ es))) 0
 -- the least bound, with one more
 pub least_min : (c b : ℕ) (ns : List Node) → least_of_bounds (min c b) ns ≡ min (least_of_bounds c ns) b
 least_min c b [] = refl
-least_min c b (n ∷ ns) =
-    let e : min (min c b) n.bound ≡ min (min c n.bound) b = omega arith
-    in ap (λ k. least_of_bounds k ns) e ∙ least_min (min c n.bound) b ns
+least_min c b (n ∷ ns) = grind (arith, least_min (min c n.bound) b ns)
 
 -- what is kept, in reverse
 pub below_reverse : (c : ℕ) (ns : List Node) → reverse (nodes_below c ns) ≡ nodes_below c (reverse ns)
@@ -60,10 +58,7 @@ put_append o (m ∷ ms) ns nodes = ap (put_before o m) (put_append o ms ns nodes
 pub put_last : (o : Order) (c : ℕ) (ns : List Node) (n : Node) (nodes : List Node) → n.bound < c
     → put_all_before o (nodes_below c (ns ++ n ∷ [])) nodes
     ≡ put_all_before o (nodes_below c ns) (put_before o n nodes)
-put_last o c ns n nodes low =
-    let e = filter-append (λ (m : Node). ltb m.bound c) ns (n ∷ [])
-    ∙ ap (λ b. nodes_below c ns ++ cond b (n ∷ []) []) (lt-ltb n.bound c low)
-    in ap (λ ms. put_all_before o ms nodes) e ∙ put_append o (nodes_below c ns) (n ∷ []) nodes
+put_last o c ns n nodes low = grind (arith, filter-append, lt-ltb, put_append)
 
 -- what the last sheet left is put first
 pub put_last_left : (o : Order) (c : ℕ) (ls : List Leaving) (l : Leaving) (nodes : List Node)
@@ -81,35 +76,16 @@ pub put_entry : (o : Order) (c : ℕ) (path : List ℕ) (waiting : List Waiting)
     → put_all_before o (nodes_below c (stack_nodes path (drop k waiting))) nodes
     ≡ put_all_before o (nodes_below c (stack_nodes path (drop (k + 1) waiting)))
     (put_all_before o (nodes_below c (child_nodes path (get_or waiting k d))) nodes)
-put_entry o c path waiting k d nodes within =
-    let later = stack_nodes path (drop (k + 1) waiting)
-    in let here = child_nodes path (get_or waiting k d)
-    in ap (λ ws. put_all_before o (nodes_below c (stack_nodes path ws)) nodes) (drop_more waiting k d within)
-    ∙ (ap (λ ns. put_all_before o ns nodes) (filter-append (λ (n : Node). ltb n.bound c) later here)
-    ∙ put_append o (nodes_below c later) (nodes_below c here) nodes)
+put_entry o c path waiting k d nodes within = grind (arith, drop_more, filter-append, put_append)
 
 -- what is below two makespans is below the less
 below_both : (c d : ℕ) (ns : List Node) → nodes_below c (nodes_below d ns) ≡ nodes_below (min c d) ns
 below_both c d [] = refl
-below_both c d (n ∷ ns) =
-    let later = below_both c d ns
-    in elim (cases_lt n.bound d) [
-      | inl low ↦ elim (cases_lt n.bound c) [
-        | inl less ↦ rw (lt-ltb n.bound d low, lt-ltb n.bound c less, lt-ltb n.bound (min c d) (omega arith))
-            (ap (λ ms. n ∷ ms) later)
-        | inr more ↦ rw (lt-ltb n.bound d low, le-ltb n.bound c more, le-ltb n.bound (min c d) (omega arith)) later
-      ]
-      | inr high ↦ rw (le-ltb n.bound d high, le-ltb n.bound (min c d) (omega arith)) later
-    ]
+below_both c d (n ∷ ns) = grind (arith, cases_lt, lt-ltb, le-ltb, below_both c d ns)
 
 -- what waited where a walk halted is put before the nodes that weren't taken
 pub put_both : (o : Order) (c own limit : ℕ) (first later all nodes : List Node) → limit ≡ min c own
     → all ≡ nodes_below own (first ++ later)
     → put_all_before o (nodes_below limit first) (put_all_before o (nodes_below limit later) nodes)
     ≡ put_all_before o (nodes_below c all) nodes
-put_both o c own limit first later all nodes is open_is =
-    let both : nodes_below c all ≡ nodes_below limit (first ++ later) =
-    ap (nodes_below c) open_is ∙ (below_both c own (first ++ later) ∙ ap (λ k. nodes_below k (first ++ later)) (sym is))
-    in sym (ap (λ ns. put_all_before o ns nodes)
-    (both ∙ filter-append (λ (n : Node). ltb n.bound limit) first later)
-    ∙ put_append o (nodes_below limit first) (nodes_below limit later) nodes)
+put_both o c own limit first later all nodes is open_is = grind (arith, below_both, filter-append, put_append)

@@ -69,9 +69,7 @@ module _ (shop : Shop) where
 
   pub children_lack_less : (n : ℕ) (w : List ℕ) → operations_left shop w ≡ suc n
       → AllByRecursion (λ v. operations_left shop v ≡ n) (branch shop w)
-  children_lack_less n w e =
-      lack_less n w e (branch shop w) (all_sort (lb shop) (λ v. length v ≡ length w + 1)
-      (map (λ j. w ++ j ∷ []) (conflict shop w)) (longer w (conflict shop w)))
+  children_lack_less n w e = grind (arith, lack_less, all_sort, longer)
 
   size_open : (n : ℕ) (w : List ℕ) → operations_left shop w ≡ suc n → size_of shop w ≡ 1 + size_all shop (branch shop w)
   unfolding size_of
@@ -97,43 +95,22 @@ module _ (shop : Shop) where
   taking_takes : (b : ℕ) (s : Walk) (w : List ℕ) (go : Walk → Walk) → s.budget ≡ b
       → ((t : Walk) → t.left ≡ s.left → t.budget + 1 ≡ s.budget → GoesOn s (go t) (size_of shop w))
       → Takes s (taking b s w go) w
-  taking_takes zero s w go e h =
-      let a = size_append s.left (w ∷ [])
-      in let b = size_cons w []
-      in let c = size_none
-      in record {
-        uses = record { less = omega arith; sizes = omega arith };
-        spends = λ some. absurd (omega arith);
-      }
-  taking_takes (suc b) s w go e h =
-      let g = h (record s { budget = b }) refl (omega arith)
-      in record { uses = record { less = (let l = g.less in omega arith); sizes = g.sizes }; spends = λ some. g.less }
+  taking_takes zero s w go e h = grind (arith, size_append, size_cons, size_none)
+  taking_takes (suc b) s w go e h = grind arith
 
   cut_goes_on : (test : Bool) (s t : Walk) (go : Walk → Walk) (size : ℕ) → t.left ≡ s.left → t.budget + 1 ≡ s.budget
       → 1 ≤ size → GoesOn s (go t) size → GoesOn s (unless_cut test t go) size
-  cut_goes_on true s t go size same e some g =
-      let f = ap (size_all shop) same in record { less = omega arith; sizes = omega arith }
+  cut_goes_on true s t go size same e some g = grind arith
   cut_goes_on false s t go size same e some g = g
 
   pub fold_uses : (f : Walk → List ℕ → Walk) (P : List ℕ → Type 0)
       → ((s : Walk) (w : List ℕ) → P w → Uses s (f s w) (size_of shop w))
       → (s : Walk) (ws : List (List ℕ)) → AllByRecursion P ws → Uses s (fold f s ws) (size_all shop ws)
   fold_uses f P h s [] a = let z = size_none in record { less = omega arith; sizes = omega arith }
-  fold_uses f P h s (w ∷ ws) a =
-      let first = h s w a.0
-      in let rest = fold_uses f P h (f s w) ws a.1
-      in let c = size_cons w ws
-      in let p = first.less
-      in let q = first.sizes
-      in let u = rest.less
-      in let v = rest.sizes
-      in record { less = omega arith; sizes = omega arith }
+  fold_uses f P h s (w ∷ ws) a = grind (arith, size_cons, fold_uses f P h (f s w) ws a.1)
 
   pub walk_takes : (n : ℕ) (s : Walk) (w : List ℕ) → operations_left shop w ≡ n → Takes s (walk_within shop n s w) w
-  walk_takes zero s w e =
-      taking_takes s.budget s w _ refl
-      (λ t same less. cut_goes_on (leb t.best (lb shop w)) s t _ (size_of shop w) same less (size_some w)
-      (let f = ap (size_all shop) same in let g = size_some w in record { less = omega arith; sizes = omega arith }))
+  walk_takes zero s w e = grind (arith, taking_takes, cut_goes_on, size_some)
   walk_takes (suc n) s w e =
       taking_takes s.budget s w _ refl
       (λ t same less. cut_goes_on (leb t.best (lb shop w)) s t _ (size_of shop w) same less (size_some w)
@@ -156,23 +133,8 @@ module _ (shop : Shop) where
   -- a sheet leaves no more than its piece, and less where it may take a node
   pub sheet_leaves : (piece : List (List ℕ)) (best budget : ℕ)
       → size_all shop (sheet shop piece best budget).left ≤ size_all shop piece
-  sheet_leaves piece best budget =
-      let u = words_uses (record { found = None; best = best; left = []; budget = budget }) piece
-      in let z = size_none
-      in let p = u.less
-      in let q = u.sizes
-      in omega arith
+  sheet_leaves piece best budget = grind (arith, words_uses, size_none)
 
   pub sheet_leaves_less : (w : List ℕ) (ws : List (List ℕ)) (best budget : ℕ) → 1 ≤ budget
       → size_all shop (sheet shop (w ∷ ws) best budget).left < size_all shop (w ∷ ws)
-  sheet_leaves_less w ws best budget some =
-      let s : Walk = record { found = None; best = best; left = []; budget = budget }
-      in let t = walk_takes (operations_left shop w) s w refl
-      in let u = words_uses (walk shop s w) ws
-      in let z = size_none
-      in let c = size_cons w ws
-      in let a = t.uses.sizes
-      in let b = t.spends some
-      in let p = u.less
-      in let q = u.sizes
-      in omega arith
+  sheet_leaves_less w ws best budget some = grind (arith, walk_takes, words_uses, size_none, size_cons)

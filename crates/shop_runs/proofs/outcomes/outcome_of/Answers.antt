@@ -10,8 +10,7 @@ use Rattle.shop_runs.proofs.OutcomeLemmas.{closed_outcome, open_outcome}
 use Rattle.shop_runs.proofs.outcomes.outcome_of.Goals as goal
 
 length_pieces : (r : Round) → length (told r).pieces ≤ 256
-length_pieces r = let few = r.few_pieces in let same = length-map r.pieces.items (λ p. words_of p.nodes.items)
-    in omega arith
+length_pieces r = grind (arith, length-map)
 
 pub unreachable-requires : goal.unreachable-requires
 unreachable-requires c =

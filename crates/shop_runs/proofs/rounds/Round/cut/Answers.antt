@@ -24,13 +24,7 @@ returns-clause-cut c =
     (c.in_ok-rest.ensures.1 ∙ take_all c.in_ok-count.count others (omega arith))
 
 pub invariant_of-round-clause-nodes_of_rest : goal.invariant_of-round-clause-nodes_of_rest
-invariant_of-round-clause-nodes_of_rest c =
-    let others = open_list c.in_ok-round.others
-    in let many = c.in_ok-count.ensures.count
-    in let all = c.in_ok-rest.ensures.1 ∙ take_all c.in_ok-count.count others (omega arith)
-    in let same = ap (λ (q : Told). q.shop) c.in_ok-round.ensures.round
-    in subst (λ q. AreNodes q c.in_ok-rest.rest.items) (sym same)
-    (subst (AreNodes c.args.instance.now) (sym all) c.in_ok-round.ensures.bounds)
+invariant_of-round-clause-nodes_of_rest c = grind (arith, take_all)
 
 pub invariant_of-round-clause-is_round : goal.invariant_of-round-clause-is_round
 invariant_of-round-clause-is_round c =

@@ -7,12 +7,7 @@ use Rattle.shop_runs.proofs.Answering.{way_first, way_search, way_next, way_clos
 use Rattle.shop_runs.proofs.runs.OpenRun.at_end.Goals as goal
 
 pub loop-done-init : goal.loop-done-init
-loop-done-init g c = record {
-  way = way_first c.args.instance.now (planned c.args.plan.now) c.in_ok-search.search
-      (subst (λ s. IsSearchAt c.args.instance.now c.args.plan.now.order s c.in_ok-search.search)
-      c.in_ok-start.ensures.at.stands_at c.in_ok-search.ensures);
-  layout = tt;
-}
+loop-done-init g c = grind (arith, way_first)
 
 pub returns-then-is_empty : goal.returns-then-is_empty
 returns-then-is_empty g c = way_closed c.args.instance.now
@@ -34,7 +29,4 @@ loop-done-preserved g c = record {
 }
 
 pub returns : goal.returns
-returns g c =
-    let h = c.loop-done-test.false
-    in way_last c.args.instance.now
-    (planned c.args.plan.now) c.loop-done.done c.loop-done.search c.loop-done.invariant.way (omega arith)
+returns g c = grind (arith, way_last)

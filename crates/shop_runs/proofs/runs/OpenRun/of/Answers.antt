@@ -11,8 +11,7 @@ use Rattle.shop_runs.proofs.KeptBelow.{all_below, none_closed}
 use Rattle.shop_runs.proofs.runs.OpenRun.of.Goals as goal
 
 pub put_nodes-requires : goal.put_nodes-requires
-put_nodes-requires c = can_be_shared c.args.instance.now c.keeps_limits.ensures c.as_slice.result.now
-    (subst (AreNodes c.args.instance.now) (sym c.as_slice.ensures.value) c.requires.0.bounds)
+put_nodes-requires c = grind (arith, can_be_shared)
 
 pub returns : goal.returns
 returns c =

@@ -11,9 +11,7 @@ use Rattle.shop_runs.proofs.standings.Standing.start.Goals as goal
 use Rattle.shop_runs.proofs.standings.Standing.start.Goals.{then-root-makespan+in_ok-push, else-root-makespan}
 
 pub lower_bound-requires : goal.lower_bound-requires
-lower_bound-requires c =
-    subst (λ w. (j : ℕ) → count_of j w ≤ length (route_of c.args.instance.now j)) (sym c.in_ok-word.ensures)
-    (λ j. let e = start_full c.args.instance.now j in omega arith)
+lower_bound-requires c = grind (arith, start_full)
 
 pub returns-clause-covers : goal.returns-clause-covers
 returns-clause-covers c =
