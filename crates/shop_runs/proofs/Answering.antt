@@ -10,15 +10,14 @@ use Rattle.shop_runs.specs.declared.plans.Plan.{Plan}
 use Rattle.shop_nodes.specs.declared.nodes.Node.{Node}
 use Rattle.shop_runs.specs.Round.{Stand, Told, cut_of, gathered, round}
 use Rattle.shop_runs.specs.Answers.{rounds_from, unless_closed, answer}
-use Rattle.shop_runs.specs.Round.{opening, least_bound, makespan_of}
-use Rattle.shop_runs.specs.Answers.{bound_of}
+use Rattle.shop_runs.specs.Round.{opening}
 use Rattle.shop_runs.specs.Laws.{StandsCovering}
 use Rattle.shop_runs.specs.Trust.{IsTrustworthy}
 use Rattle.shop_nodes.specs.Nodes.{words_of}
 use Rattle.shop_bound.specs.Bound.{lb}
 use Rattle.shop_nodes.specs.Nodes.{IsNode, AreNodes}
 use Rattle.shop_runs.specs.Entries.{told}
-use Rattle.shop_runs.specs.Round.{in_order, words_below, pieces_of, rest_of}
+use Rattle.shop_runs.specs.Round.{in_order, words_below}
 use Rattle.shop_runs.specs.Runs.{Says}
 use Rattle.shop_runs.specs.declared.open_nodes.OpenNodes.{OpenNodes}
 use Rattle.shop_runs.specs.declared.plans.Order.{Order}

@@ -1,6 +1,6 @@
 -- Each round makes what is open smaller, and its makespan no greater: so rounds enough come to an end.
-use Rattle.std.proofs.Common.{◌≡◌, ℕ, zero, suc, ◌+◌, ◌-◌, ◌≤◌, ◌<◌, inl, inr, Bool, Option, Some, None, List, [], ◌∷◌}
-use Rattle.std.proofs.Common.{◌++◌, length, map, refl, sym, ◌∙◌, ap, subst, arith, ltb, leb}
+use Rattle.std.proofs.Common.{◌≡◌, ℕ, zero, suc, ◌+◌, ◌-◌, ◌≤◌, ◌<◌, Bool, Option, Some, None, List, [], ◌∷◌}
+use Rattle.std.proofs.Common.{length, map, refl, sym, ◌∙◌, ap, subst, arith}
 use Rattle.std.specs.List.{filter, flat_map}
 use Rattle.std.proofs.lemmas.Bool.{cases_Bool}
 use Rattle.shop_model.specs.Shop.{Shop}
@@ -21,7 +21,7 @@ use Rattle.shop_runs.proofs.Answering.{closed}
 use Rattle.shop_runs.proofs.Covering.{opens_covering, cut_is_round}
 use Rattle.shop_runs.proofs.Trusting.{trustworthy}
 use Rattle.shop_runs.proofs.Cutting.{pieces_all}
-use Rattle.shop_runs.proofs.SheetLemmas.{IsOfRound, hit_in, found_is}
+use Rattle.shop_runs.proofs.SheetLemmas.{hit_in, found_is}
 use Rattle.shop_runs.proofs.StandingLemmas.{known, best_of_round, gathered_is_standing}
 use Rattle.shop_runs.proofs.TreeSizes.{size_of, size_all, size_none, size_cons, size_append, size_some}
 use Rattle.shop_runs.proofs.TreeSizes.{sheet_leaves, sheet_leaves_less}

@@ -1,9 +1,8 @@
 -- The entries of a round, in number order.
-use Rattle.std.proofs.Common.{◌≡◌, ℕ, zero, suc, ◌<◌, true, false, Global, Vec, vec_len, Option, Some, None, List, []}
+use Rattle.std.proofs.Common.{◌≡◌, ℕ, zero, suc, ◌<◌, false, Global, Vec, vec_len, Option, Some, None, List, []}
 use Rattle.std.proofs.Common.{◌∷◌, length, get_or, sym, ◌∙◌, ap, subst, arith, zero-add}
 use Rattle.std.specs.Prelude.{slice_index_or, IfOk, Result}
 use Rattle.std.specs.declared.alloc.AllocError.{AllocError}
-use Rattle.std.proofs.lemmas.Result.{IfOk-weaker}
 use Rattle.shop_model.specs.Shop.{Shop}
 use Rattle.std.specs.Iterator.{Yields}
 use Rattle.std.specs.Vec.Iter.{into_iter_items, into_iter_len, into_iter_steps}
@@ -21,7 +20,7 @@ use Rattle.shop_runs.specs.declared.entries.Kind.TheVariants.{Done, Passed}
 use Rattle.shop_runs.specs.declared.rounds.Round.{Round}
 use Rattle.shop_runs.specs.Nodes.{pieces_in}
 use Rattle.shop_runs.specs.Round.{Told}
-use Rattle.shop_runs.specs.Entries.{told, is_hit, IsOf, MayPass, Fits, number_of}
+use Rattle.shop_runs.specs.Entries.{told, is_hit, IsOf}
 use Rattle.shop_runs.specs.Crews.{OneForEach, IsEntryOf}
 use Rattle.shop_runs.proofs.PieceLemmas.{numbered_at}
 use Rattle.shop_runs.proofs.GatherLemmas.{IsSheetAt}

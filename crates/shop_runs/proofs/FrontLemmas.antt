@@ -1,8 +1,8 @@
 -- A run whose open nodes stand in order: the front that is cut, and what joins it again.
-use Rattle.std.proofs.Common.{◌≡◌, ℕ, suc, ◌+◌, ◌≤◌, ◌<◌, inl, inr, Option, Some, None, List}
-use Rattle.std.proofs.Common.{[], ◌∷◌, ◌++◌, length, drop, refl, sym, ◌∙◌, ap, subst, arith, leb, ltb}
+use Rattle.std.proofs.Common.{◌≡◌, ℕ, suc, ◌≤◌, ◌<◌, Option, Some, None, List}
+use Rattle.std.proofs.Common.{[], ◌∷◌, ◌++◌, length, drop, refl, sym, ◌∙◌, ap, subst, arith, ltb}
 use Rattle.std.proofs.Common.{append-nil, min}
-use Rattle.std.specs.Prelude.{unwrap_or, Contains}
+use Rattle.std.specs.Prelude.{Contains}
 use Rattle.std.specs.List.{AllByRecursion, flat_map}
 use Rattle.std.proofs.lemmas.Bool.{cases_Bool}
 use Rattle.std.proofs.lemmas.List.Elements.{filter-append, recursion_from_All, All-from_recursion, All-filter}
@@ -20,7 +20,7 @@ use Rattle.shop_runs.specs.declared.plans.Order.TheVariants.{Kept, Bound}
 use Rattle.shop_runs.specs.declared.open_nodes.OpenNodes.{OpenNodes}
 use Rattle.shop_runs.specs.declared.runs.OpenRun.{OpenRun}
 use Rattle.shop_runs.specs.Round.{Stand, Told, in_order, words_below, sheets_of, up_to_hit}
-use Rattle.shop_runs.specs.Round.{after_round, gathered, best_word, makespan_of, least_bound}
+use Rattle.shop_runs.specs.Round.{after_round, gathered, makespan_of, least_bound}
 use Rattle.shop_runs.specs.Laws.{IsRound, IsStanding}
 use Rattle.shop_nodes.specs.inner.HeldNodes.{nodes_below}
 use Rattle.shop_runs.specs.inner.Searches.{IsSearchAt, IsSearchOf, IsJoined, front_of, stand_of}
@@ -29,7 +29,7 @@ use Rattle.shop_runs.specs.inner.Stores.{open_list, order_of}
 use Rattle.shop_runs.proofs.Cutting.{all_front}
 use Rattle.shop_runs.proofs.NodeLemmas.{insert_words, below_is}
 use Rattle.shop_runs.proofs.OpenLemmas.{ordered_all}
-use Rattle.shop_runs.proofs.SheetLemmas.{IsOfRound, hit_in, found_is}
+use Rattle.shop_runs.proofs.SheetLemmas.{hit_in, found_is}
 use Rattle.shop_runs.proofs.SortLemmas.{Rises, sort_rises, sort_fixed, rises_drop, rises_filter}
 use Rattle.shop_runs.proofs.StandingLemmas.{known, rest_closed}
 

@@ -1,5 +1,5 @@
 -- Entries gathered in turn.
-use Rattle.std.proofs.Common.{◌≡◌, ℕ, zero, suc, ◌+◌, ◌*◌, ◌≤◌, ◌<◌, inl, inr, Bool, true, false, cond}
+use Rattle.std.proofs.Common.{◌≡◌, ℕ, zero, suc, ◌+◌, ◌*◌, ◌≤◌, ◌<◌, Bool, true, false, cond}
 use Rattle.std.proofs.Common.{List, [], ◌∷◌, ◌++◌, map, length, get_or, take, refl, sym, ◌∙◌, ap, subst, arith, eqb}
 use Rattle.std.proofs.Common.{ltb}
 use Rattle.std.specs.Prelude.{unwrap_or, slice_index_or}
@@ -13,7 +13,7 @@ use Rattle.shop_nodes.specs.declared.sheets.Sheet.{Sheet}
 use Rattle.shop_nodes.specs.Nodes.{words_of, IsNode, AreNodes}
 use Rattle.shop_model.specs.Shop.{Shop}
 use Rattle.shop_nodes.specs.Pieces.{words_below}
-use Rattle.shop_nodes.specs.Walking.{Walk, sheet}
+use Rattle.shop_nodes.specs.Walking.{Walk}
 use Rattle.shop_nodes.specs.Laws.{AreWords}
 use Rattle.shop_nodes.specs.Left.{open_nodes}
 use Rattle.shop_nodes.specs.Sheets.{walk_of}

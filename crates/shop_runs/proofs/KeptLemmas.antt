@@ -1,6 +1,6 @@
 -- The stack of the kept order: what each node on it tells of the bounds up to it.
 use Rattle.std.proofs.Common.{◌≡◌, ℕ, ◌+◌, ◌-◌, ◌<◌, ◌≤◌, min, List, [], ◌∷◌, ◌++◌, length, get_or, take, set}
-use Rattle.std.proofs.Common.{reverse, refl, sym, ◌∙◌, ap, subst, arith, filter, ltb, inl, inr}
+use Rattle.std.proofs.Common.{reverse, refl, sym, ◌∙◌, ap, subst, arith, filter, ltb}
 use Rattle.std.proofs.lemmas.Bool.{cases_Bool}
 use Rattle.std.proofs.lemmas.List.{reverse-append, take_more, take_more_set, take_all, map-append, length-map}
 use Rattle.shop_nodes.specs.declared.nodes.Node.{Node}

@@ -19,7 +19,7 @@ use Rattle.shop_runs.specs.Laws.{IsRound}
 use Rattle.shop_runs.specs.inner.Outcomes.{IsOutcome, left_open, stands_after}
 use Rattle.shop_runs.specs.declared.outcomes.RoundResult.{RoundResult}
 use Rattle.shop_runs.specs.Entries.{is_hit}
-use Rattle.shop_runs.proofs.SheetLemmas.{IsOfRound, hit_in, found_is, least_is_bound}
+use Rattle.shop_runs.proofs.SheetLemmas.{hit_in, found_is, least_is_bound}
 use Rattle.shop_runs.proofs.StandingLemmas.{known, best_of_round, rest_closed}
 use Rattle.shop_runs.proofs.GatherLemmas.{GatheredSoFar, IsSheetAt, whole_of, below_best, best_among, first_sheets}
 use Rattle.shop_runs.proofs.GatherLemmas.{map_at, inside, at_place}

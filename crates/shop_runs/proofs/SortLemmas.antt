@@ -1,5 +1,5 @@
 -- Lists in order of a key: what is sorted, and what stays in order.
-use Rattle.std.proofs.Common.{ℕ, zero, suc, ◌≡◌, ◌≤◌, Bool, inl, inr, List, [], ◌∷◌, drop, filter, refl, ◌∙◌, ap, arith, leb}
+use Rattle.std.proofs.Common.{ℕ, zero, suc, ◌≡◌, ◌≤◌, Bool, inl, inr, List, [], ◌∷◌, drop, filter, refl, ◌∙◌, ap, arith}
 use Rattle.std.specs.List.{AllByRecursion}
 use Rattle.std.proofs.lemmas.Bool.{cases_Bool, leb-true, leb-false, le-leb}
 use Rattle.shop_bound.proofs.Lists.{all_filter, all_map}

@@ -1,12 +1,11 @@
 -- Where a search begins: the empty word is open where its bound is below the makespan.
-use Rattle.std.proofs.Common.{◌≡◌, ℕ, ◌≤◌, ◌<◌, List, [], ◌∷◌, length, sym, ◌∙◌, ap, subst, arith, cond, ltb}
+use Rattle.std.proofs.Common.{◌≡◌, ℕ, ◌≤◌, ◌<◌, List, [], ◌∷◌, sym, ◌∙◌, ap, subst, arith, cond, ltb}
 use Rattle.std.proofs.lemmas.Bool.{lt-ltb, le-ltb}
-use Rattle.std.proofs.lemmas.List.Elements.{All-cons}
-use Rattle.shop_model.specs.Shop.{Shop, route_of}
-use Rattle.shop_model.specs.Word.{start_jobs, count_of}
+use Rattle.shop_model.specs.Shop.{Shop}
+use Rattle.shop_model.specs.Word.{start_jobs}
 use Rattle.shop_bound.specs.Bound.{lb}
 use Rattle.shop_nodes.specs.declared.nodes.Node.{Node}
-use Rattle.shop_nodes.specs.Nodes.{words_of, IsNode, AreNodes}
+use Rattle.shop_nodes.specs.Nodes.{words_of, AreNodes}
 use Rattle.shop_runs.specs.Round.{Stand, words_below}
 use Rattle.shop_runs.specs.Laws.{StandsCovering}
 use Rattle.shop_runs.proofs.Covering.{opens_covering}

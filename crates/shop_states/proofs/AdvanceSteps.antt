@@ -53,8 +53,7 @@ module _ {greatest : ℕ} {shop : Shop} {l : LayoutState} {rows : Rows} {w : Lis
   -- what is read of it
   pub head_is : {q : ℕ} → q ≡ place l j (before.steps j) → get_or rows.heads q 0 ≡ head_of shop before j
       (before.steps j) + 1
-  head_is is = ap (λ (x : ℕ). get_or rows.heads x 0) is
-      ∙ kept.heads.waiting j (before.steps j) first_left (omega arith)
+  head_is is = grind (arith, first_left)
 
   pub time_is : {q : ℕ} → q ≡ place l j (before.steps j) → get_or rows.times q 0 ≡ time_of shop j (before.steps j)
   time_is {q} is = ap (λ (xs : List ℕ). get_or xs q 0) kept.times
@@ -66,19 +65,11 @@ module _ {greatest : ℕ} {shop : Shop} {l : LayoutState} {rows : Rows} {w : Lis
 
   pub end_small : {q h t : ℕ} → q ≡ place l j (before.steps j) → h ≡ get_or rows.heads q 0 → t ≡ get_or rows.times q 0
       → (h ≤ greatest) × (h + t ≤ greatest) × (h + t < 2 ^ 64)
-  end_small {q} is read timed =
-      let a = head_is is in let b = time_is is in let c = small in let d = kept.computable
-      in (omega arith, omega arith, omega arith)
+  end_small {q} is read timed = grind (arith, head_is, time_is, small)
 
   pub end_is : {q h t : ℕ} → q ≡ place l j (before.steps j) → h ≡ get_or rows.heads q 0 → t ≡ get_or rows.times q 0
       → h + t ≡ after.free (machine_of shop j (before.steps j)) + 1
-  end_is {q} is read timed =
-      let a = head_is is in let b = time_is is
-      in let first = ready_first shop before j (before.steps j) (omega arith)
-      in let n = next_is
-      in let free = n.free_here (machine_of shop j (before.steps j)) refl
-      in let begins = n.begins_here
-      in omega arith
+  end_is {q} is read timed = grind (arith, head_is, time_is, ready_first, next_is)
 
   pub next_fits : (i k : ℕ) → IsOperation shop i k → after.steps i ≤ k
       → head_of shop after i k + time_of shop i k < greatest
@@ -100,8 +91,7 @@ module _ {greatest : ℕ} {shop : Shop} {l : LayoutState} {rows : Rows} {w : Lis
     lifted_times = ap (λ (r : Rows). r.times) wrote ∙ kept.times
 
     lifted_long : length lifted.heads ≡ first_position l shop.machines
-    lifted_long = ap (λ (xs : List ℕ). length xs) lifted_heads
-        ∙ (length-set rows.heads (place l j (before.steps j)) 0 ∙ kept.heads.positions)
+    lifted_long = grind (arith, lifted_heads, length-set)
 
     pub lifted_blocks : HasBlocks l (length lifted.heads) m
     lifted_blocks = has_blocks kept.limits kept.laid m lifted_long
@@ -117,17 +107,11 @@ module _ {greatest : ℕ} {shop : Shop} {l : LayoutState} {rows : Rows} {w : Lis
     lifted_other x ne = ap (λ (r : Rows). get_or r.heads x 0) wrote ∙ get_or-set_other rows.heads q x 0 0 ne
 
     lifted_none : (x : ℕ) → get_or rows.heads x 0 ≡ 0 → get_or lifted.heads x 0 ≡ 0
-    lifted_none x none = elim (cases_eq x q) [
-      | inl e ↦ ap (λ (r : Rows). get_or r.heads x 0) wrote ∙ get_or-set_at rows.heads q x 0 0 e (within is)
-      | inr ne ↦ lifted_other x ne ∙ none
-    ]
+    lifted_none x none = grind (arith, cases_eq, get_or-set_at, within, lifted_other)
 
     module _ {nexts : List ℕ} (firsts : AreFirst l nexts rows.heads) (ends : length nexts ≤ length rows.ends) where
       lifted_firsts : AreFirst l nexts lifted.heads
-      lifted_firsts = record {
-        own = λ i known here. firsts.own i known (let a = lifted_here in omega arith);
-        first = λ i t k known more at. lifted_none (place l t k) (firsts.first i t k known more at);
-      }
+      lifted_firsts = grind (arith, lifted_here, lifted_none)
 
       pub lifted_raisable : IsRaisable greatest l nexts lifted (IsOnMachine l m) (h + t)
       lifted_raisable =

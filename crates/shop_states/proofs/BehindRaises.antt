@@ -19,23 +19,13 @@ pub behind_same : {l : LayoutState} {at : ℕ → ℕ → Type 0} (rows : Rows) 
     → ((j k e : ℕ) → k + 1 < steps_of l j → at (place l j k) e → 0 < get_or rows.heads (place l j k) 0
     → e + get_or l.times (place l j k) 0 ≤ get_or rows.heads (place l j (k + 1)) 0)
     → RaisesBehind l at rows rows
-behind_same rows order enough = record {
-  positions = refl;
-  raised = record { rises = λ q. omega arith; rests = λ q none. none; order = order; behind = enough };
-  least = λ other raised q. raised.rises q;
-  times = refl;
-  tails = refl;
-  ends = refl;
-}
+behind_same rows order enough = grind arith
 
 -- one after the other
 module _ {l : LayoutState} {A B C : ℕ → ℕ → Type 0} {a b : Rows} (x : RaisesBehind l A a b)
     (in_a : (q e : ℕ) → A q e → C q e) (in_b : (q e : ℕ) → B q e → C q e) where
   waited : (q : ℕ) → 0 < get_or b.heads q 0 → 0 < get_or a.heads q 0
-  waited q some = elim (cases_eq (get_or a.heads q 0) 0) [
-    | inl none ↦ (let z = x.raised.rests q none in absurd (omega arith))
-    | inr yes' ↦ omega arith
-  ]
+  waited q some = grind (arith, cases_eq)
 
   -- what is raised in the end is raised still, and no less
   still_raised : (other : ℕ → ℕ) → IsRaisedBehind l C (at_in a.heads) other → IsRaisedBehind l B (at_in b.heads) other
@@ -99,10 +89,7 @@ module _ {greatest : ℕ} {l : LayoutState} {rows : Rows} {p free : ℕ}
   its_place = can.places p some
 
   pub its_within : p < length rows.heads
-  its_within = elim (cases_lt p (length rows.heads)) [
-    | inl there ↦ there
-    | inr past ↦ absurd (let a = get_or_past rows.heads p 0 past in omega arith)
-  ]
+  its_within = grind (arith, cases_lt, get_or_past)
 
   pub its_end : free + get_or l.times p 0 ≤ greatest
   its_end = can.ends p free (refl, refl) some
@@ -116,109 +103,49 @@ module _ {greatest : ℕ} {l : LayoutState} {rows : Rows} {p free : ℕ}
       read = is ∙ ap (λ (i : ℕ). get_or (all_legs l) i (end_of 0)) index_is
 
       stands : leg.position ≡ place_or (length rows.heads) l.places job (step + 1)
-      stands = elim (cases_lt (step + 1) (steps_of l job)) [
-        | inl here ↦ ap (λ (x : Leg). x.position)
-            (read ∙ leg_here l job its_place.job (step + 1) (end_of 0) here)
-            ∙ sym (place_there l (length rows.heads) job (step + 1) here)
-        | inr past ↦ ap (λ (x : Leg). x.position)
-            (read ∙ leg_behind l job its_place.job (step + 1) (end_of 0)
-            (let known = its_place.step in omega arith))
-            ∙ (can.followed.following ∙ sym (place_past l (length rows.heads) job (step + 1) past))
-      ]
+      stands = grind (arith, cases_lt, read, leg_here, its_place, place_there, leg_behind, place_past)
 
       pub leg_up_to : leg.position ≤ length rows.heads
-      leg_up_to =
-          let at = stands
-          in elim (cases_lt (step + 1) (steps_of l job)) [
-            | inl here ↦ (let a = place_there l (length rows.heads) job (step + 1) here
-                in let b = (can.indexed.step job (step + 1) here).within in let c = can.indexed.jobs in omega arith)
-            | inr past ↦ (let a = place_past l (length rows.heads) job (step + 1) past in omega arith)
-          ]
+      leg_up_to = grind (arith, stands, cases_lt, place_there, place_past)
 
       -- where the next operation on the route stands, if there is one
       next_at : step + 1 < steps_of l job → leg.position ≡ place l job (step + 1)
       next_at more = stands ∙ place_there l (length rows.heads) job (step + 1) more
 
       next_within : step + 1 < steps_of l job → leg.position < length rows.heads
-      next_within more = let a = next_at more in let b = (can.indexed.step job (step + 1) more).within
-          in let c = can.indexed.jobs in omega arith
+      next_within more = grind (arith, next_at)
 
       -- what follows position p is what follows this job and step
       followed_here : (j k : ℕ) → k + 1 < steps_of l j → place l j k ≡ p
           → (step + 1 < steps_of l job) × (place l j (k + 1) ≡ leg.position)
-      followed_here j k two at =
-          let z = apart can.indexed j k job step (omega arith) its_place.step (at ∙ sym its_place.is)
-          in let same : steps_of l j ≡ steps_of l job = ap (steps_of l) z.0
-          in let k_is = z.1
-          in let more : step + 1 < steps_of l job = omega arith
-          in (
-            more,
-            ap (λ (x : ℕ). place l x (k + 1)) z.0
-                ∙ (ap (λ (x : ℕ). place l job (x + 1)) k_is ∙ sym (next_at more)),
-          )
+      followed_here j k two at = grind (arith, apart, its_place, next_at)
 
       module _ {head ready : ℕ} (looked : head ≡ get_or rows.heads leg.position greatest)
           (sum : ready ≡ free + get_or l.times p 0) where
         -- the next operation is late enough, or there is none
         pub late_enough : ready ≤ head → RaisesBehind l (IsEndAt p free) rows rows
-        late_enough enough = behind_same rows can.order (λ j k e two at waits.
-            let next = followed_here j k two at.0
-            in let there = next_within next.0
-            in let one = get_or_default rows.heads leg.position greatest 0 there
-            in let now : get_or rows.heads (place l j (k + 1)) 0 ≡ get_or rows.heads leg.position 0 =
-            ap (λ (x : ℕ). get_or rows.heads x 0) next.1
-            in let time : get_or l.times (place l j k) 0 ≡ get_or l.times p 0 =
-            ap (λ (x : ℕ). get_or l.times x 0) at.0
-            in let e_is = at.1 in omega arith)
+        late_enough enough = grind (arith, behind_same, followed_here, next_within, get_or_default)
 
         module _ (below : head < ready) where
           pub next_there : leg.position < length rows.heads
-          next_there = elim (cases_lt leg.position (length rows.heads)) [
-            | inl there ↦ there
-            | inr past ↦ absurd (let a = get_or_past rows.heads leg.position greatest past in let b = its_end
-                in omega arith)
-          ]
+          next_there = grind (arith, cases_lt, get_or_past, its_end)
 
           pub next_read : head ≡ get_or rows.heads leg.position 0
           next_read = looked ∙ get_or_default rows.heads leg.position greatest 0 next_there
 
           more : step + 1 < steps_of l job
-          more = elim (cases_lt (step + 1) (steps_of l job)) [
-            | inl here ↦ here
-            | inr past ↦ absurd (let a = next_there in let b = stands
-                in let c = place_past l (length rows.heads) job (step + 1) past in omega arith)
-          ]
+          more = grind (arith, cases_lt, next_there, stands, place_past)
 
           pub next_machine : leg.machine ≡ get_or l.machines leg.position 0
-          next_machine = ap (λ (x : Leg). x.machine)
-              (read ∙ leg_here l job its_place.job (step + 1) (end_of 0) more)
-              ∙ ap (λ (q : ℕ). get_or l.machines q 0) (sym (next_at more))
+          next_machine = grind (arith, read, leg_here, its_place, more, next_at)
 
           pub next_waits : 0 < get_or rows.heads leg.position 0
-          next_waits =
-              let at : get_or rows.heads (place l job step) 0 ≡ get_or rows.heads p 0 =
-              ap (λ (x : ℕ). get_or rows.heads x 0) its_place.is
-              in let o = can.order job step more (omega arith)
-              in let next : get_or rows.heads leg.position 0 ≡ get_or rows.heads (place l job (step + 1)) 0 =
-              ap (λ (x : ℕ). get_or rows.heads x 0) (next_at more)
-              in omega arith
+          next_waits = grind (arith, its_place, more, next_at)
 
           -- any heads that are raised behind the operation are so at the next one
           raised_there : (other : ℕ → ℕ) → IsRaisedBehind l (IsEndAt p free) (at_in rows.heads) other
               → IsRaised l (IsPosition leg.position) ready (at_in rows.heads) other
-          raised_there other raised = record {
-            rises = raised.rises;
-            rests = raised.rests;
-            order = raised.order;
-            reach = λ q is waits.
-                let at : get_or rows.heads (place l job step) 0 ≡ get_or rows.heads p 0 =
-                ap (λ (x : ℕ). get_or rows.heads x 0) its_place.is
-                in let b = raised.behind job step free more (its_place.is, refl) (omega arith)
-                in let time : get_or l.times (place l job step) 0 ≡ get_or l.times p 0 =
-                ap (λ (x : ℕ). get_or l.times x 0) its_place.is
-                in let there : other q ≡ other (place l job (step + 1)) = ap other (is ∙ next_at more)
-                in omega arith;
-          }
+          raised_there other raised = grind (arith, its_place, more, next_at)
 
           pub next_raisable : IsRaisable greatest l [] rows (IsPosition leg.position) ready
           next_raisable = record {
@@ -267,8 +194,7 @@ module _ {greatest : ℕ} {l : LayoutState} {rows : Rows} {p free : ℕ}
 module _ {l : LayoutState} {from last end second : ℕ} where
   pub late_begins : {greatest to : ℕ} (rows : Rows) → CanRaiseBehind greatest l rows (IsLateIn from to last end second)
       → RaisesBehind l (IsLateIn from from last end second) rows rows
-  late_begins rows can = behind_same rows can.order (λ j k e two at waits. let a = at.0 in let b = at.1
-      in absurd (omega arith))
+  late_begins rows can = grind (arith, behind_same)
 
   module _ {old now : Rows} {p : ℕ} (so_far : RaisesBehind l (IsLateIn from p last end second) old now) (low : from ≤ p)
     where
@@ -278,33 +204,11 @@ module _ {l : LayoutState} {from last end second : ℕ} where
       module _ {free : ℕ} (free_is : ((p ≡ last) × (free ≡ second)) ⊎ ((p ≡ last → ⊥) × (free ≡ end)))
         where
           here : (q e : ℕ) → IsEndAt p free q e → IsLateIn from (p + 1) last end second q e
-          here q e at = (
-            let a = at.0 in omega arith,
-            let a = at.0 in omega arith,
-            elim free_is [
-              | inl it ↦ inl (at.0 ∙ it.0, at.1 ∙ it.1)
-              | inr other ↦ inr (λ is. other.0 (sym at.0 ∙ is), at.1 ∙ other.1)
-            ],
-          )
+          here q e at = grind arith
 
           split : (q e : ℕ) → IsLateIn from (p + 1) last end second q e
               → IsLateIn from p last end second q e ⊎ IsEndAt p free q e
-          split q e at = elim (cases_eq q p) [
-            | inr ne ↦ inl (at.0, let b = at.1 in omega arith, at.2)
-            | inl is ↦ inr (
-              is,
-              elim at.2 [
-                | inl it ↦ elim free_is [
-                  | inl own ↦ it.1 ∙ sym own.1
-                  | inr other ↦ absurd (other.0 (sym is ∙ it.0))
-                ]
-                | inr other ↦ elim free_is [
-                  | inl own ↦ absurd (other.0 (is ∙ own.0))
-                  | inr it ↦ other.1 ∙ sym it.1
-                ]
-              ],
-            )
-          ]
+          split q e at = grind (arith, cases_eq)
 
           pub late_can : {greatest to : ℕ} → p < to → CanRaiseBehind greatest l old (IsLateIn from to last end second)
               → CanRaiseBehind greatest l now (IsEndAt p free)
@@ -354,5 +258,4 @@ module _ {l : LayoutState} {from last end second : ℕ} where
 pub late_ends : {l : LayoutState} {from p to last end second : ℕ} {old now : Rows} → p ≡ to
     → RaisesBehind l (IsLateIn from p last end second) old now
     → RaisesBehind l (IsLateIn from to last end second) old now
-late_ends {l} {from} {p} {to} {last} {end} {second} {old} {now} is so_far =
-    subst (λ (n : ℕ). RaisesBehind l (IsLateIn from n last end second) old now) is so_far
+late_ends {l} {from} {p} {to} {last} {end} {second} {old} {now} is so_far = grind arith

@@ -1,6 +1,6 @@
 -- The candidates of a word, and what is foreseen of the bound after one.
 use Rattle.std.proofs.Common.{◌≡◌, ℕ, ◌+◌, ◌-◌, ◌<◌, ◌^◌, max, min, List}
-use Rattle.std.proofs.Common.{[], ◌∷◌, ◌++◌, length, get_or, refl, ◌∙◌, ap, arith}
+use Rattle.std.proofs.Common.{[], ◌∷◌, ◌++◌, length, get_or, ◌∙◌, ap, arith}
 use Rattle.shop_lanes.specs.Rows.{Rows}
 use Rattle.shop_model.specs.Limits.{IsWithinLimits}
 use Rattle.shop_model.specs.Shop.{Shop, IsOperation, machine_of}
@@ -70,33 +70,17 @@ module _ {greatest : ℕ} {shop : Shop} {w : List ℕ} {l : LayoutState} {heads 
   pub advancing : {heads' ends' : List ℕ} → heads' ≡ heads → ends' ≡ ends → {bound : ℕ} → bound ≡ lb shop w
       → {least : ℕ} → least ≡ foreseen l heads ends (get_or nexts j 0) bound
       → IsAdvancing greatest shop w l (rows_of l heads' ends') nexts j least
-  advancing same_heads same_ends {bound} is {least} least_is = rw (same_heads, same_ends) (record {
-    kept = kept;
-    fits = fits;
-    foreseen = foreseen_least refl bound is least_is;
-  })
+  advancing same_heads same_ends {bound} is {least} least_is = grind (arith, foreseen_least)
 
 -- the choice by lanes is that of the word
 module _ {greatest : ℕ} {shop : Shop} {w : List ℕ} {l : LayoutState} {heads ends nexts : List ℕ}
     (kept : IsKeptInLanes greatest shop w l (rows_of l heads ends) nexts) where
   pub choosable : AreChoosable greatest shop (placing shop w) l nexts (rows_of l heads ends)
-  choosable = record {
-    at = record {
-      laid = kept.kept.laid;
-      limits = kept.kept.limits;
-      are = kept.are_next;
-      heads = kept.kept.heads;
-      times = refl;
-    };
-    ends = kept.ends;
-    computable = kept.kept.computable;
-  }
+  choosable = grind arith
 
 -- the limit is beyond all bounds, or is not
 pub tells_below : (shop : Shop) → IsWithinLimits shop → (w : List ℕ) → IsWord shop w → (limit least : ℕ)
     → least ≡ min limit (2 ^ 50) → (told : Option ℕ) → TellsBoundBelow least (lb shop w) told
     → TellsBoundBelow limit (lb shop w) told
-tells_below shop limits w word limit least is None reached =
-    let small = (sums_small shop limits w word).bound in omega arith
-tells_below shop limits w word limit least is (Some b) tells =
-    (tells.0, let below = tells.1 in omega arith)
+tells_below shop limits w word limit least is None reached = grind (arith, sums_small)
+tells_below shop limits w word limit least is (Some b) tells = grind arith

@@ -1,6 +1,6 @@
 -- Ceilings of spans, read off the spans from heads.
 use Rattle.std.proofs.Common.{◌≡◌, ℕ, ◌+◌, ◌≤◌, ◌<◌, inl, inr, List}
-use Rattle.std.proofs.Common.{refl, ◌∙◌, arith}
+use Rattle.std.proofs.Common.{refl, arith}
 use Rattle.std.proofs.lemmas.Bool.{cases_lt}
 use Rattle.shop_lanes.specs.Rows.{Lane}
 use Rattle.shop_lanes.specs.Spans.{span, spans_between}
@@ -19,8 +19,7 @@ AreBelow top xs ys = AreBeside (IsLaneBeside (IsBelow top)) xs ys
 -- then nothing is served from a later moment on
 none_served : {top : ℕ} (least s : ℕ) {xs ys : List Lane} → AreBelow top xs ys → top < least → span least s ys ≡ 0
 none_served least s nothing past = refl
-none_served least s (beside {xs} {ys} x y r rest) past =
-    span_left least s y ys (let h = r.head in omega arith) ∙ none_served least s rest past
+none_served least s (beside {xs} {ys} x y r rest) past = grind (arith, span_left, none_served least s rest past)
 
 -- the greatest span from a head is a ceiling
 pub ceiling_of_spans : (top c : ℕ) {xs ys : List Lane} → AreBelow top xs ys → spans_between 0 top ys ≤ c

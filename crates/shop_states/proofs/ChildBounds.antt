@@ -54,15 +54,7 @@ module _ {shop : Shop} (limits : IsWithinLimits shop) {slots : List (List Slot)}
 
   module _ (m from to : ℕ) (known : m < shop.machines) (within : RaisesWithin m from to) where
     slots_raised : AllByRecursion (IsSlotRaised from to shop (placing shop w) next) (get_or slots m [])
-    slots_raised = recursion_from_All _ (get_or slots m []) (λ n d here.
-        let s = get_or (get_or slots m []) n d
-        in let op = slots_are_operations shop m (get_or slots m []) (are.slots m known) n d here
-        in let rise = steps_rise shop (placing shop w) j next (place_next-is shop (placing shop w) j) s.job
-        in record {
-          was_left = λ e. (let a = leb-true (next.steps s.job) s.step e
-              in le-leb ((placing shop w).steps s.job) s.step (omega arith));
-          head = λ e. within s.job s.step op.step op.machine (leb-true (next.steps s.job) s.step e);
-        })
+    slots_raised = grind (arith, recursion_from_All, slots_are_operations, steps_rise, place_next-is, leb-true, le-leb)
 
     pub raised_left : one (left_for shop slots next m)
         ≤ max (lb shop w) (one_between from to (left_for shop slots next m))

@@ -39,8 +39,7 @@ module _ {shop : Shop} (limits : IsWithinLimits shop) {l : LayoutState} (laid : 
   -- what waits on the machine afterwards has a head of at least the end
   end-le-head : (i k : ℕ) → machine_of shop i k ≡ its_machine → its_end ≤ head_of shop its_next i k
   unfolding its_machine its_end its_next
-  end-le-head i k e =
-      let x : its_next.free (machine_of shop i k) ≡ its_next.free its_machine = ap its_next.free e in omega arith
+  end-le-head i k e = grind (arith, its_next, its_machine)
 
   -- with the heads from before, but for the operation's
   module _ {hs : List ℕ}

@@ -1,5 +1,5 @@
 -- The raises of a dispatch cover all heads by which the bound of the child may exceed that of its parent.
-use Rattle.std.proofs.Common.{◌≡◌, ℕ, ◌+◌, ◌≤◌, ◌<◌, ◌⊎◌, inl, inr, List, [], ◌∷◌, ◌++◌, get_or, refl, sym, ap, arith}
+use Rattle.std.proofs.Common.{◌≡◌, ℕ, ◌+◌, ◌≤◌, ◌<◌, ◌⊎◌, List, [], ◌∷◌, ◌++◌, get_or, refl, ap, arith}
 use Rattle.std.proofs.lemmas.Bool.{cases_lt}
 use Rattle.shop_lanes.specs.Rows.{Rows, lanes_of}
 use Rattle.shop_lanes.specs.Spans.{spans_between}
@@ -13,7 +13,7 @@ use Rattle.shop_bound.specs.OneMachine.{one}
 use Rattle.shop_layout.specs.HeadLimits.{latest_end}
 use Rattle.shop_layout.specs.Lanes.{lanes_on}
 use Rattle.shop_states.specs.inner.LaneHeads.{AreHeadsAt}
-use Rattle.shop_layout.specs.Positions.{LayoutState, IsLaidOut, place}
+use Rattle.shop_layout.specs.Positions.{LayoutState, IsLaidOut}
 use Rattle.shop_states.specs.inner.HeadRaises.{Raise}
 use Rattle.shop_states.proofs.ChildBounds.{child-le}
 use Rattle.shop_states.proofs.ChildExits.{after_spans-cover, after_spans-le}
@@ -25,15 +25,7 @@ use Rattle.shop_states.proofs.LeftSlots.{left_for}
 pub heads_small : (shop : Shop) → IsWithinLimits shop → (l : LayoutState) → IsLaidOut shop l → (w : List ℕ)
     → IsWord shop w → (hs : List ℕ) → AreHeadsAt shop (placing shop w) l hs → (q : ℕ)
     → get_or hs q 0 ≤ latest_end shop + 1
-heads_small shop limits l laid w word hs heads q = elim (each_position shop limits l laid q) [
-  | inl o ↦ (let at : get_or hs q 0 ≡ get_or hs (place l o.job o.step) 0 = ap (λ (x : ℕ). get_or hs x 0) (sym o.at)
-      in elim (cases_lt o.step ((placing shop w).steps o.job)) [
-        | inl before ↦ (let a = heads.placed o.job o.step o.is before in omega arith)
-        | inr opened ↦ (let a = heads.waiting o.job o.step o.is opened
-            in let b = latest_end_is shop w word o.job o.step o.is opened in omega arith)
-      ])
-  | inr free ↦ (let a = heads.padding q free in omega arith)
-]
+heads_small shop limits l laid w word hs heads q = grind (arith, each_position, cases_lt, latest_end_is)
 
 module _ {shop : Shop} (limits : IsWithinLimits shop) {l : LayoutState} (laid : IsLaidOut shop l) (w : List ℕ)
     (j : ℕ) (fits : IsWord shop (w ++ j ∷ [])) {was now : List ℕ} (old : AreHeadsAt shop (placing shop w) l was)
@@ -48,8 +40,7 @@ module _ {shop : Shop} (limits : IsWithinLimits shop) {l : LayoutState} (laid : 
 
   pub covered_all : (raise : Raise) → raise.from ≡ 0 → ((q : ℕ) → get_or now q 0 ≤ raise.to) → (m : ℕ)
       → IsCovered raise m
-  covered_all raise from small m i k op on opened =
-      let b = new.waiting i k op opened in let c = small (place l i k) in inr (omega arith, omega arith)
+  covered_all raise from small m i k op on opened = grind arith
 
   -- in the lanes afterwards
   module _ (rows : Rows) (heads : rows.heads ≡ now) (times : rows.times ≡ l.times)

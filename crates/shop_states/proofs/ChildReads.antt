@@ -1,7 +1,7 @@
 -- What is read of the next operation of a job, and what is foreseen of the bound after it.
 use Rattle.std.proofs.Common.{◌≡◌, ℕ, ◌+◌, ◌≤◌, max, ◌-◌, List, [], ◌∷◌, ◌++◌, set}
-use Rattle.std.proofs.Common.{get_or, refl, sym, ◌∙◌, ap, subst, arith}
-use Rattle.shop_lanes.specs.Rows.{Rows, Lane, with_head, lanes_of}
+use Rattle.std.proofs.Common.{get_or, ◌∙◌, ap, arith}
+use Rattle.shop_lanes.specs.Rows.{Rows, with_head}
 use Rattle.shop_lanes.specs.Spans.{span}
 use Rattle.shop_model.specs.Shop.{Shop, machine_of, time_of, IsOperation}
 use Rattle.shop_model.specs.Word.{IsWord, placing, place_next}
@@ -38,12 +38,7 @@ module _ {greatest : ℕ} {shop : Shop} {w : List ℕ} {l : LayoutState} {rows :
   -- the operation begins at its head
   pub end_here : head_of shop (placing shop w) j ((placing shop w).steps j) + time_of shop j ((placing shop w).steps j)
       ≡ (place_next shop (placing shop w) j).free (machine_of shop j ((placing shop w).steps j))
-  end_here =
-      let p = placing shop w
-      in let n = place_next-is shop p j
-      in let a = n.free_here (machine_of shop j (p.steps j)) refl
-      in let b = n.begins_here
-      in let first = ready_first shop p j (p.steps j) (omega arith) in omega arith
+  end_here = grind (arith, place_next-is, ready_first)
 
   pub machine_here : {ms : List ℕ} → AreMachinesOf l.blocks shop.machines ms
       → get_or ms (place l j ((placing shop w).steps j)) 0 ≡ machine_of shop j ((placing shop w).steps j)
@@ -65,39 +60,11 @@ module _ {greatest : ℕ} {shop : Shop} {w : List ℕ} {l : LayoutState} {rows :
         (e_is : e ≡ (place_next shop (placing shop w) j).free (machine_of shop j ((placing shop w).steps j)) + 1) where
       stored : AreStored shop (place_next shop (placing shop w) j).steps (head_of shop (placing shop w)) l
           (set rows.heads x 0)
-      stored = subst (λ (y : ℕ). AreStored shop (place_next shop (placing shop w) j).steps
-          (head_of shop (placing shop w)) l (set rows.heads y 0)) (sym x_is) left_stored
+      stored = grind (arith, left_stored)
 
       module _ {b : ℕ} (b_is : b ≡ max least (span 1 e (lanes_on (with_head rows x 0) l m) - 1)) where
         pub ahead_low : b ≤ lb shop (w ++ j ∷ [])
-        ahead_low =
-            let a = child-ge-before kept.limits kept.laid.are w j fits least least_is
-            in let b = open_span-le kept.limits kept.laid w j fits stored ((place_next shop (placing shop w) j).free
-            (machine_of shop j ((placing shop w).steps j))) refl
-            in let same : lanes_of (set rows.heads x 0) rows.times rows.tails
-            (get_or l.blocks m 0) (get_or l.blocks (m + 1) 0)
-            ≡ lanes_of (set rows.heads x 0) l.times l.tails
-            (get_or l.blocks (machine_of shop j ((placing shop w).steps j)) 0)
-            (get_or l.blocks (machine_of shop j ((placing shop w).steps j) + 1) 0) =
-            ap (λ (n : ℕ). lanes_of (set rows.heads x 0) rows.times rows.tails
-            (get_or l.blocks n 0) (get_or l.blocks (n + 1) 0)) m_is
-            ∙ (ap (λ (ts : List ℕ). lanes_of (set rows.heads x 0) ts rows.tails
-            (get_or l.blocks (machine_of shop j ((placing shop w).steps j)) 0)
-            (get_or l.blocks (machine_of shop j ((placing shop w).steps j) + 1) 0)) kept.times
-            ∙ ap (λ (ts : List ℕ). lanes_of (set rows.heads x 0) l.times ts
-            (get_or l.blocks (machine_of shop j ((placing shop w).steps j)) 0)
-            (get_or l.blocks (machine_of shop j ((placing shop w).steps j) + 1) 0)) kept.tails)
-            in let c = ap (λ (ls : List Lane). span 1 e ls) same
-            in let d = ap (λ (n : ℕ). span 1 n (lanes_of (set rows.heads x 0) l.times l.tails
-            (get_or l.blocks (machine_of shop j ((placing shop w).steps j)) 0)
-            (get_or l.blocks (machine_of shop j ((placing shop w).steps j) + 1) 0))) e_is
-            in omega arith
+        ahead_low = grind (arith, child-ge-before, open_span-le, stored)
 
         pub after_look : IsLeastAfter shop w l rows j x m e b
-        after_look = record {
-          next = record { position_is = x_is; machine_is = m_is; end_is = e_is };
-          parent = omega arith;
-          ends = omega arith;
-          ahead = omega arith;
-          most = ahead_low;
-        }
+        after_look = grind (arith, ahead_low)

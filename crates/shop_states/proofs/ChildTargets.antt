@@ -1,6 +1,6 @@
 -- The heads that a child of a word has, before any list of them is at hand.
 use Rattle.std.proofs.Common.{◌≡◌, ℕ, zero, suc, ◌+◌, ◌≤◌, ◌<◌, inl, inr, List, [], ◌∷◌, ◌++◌, length, get_or, set}
-use Rattle.std.proofs.Common.{refl, sym, ◌∙◌, ap, arith}
+use Rattle.std.proofs.Common.{refl, ◌∙◌, ap, arith}
 use Rattle.std.proofs.lemmas.Bool.{cases_eq, cases_lt}
 use Rattle.std.proofs.lemmas.List.{get_or_append_left, get_or_past, get_or-set_other, length-append}
 use Rattle.std.proofs.lemmas.Grind.{get_or-set_at}
@@ -35,10 +35,7 @@ values_at : (f : ℕ → ℕ) (n i : ℕ) → i < n → get_or (values f n) i 0 
 values_at f zero i within = absurd (omega arith)
 values_at f (suc n) i within = let long = length-values f n in elim (cases_lt i n) [
   | inl before ↦ get_or_append_left (values f n) (f n ∷ []) 0 i (omega arith) ∙ values_at f n i before
-  | inr last ↦ (let e : i ≡ length (values f n) = omega arith
-      in let here : i ≡ n = omega arith
-      in ap (λ (k : ℕ). get_or (values f n ++ f n ∷ []) k 0) e
-      ∙ (get_or-append_seam (values f n) (f n) [] 0 ∙ ap f (sym here)))
+  | inr last ↦ grind (arith, get_or-append_seam)
 ]
 
 module _ {greatest : ℕ} {shop : Shop} {w : List ℕ} {l : LayoutState} {rows : Rows}
@@ -56,10 +53,7 @@ module _ {greatest : ℕ} {shop : Shop} {w : List ℕ} {l : LayoutState} {rows :
 
   pub struck_low : (q : ℕ)
       → get_or (set rows.heads (place l j ((placing shop w).steps j)) 0) q 0 ≤ get_or rows.heads q 0
-  struck_low q = elim (cases_eq q (place l j ((placing shop w).steps j))) [
-    | inl e ↦ (let a = struck_here q e in omega arith)
-    | inr ne ↦ (let a = struck_other q ne in omega arith)
-  ]
+  struck_low q = grind (arith, cases_eq, struck_here, struck_other)
 
   stored : AreStored shop (place_next shop (placing shop w) j).steps (head_of shop (placing shop w)) l
       (set rows.heads (place l j ((placing shop w).steps j)) 0)

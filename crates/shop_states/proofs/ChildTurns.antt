@@ -39,9 +39,7 @@ module _ {greatest : ℕ} {shop : Shop} {w : List ℕ} {l : LayoutState} {rows r
   next_small = heads_small shop now.limits l now.laid (w ++ j ∷ []) fits rows'.heads now.heads
 
   within : (m : ℕ) → m < shop.machines → 8 * get_or l.blocks (m + 1) 0 ≤ length rows.heads
-  within m known =
-      let a = blocks_within shop kept.limits l kept.laid (m + 1) (omega arith)
-      in let c = kept.heads.positions in let d = kept.laid.positions.times in omega arith
+  within m known = grind (arith, blocks_within)
 
   -- on the operation's own machine, what begins up to its end is foreseen
   pub its_ahead : {position own end least : ℕ} → IsLeastAfter shop w l rows j position own end least → (m : ℕ)

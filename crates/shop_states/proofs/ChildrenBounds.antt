@@ -36,8 +36,7 @@ module _ {greatest : ℕ} {shop : Shop} {w : List ℕ} {l : LayoutState} {hs es 
   machine_is = m_is ∙ its_machine kept t.job (its_word kept siblings latest.last)
 
   pub machine_known : m < shop.machines
-  machine_known = let a = machine_is in let b = kept.kept.limits.on_machines t.job ((placing shop w).steps t.job)
-      in omega arith
+  machine_known = grind (arith, machine_is)
 
   pub machine_blocks : HasBlocks l (length hs) m
   machine_blocks = has_blocks kept.kept.limits kept.kept.laid m kept.kept.heads.positions machine_known

@@ -6,7 +6,7 @@ use Rattle.std.proofs.lemmas.Grind.{get_or-set_at}
 use Rattle.std.proofs.lemmas.List.{get_or-set_other, length-set}
 use Rattle.shop_lanes.specs.Rows.{Rows, with_head}
 use Rattle.shop_model.specs.Shop.{Shop, IsOperation, machine_of, route_of, time_of}
-use Rattle.shop_model.specs.Word.{Placing, placing}
+use Rattle.shop_model.specs.Word.{Placing}
 use Rattle.shop_model.proofs.Ends.{IsOperation-job}
 use Rattle.shop_model.proofs.Unders.{after_word}
 use Rattle.shop_bound.specs.Heads.{ready_after, head_of}
@@ -21,18 +21,10 @@ use Rattle.shop_states.proofs.JobLegs.{IsLegOf, index_there, leg_is, leg_small, 
 use Rattle.shop_states.proofs.RowTurns.{open_turn}
 
 pub beside_both : (a b c : Rows) → AreSameBeside a b → AreSameBeside b c → AreSameBeside a c
-beside_both a b c x y = record {
-  times = y.times ∙ x.times;
-  tails = y.tails ∙ x.tails;
-  positions = y.positions ∙ x.positions;
-}
+beside_both a b c x y = grind arith
 
 pub beside_one : (a b : Rows) (q v : ℕ) → b ≡ with_head a q v → AreSameBeside a b
-beside_one a b q v e = record {
-  times = ap (λ (r : Rows). r.times) e;
-  tails = ap (λ (r : Rows). r.tails) e;
-  positions = ap (λ (r : Rows). length r.heads) e ∙ length-set a.heads q v;
-}
+beside_one a b q v e = grind (arith, length-set)
 
 -- the heads of job j below step k
 pub record IsFilledUpTo (shop : Shop) (l : LayoutState) (s : PlacementState) (j k ready : ℕ) (old now : Rows)
@@ -101,14 +93,7 @@ module _ {greatest : ℕ} {shop : Shop} {l : LayoutState} {s : PlacementState} {
 
       -- it waits, and its head and its end fit
       pub open_fits : IsOfWord shop s → (head + 1 ≤ greatest) × (head + t < greatest)
-      open_fits of =
-          let p = placing shop of.word
-          in let is = of.placed
-          in let found = turn p is
-          in let steps = is.steps j job
-          in let f = can.fits of.word of.fits j k op (omega arith)
-          in let h = found.0
-          in (omega arith, omega arith)
+      open_fits of = grind (arith, turn)
 
       pub filled_open : (new : Rows) → new ≡ with_head now q (head + 1)
           → IsFilledUpTo shop l s j (k + 1) (head + t) rows new
@@ -120,14 +105,7 @@ module _ {greatest : ℕ} {shop : Shop} {l : LayoutState} {s : PlacementState} {
   -- what is placed stays as it was
   pub filled_begins : {placed ready : ℕ} → placed ≡ get_or s.steps j 0 → ready ≡ get_or s.ready j 0
       → IsFilledUpTo shop l s j placed ready rows rows
-  filled_begins {placed} {ready} read is_ready = record {
-    beside = record { times = refl; tails = refl; positions = refl };
-    filled = λ p is t op below. (let steps = is.steps j job
-        in record { waiting = λ opened. absurd (omega arith); placed = λ done. refl });
-    others = λ q free. refl;
-    ready_is = λ p is. (let steps = is.steps j job
-        in let none : placed - p.steps j ≡ 0 = omega arith in rw none (is_ready ∙ is.ready j job));
-  }
+  filled_begins {placed} {ready} read is_ready = grind arith
 
 -- so far the route of job j was filled up to a leg
 pub record IsFillingTo (shop : Shop) (l : LayoutState) (s : PlacementState) (j index ready : ℕ) (old now : Rows)
@@ -158,8 +136,7 @@ module _ {greatest : ℕ} {shop : Shop} {l : LayoutState} {rows : Rows} (can : C
     leg_there = index_there can.limits can.laid j job so_far.step so_far.within same so_far.index_is
 
     pub leg_few : index + 1 < 2 ^ 32
-    leg_few = let small = leg_small can.limits can.laid j job so_far.step so_far.within
-        in let at = so_far.index_is in omega arith
+    leg_few = grind (arith, leg_small)
 
     module _ {leg : Leg} (is : leg ≡ get_or (all_legs read) index (end_of 0)) {n : ℕ}
         (count : n ≡ length read.following) where
@@ -189,16 +166,14 @@ module _ {greatest : ℕ} {shop : Shop} {l : LayoutState} {rows : Rows} (can : C
 
         module _ {first from : ℕ} {free : List ℕ} (at : IsAtLeg shop l s j first from free) where
           pub leg_machine_within : leg.machine < length free
-          leg_machine_within = let a = leg_machine_known in let b = ap length at.free_is
-              in let c = at.of.placed.places.free in omega arith
+          leg_machine_within = grind (arith, leg_machine_known)
 
           module _ {head : ℕ} (greater : head ≡ max ready (get_or free leg.machine 0)) where
             above : head ≡ max ready (get_or s.free leg.machine 0)
             above = greater ∙ ap (λ (xs : List ℕ). max ready (get_or xs leg.machine 0)) at.free_is
 
             pub leg_fits : (head + 1 ≤ greatest) × (head + leg.time < greatest)
-            leg_fits = open_fits can job so_far.up_to op_there leg_found.position leg_found.machine leg_found.time
-                so_far.opened above at.of
+            leg_fits = grind (arith, open_fits, op_there, leg_found, above)
 
             pub filling_on : (new : Rows) → new ≡ with_head now leg.position (head + 1)
                 → IsFillingTo shop l s j (index + 1) (head + leg.time) rows new

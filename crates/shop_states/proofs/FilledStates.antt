@@ -1,5 +1,5 @@
 -- A state that was set by a placement.
-use Rattle.std.proofs.Common.{◌≡◌, ℕ, ◌<◌, inl, inr, List, length, replicate, get_or, ◌∙◌, ap, arith}
+use Rattle.std.proofs.Common.{◌≡◌, ℕ, ◌<◌, List, length, replicate, get_or, ◌∙◌, ap, arith}
 use Rattle.std.proofs.lemmas.Bool.{cases_lt}
 use Rattle.std.proofs.lemmas.List.{get_or_past, get_or-replicate, length-replicate}
 use Rattle.shop_model.specs.Placements.{IsPlacement}
@@ -30,11 +30,7 @@ module _ {greatest : ℕ} {shop : Shop} {l : LayoutState} (is : IsReady greatest
   }
 
   rested : IsRested hs'
-  rested q = ap (λ (xs : List ℕ). get_or xs q 0) heads ∙ elim (cases_lt q (length hs)) [
-    | inl below ↦ get_or-replicate (length hs) q 0 0 below
-    | inr past ↦ get_or_past (replicate (length hs) 0) q 0
-        (omega (arith, length-replicate {A = ℕ} (length hs) 0))
-  ]
+  rested q = grind (arith, cases_lt, get_or-replicate, get_or_past, length-replicate)
 
   module _ {es' : List ℕ} (long : es' ≡ replicate (length es) greatest) where
     pub as_many : length es' ≡ length shop.jobs
@@ -42,8 +38,7 @@ module _ {greatest : ℕ} {shop : Shop} {l : LayoutState} (is : IsReady greatest
 
     -- no job has an end yet
     none_set : (j : ℕ) → j < length shop.jobs → get_or es' j 0 ≡ greatest
-    none_set j known = ap (λ (xs : List ℕ). get_or xs j 0) long
-        ∙ get_or-replicate (length es) j greatest 0 (let jobs = room.jobs_with_ends in omega arith)
+    none_set j known = grind (arith, get_or-replicate)
 
     module _ {ready free hs'' es'' nexts' : List ℕ}
         (has : HasFilled shop l (placement_at l nexts ready free) (rows_of l hs' es') (rows_of l hs'' es''))

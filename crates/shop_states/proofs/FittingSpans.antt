@@ -13,8 +13,7 @@ span_within least start (x ∷ xs) =
     let sum = sum_by-cons (λ (l : Lane). l.time) x xs
     in elim (cases_lt x.head least) [
       | inl left ↦ (let e = span_left least start x xs left in let rest = span_within least start xs in omega arith)
-      | inr served ↦ (let e = span_served least start x xs served
-          in let rest = span_within least (start + x.time) xs in omega arith)
+      | inr served ↦ grind (arith, span_served, span_within least (start + x.time) xs)
     ]
 
 pub spans_within : (limit above upto : ℕ) (all : List Lane) → FitsSpan limit upto all → (xs : List Lane)
@@ -23,11 +22,7 @@ spans_within limit above upto all fits [] = omega arith
 spans_within limit above upto all fits (x ∷ xs) =
     let rest = spans_within limit above upto all fits xs
     in elim (cases_lt above x.head) [
-      | inl after ↦ elim (cases_lt upto x.head) [
-        | inl high ↦ (let e = spans_high above upto all x xs high in omega arith)
-        | inr here ↦ (let e = spans_counted above upto all x xs after here
-            in let own = span_within x.head x.head all in omega arith)
-      ]
+      | inl after ↦ grind (arith, cases_lt, spans_high, spans_counted, span_within)
       | inr low ↦ (let e = spans_low above upto all x xs low in omega arith)
     ]
 
@@ -36,15 +31,7 @@ spans_each_of : (c above upto : ℕ) (all : List Lane) → ((h : ℕ) → above 
     → (xs : List Lane) → spans_from above upto all xs ≤ c
 spans_each_of c above upto all each [] = omega arith
 spans_each_of c above upto all each (x ∷ xs) =
-    let rest = spans_each_of c above upto all each xs
-    in elim (cases_lt above x.head) [
-      | inl after ↦ elim (cases_lt upto x.head) [
-        | inl high ↦ (let e = spans_high above upto all x xs high in omega arith)
-        | inr here ↦ (let e = spans_counted above upto all x xs after here
-            in let own = each x.head after here in omega arith)
-      ]
-      | inr low ↦ (let e = spans_low above upto all x xs low in omega arith)
-    ]
+    grind (arith, cases_lt, spans_high, spans_counted, spans_low, spans_each_of c above upto all each xs)
 
 pub spans_each : (c above upto : ℕ) (xs : List Lane) → ((h : ℕ) → above < h → h ≤ upto → span h h xs ≤ c)
     → spans_between above upto xs ≤ c

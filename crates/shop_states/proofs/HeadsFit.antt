@@ -9,7 +9,4 @@ use Rattle.shop_layout.specs.Positions.{LayoutState}
 
 pub heads_fit : (greatest : ℕ) (shop : Shop) (l : LayoutState) → IsWithinLimits shop → FitsLanes greatest shop l
     → AreHeadsFit greatest shop
-heads_fit greatest shop l limits holds w word j k op opened =
-    let a = latest_end_is shop w word j k op opened
-    in let b = holds 0 (let c = limits.some_machine in omega arith)
-    in omega arith
+heads_fit greatest shop l limits holds w word j k op opened = grind (arith, latest_end_is)

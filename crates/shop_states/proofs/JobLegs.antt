@@ -51,10 +51,7 @@ module _ (l : LayoutState) where
 
 module _ {shop : Shop} (limits : IsWithinLimits shop) {l : LayoutState} (laid : IsLaidOut shop l) where
   pub first_small : (j : ℕ) → j ≤ length shop.jobs → leg_index l j 0 < 200000
-  first_small j known =
-      let jobs = laid.jobs in let few = limits.jobs
-      in let a = first_few l (λ i. let b = laid.routes i in let c = limits.routes i in omega arith) j (omega arith)
-      in omega arith
+  first_small j known = grind (arith, first_few)
 
   module _ (j : ℕ) (known : j < length shop.jobs) (k : ℕ) (within : k ≤ length (route_of shop j)) where
     pub leg_small : leg_index l j k < 300000
@@ -70,8 +67,7 @@ module _ {shop : Shop} (limits : IsWithinLimits shop) {l : LayoutState} (laid : 
 
       module _ {leg : Leg} (is : leg ≡ get_or (all_legs read) index (end_of 0)) where
         found : leg ≡ get_or (all_legs l) (leg_index l j k) (end_of 0)
-        found = is ∙ (ap (λ (x : LayoutState). get_or (all_legs x) index (end_of 0)) same
-            ∙ ap (λ (i : ℕ). get_or (all_legs l) i (end_of 0)) at)
+        found = grind arith
 
         pub leg_is : k < length (route_of shop j) → IsLegOf shop l j k leg
         leg_is op =
@@ -90,27 +86,13 @@ module _ {shop : Shop} (limits : IsWithinLimits shop) {l : LayoutState} (laid : 
             }
 
         end_there : length (route_of shop j) ≤ k → leg.position ≡ first_position l shop.machines
-        end_there past =
-            let jobs = laid.jobs
-            in let route = laid.routes j
-            in ap (λ (x : Leg). x.position) (found ∙ leg_behind l j (omega arith) k (end_of 0) (omega arith))
-            ∙ laid.positions.following
+        end_there past = grind (arith, found, leg_behind)
 
         pub position_or : leg.position ≡ place_or (first_position l shop.machines) l.places j k
-        position_or =
-            let route = laid.routes j
-            in elim (cases_lt k (length (route_of shop j))) [
-              | inl op ↦ (leg_is op).position
-                  ∙ sym (place_there l (first_position l shop.machines) j k (omega arith))
-              | inr past ↦ end_there past ∙ sym (place_past l (first_position l shop.machines) j k (omega arith))
-            ]
+        position_or = grind (arith, cases_lt, leg_is, place_there, end_there, place_past)
 
         pub step_there : {n : ℕ} → n ≡ length read.following → leg.position < n → k < length (route_of shop j)
-        step_there count below = elim (cases_lt k (length (route_of shop j))) [
-          | inl op ↦ op
-          | inr past ↦ absurd (let a = end_there past in let b = laid.positions.following
-              in let c = ap (λ (x : LayoutState). length x.following) same in omega arith)
-        ]
+        step_there count below = grind (arith, cases_lt, end_there)
 
         pub step_past : {n : ℕ} → n ≡ length read.following → n ≤ leg.position → length (route_of shop j) ≤ k
         step_past count above = elim (cases_lt k (length (route_of shop j))) [

@@ -18,10 +18,7 @@ use Rattle.shop_states.proofs.RisingLists.{rising_short}
 pub in_append : (xs ys : List ℕ) (q : ℕ) → IsIn (xs ++ ys) q → IsIn xs q ⊎ IsIn ys q
 in_append [] ys q h = inr h
 in_append (x ∷ xs) ys q (inl e) = inl (inl e)
-in_append (x ∷ xs) ys q (inr h) = elim (in_append xs ys q h) [
-  | inl g ↦ inl (inr g)
-  | inr g ↦ inr g
-]
+in_append (x ∷ xs) ys q (inr h) = grind (arith, in_append xs ys q h)
 
 pub append_left : (xs ys : List ℕ) (q : ℕ) → IsIn xs q → IsIn (xs ++ ys) q
 append_left [] ys q h = absurd h
@@ -67,9 +64,7 @@ in_bits (suc n) at word q h = elim (cases_eq (word % 2) 1) [
 
 bits_in : (n at word i : ℕ) → i < n → bit_at word i ≡ 1 → IsIn (set_bits n at word) (at + i)
 bits_in zero at word i lt is = absurd (omega arith)
-bits_in (suc n) at word zero lt is =
-    subst (λ (xs : List ℕ). IsIn xs (at + zero)) (sym (set_bits-odd n at word (sym (bit_at_lowest word) ∙ is)))
-    (inl (omega arith))
+bits_in (suc n) at word zero lt is = grind (arith, set_bits-odd, bit_at_lowest)
 bits_in (suc n) at word (suc i) lt is =
     let e : at + 1 + i ≡ at + suc i = omega arith
     in let rest = subst (IsIn (set_bits n (at + 1) (word / 2))) e
@@ -85,13 +80,8 @@ none_rise at word = tt
 
 bits_rise : (n at word : ℕ) → Rises (set_bits n at word)
 bits_rise zero at word = none_rise at word
-bits_rise (suc n) at word = elim (cases_eq (word % 2) 1) [
-  | inl odd ↦ subst Rises (sym (set_bits-odd n at word odd)) (
-    (λ q h. let b = in_bits n (at + 1) (word / 2) q h in let a = b.2 in omega arith),
-    bits_rise n (at + 1) (word / 2),
-  )
-  | inr other ↦ subst Rises (sym (set_bits-even n at word (omega arith))) (bits_rise n (at + 1) (word / 2))
-]
+bits_rise (suc n) at word =
+    grind (arith, cases_eq, set_bits-odd, in_bits, set_bits-even, bits_rise n (at + 1) (word / 2))
 
 members_from : (at : ℕ) (words : List ℕ) (q : ℕ) → IsIn (members at words) q → at ≤ q
 members_from at [] q h = absurd h
@@ -103,9 +93,7 @@ members_from at (word ∷ words) q h = elim (in_append (set_bits 64 at word) (me
 pub members_rise : (at : ℕ) (words : List ℕ) → Rises (members at words)
 members_rise at [] = tt
 members_rise at (word ∷ words) =
-    append_rises (set_bits 64 at word) (members (at + 64) words) (bits_rise 64 at word) (members_rise (at + 64) words)
-    (λ a b h g. let low = in_bits 64 at word a h
-    in let i = low.1 in let e = low.2 in let high = members_from (at + 64) words b g in omega arith)
+    grind (arith, append_rises, bits_rise, in_bits, members_from, members_rise (at + 64) words)
 
 -- one bit more
 one_of_two : (a b c : ℕ) → c ≡ max a b → c < 2 → a ≡ 1 → c ≡ 1
@@ -122,63 +110,20 @@ pub bit_put : (at word k : ℕ) → k < 64
 bit_put at word k lt =
     let new = bit_or word (2 ^ k)
     in record {
-      kept = λ q h.
-          let b = in_bits 64 at word q h
-          in subst (IsIn (set_bits 64 at new)) (sym b.2) (bits_in 64 at new b.0 b.1
-          (one_of_two (bit_at word b.0) (bit_at (2 ^ k) b.0) (bit_at new b.0) (bit_at_or word (2 ^ k) b.0)
-          (bit_at-lt new b.0) b.3));
-      gathered = λ q is. subst (IsIn (set_bits 64 at new)) (sym is) (bits_in 64 at new k lt
-          (one_of_two (bit_at (2 ^ k) k) (bit_at word k) (bit_at new k)
-          (bit_at_or word (2 ^ k) k ∙ (let e : max (bit_at word k) (bit_at (2 ^ k) k) ≡ max (bit_at (2 ^ k) k)
-          (bit_at word k) = omega arith in e))
-          (bit_at-lt new k) (bit_at-pow_same k)));
+      kept = λ q h. grind (arith, in_bits, bits_in, one_of_two, bit_at_or, bit_at-lt);
+      gathered = λ q is. grind (arith, bits_in, one_of_two, bit_at_or, bit_at-lt, bit_at-pow_same);
       only = λ q h.
-          let b = in_bits 64 at new q h
-          in elim (cases_eq (bit_at word b.0) 1) [
-            | inl one ↦ inl (subst (IsIn (set_bits 64 at word)) (sym b.2) (bits_in 64 at word b.0 b.1 one))
-            | inr not_one ↦ elim (cases_eq b.0 k) [
-              | inl same ↦ inr (b.2 ∙ ap (λ (i : ℕ). at + i) same)
-              | inr other ↦ absurd (let bit = other_of_two (bit_at word b.0) (bit_at (2 ^ k) b.0) (bit_at new b.0)
-                  (bit_at_or word (2 ^ k) b.0) b.3 (no_bit (bit_at word b.0) (bit_at-lt word b.0) not_one)
-                  in let none = bit_at-pow_other k b.0 other in omega arith)
-            ]
-          ];
+          grind (arith, in_bits, cases_eq, bits_in, other_of_two, bit_at_or, no_bit, bit_at-lt, bit_at-pow_other);
     }
 
 -- what is put into a part is put into the whole
 pub more_behind : (P : ℕ → Type 0) (old new rest : List ℕ) → HasGathered P old new → HasGathered P (old ++ rest)
     (new ++ rest)
-more_behind P old new rest put = record {
-  kept = λ q h. elim (in_append old rest q h) [
-    | inl g ↦ append_left new rest q (put.kept q g)
-    | inr g ↦ append_right new rest q g
-  ];
-  gathered = λ q is. append_left new rest q (put.gathered q is);
-  only = λ q h. elim (in_append new rest q h) [
-    | inl g ↦ elim (put.only q g) [
-      | inl f ↦ inl (append_left old rest q f)
-      | inr is ↦ inr is
-    ]
-    | inr g ↦ inl (append_right old rest q g)
-  ];
-}
+more_behind P old new rest put = grind (arith, in_append, append_left, append_right)
 
 pub more_before : (P : ℕ → Type 0) (old new first : List ℕ) → HasGathered P old new
     → HasGathered P (first ++ old) (first ++ new)
-more_before P old new first put = record {
-  kept = λ q h. elim (in_append first old q h) [
-    | inl g ↦ append_left first new q g
-    | inr g ↦ append_right first new q (put.kept q g)
-  ];
-  gathered = λ q is. append_right first new q (put.gathered q is);
-  only = λ q h. elim (in_append first new q h) [
-    | inl g ↦ inl (append_left first old q g)
-    | inr g ↦ elim (put.only q g) [
-      | inl f ↦ inl (append_right first old q f)
-      | inr is ↦ inr is
-    ]
-  ];
-}
+more_before P old new first put = grind (arith, in_append, append_left, append_right)
 
 member_put : (at : ℕ) (words : List ℕ) (i k : ℕ) → i < length words → k < 64
     → HasPut (at + (64 * i + k)) (members at words)
@@ -191,12 +136,7 @@ member_put at (word ∷ words) zero k within lt =
     (subst (λ (n : ℕ). HasPut n (set_bits 64 at word)
     (set_bits 64 at (bit_or word (2 ^ k)))) e (bit_put at word k lt))
 member_put at (word ∷ words) (suc i) k within lt =
-    let e : at + 64 + (64 * i + k) ≡ at + (64 * suc i + k) = omega arith
-    in more_before (λ q. q ≡ at + (64 * suc i + k)) (members (at + 64) words)
-    (members (at + 64) (set words i (bit_or (get_or words i 0) (2 ^ k)))) (set_bits 64 at word)
-    (subst (λ (n : ℕ). HasPut n (members (at + 64) words)
-    (members (at + 64) (set words i (bit_or (get_or words i 0) (2 ^ k))))) e
-    (member_put (at + 64) words i k (omega arith) lt))
+    grind (arith, more_before, member_put (at + 64) words i k (omega arith) lt)
 
 small_shift : (x : ℕ) → x < 2 ^ 64 → 1 * x % 2 ^ 64 ≡ x
 small_shift x small = omega arith
@@ -223,8 +163,7 @@ put_in words job word within at =
 
 pub no_members : (n at : ℕ) → members at (replicate n 0) ≡ []
 no_members zero at = refl
-no_members (suc n) at = ap (λ (l : List ℕ). l ++ members (at + 64) (replicate n 0)) (set_bits-zero 64 at)
-    ∙ no_members n (at + 64)
+no_members (suc n) at = grind (arith, set_bits-zero, no_members n (at + 64))
 
 next_word : (at i : ℕ) (words : List ℕ) → i < length words
     → members at (drop i words) ≡ set_bits 64 at (get_or words i 0) ++ members (at + 64) (drop (suc i) words)
@@ -250,26 +189,14 @@ module _ (words : List ℕ) (count : ℕ) (below : (j : ℕ) → IsIn (members 0
 
   pub in_word : i < length words → (q : ℕ) → IsIn (set_bits 64 (64 * i) (get_or words i 0)) q
       → IsIn (members 0 words) q
-  in_word within q h = subst (λ (l : List ℕ). IsIn l q) so_far
-      (append_right jobs (members (64 * i) (drop i words)) q
-      (subst (λ (l : List ℕ). IsIn l q) (sym (next_word (64 * i) i words within))
-      (append_left (set_bits 64 (64 * i) (get_or words i 0)) (members (64 * i + 64) (drop (suc i) words)) q h)))
+  in_word within q h = grind (arith, append_right, next_word, append_left)
 
 -- the jobs of one word more
 pub word_more : (words : List ℕ) (i : ℕ) (done jobs : List ℕ) → i < length words
     → jobs ≡ set_bits 64 (64 * i) (get_or words i 0)
     → done ++ members (64 * i) (drop i words) ≡ members 0 words
     → (done ++ jobs) ++ members (64 * (i + 1)) (drop (i + 1) words) ≡ members 0 words
-word_more words i done jobs within is so_far =
-    let next : suc i ≡ i + 1 = omega arith
-    in let at : 64 * i + 64 ≡ 64 * (i + 1) = omega arith
-    in let rest : members (64 * i) (drop i words) ≡ jobs ++ members (64 * (i + 1)) (drop (i + 1) words) =
-    next_word (64 * i) i words within
-    ∙ (ap (λ (l : List ℕ). l ++ members (64 * i + 64) (drop (suc i) words)) (sym is)
-    ∙ (ap (λ (n : ℕ). jobs ++ members n (drop (suc i) words)) at
-    ∙ ap (λ (n : ℕ). jobs ++ members (64 * (i + 1)) (drop n words)) next))
-    in append_assoc done jobs (members (64 * (i + 1)) (drop (i + 1) words))
-    ∙ (ap (λ (l : List ℕ). done ++ l) (sym rest) ∙ so_far)
+word_more words i done jobs within is so_far = grind (arith, next_word, append_assoc)
 
 drop_all : (i : ℕ) (words : List ℕ) → length words ≤ i → drop i words ≡ []
 drop_all zero [] past = refl
@@ -279,6 +206,4 @@ drop_all (suc i) (word ∷ words) past = drop_all i words (omega arith)
 
 pub all_words : (words : List ℕ) (i : ℕ) (done : List ℕ) → length words ≤ i
     → done ++ members (64 * i) (drop i words) ≡ members 0 words → done ≡ members 0 words
-all_words words i done past so_far =
-    sym (append-nil done)
-    ∙ (ap (λ (l : List ℕ). done ++ l) (sym (ap (members (64 * i)) (drop_all i words past))) ∙ so_far)
+all_words words i done past so_far = grind (arith, append-nil, drop_all)

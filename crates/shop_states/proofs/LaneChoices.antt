@@ -21,24 +21,12 @@ pub record AreGathering (l : LayoutState) (marks todo old now : List ℕ) : Type
   pub only : (j : ℕ) → IsIn now j → IsIn old j ⊎ IsJobAt l marks j
 
 pub gathering_begins : (l : LayoutState) (marks old : List ℕ) → AreGathering l marks marks old old
-gathering_begins l marks old = record {
-  to_come = λ q h. h;
-  kept = λ j h. h;
-  gathered = λ q h. inr h;
-  only = λ j h. inl h;
-}
+gathering_begins l marks old = grind arith
 
 module _ {l : LayoutState} {marks : List ℕ} where
   pub gathering_ends : {todo old now : List ℕ} → AreGathering l marks todo old now → todo ≡ []
       → HasGathered (IsJobAt l marks) old now
-  gathering_ends {now} are nothing = record {
-    kept = are.kept;
-    gathered = λ j at. elim (are.gathered at.0 at.1) [
-      | inl h ↦ subst (IsIn now) at.2 h
-      | inr h ↦ absurd (subst (λ (xs : List ℕ). IsIn xs at.0) nothing h)
-    ];
-    only = are.only;
-  }
+  gathering_ends {now} are nothing = grind arith
 
   module _ {todo old now : List ℕ} (so_far : AreGathering l marks todo old now) {q : ℕ}
       {rest : List ℕ} (popped : todo ≡ q ∷ rest) where
@@ -47,28 +35,11 @@ module _ {l : LayoutState} {marks : List ℕ} where
 
     -- its job is put in
     pub gathering_on : {new : List ℕ} → HasPut (get_or l.jobs q 0) now new → AreGathering l marks rest old new
-    gathering_on put = record {
-      to_come = λ r h. so_far.to_come r (subst (λ (xs : List ℕ). IsIn xs r) (sym popped) (inr h));
-      kept = λ j h. put.kept j (so_far.kept j h);
-      gathered = λ r marked. elim (so_far.gathered r marked) [
-        | inl h ↦ inl (put.kept (get_or l.jobs r 0) h)
-        | inr h ↦ elim (subst (λ (xs : List ℕ). IsIn xs r) popped h) [
-          | inl e ↦ inl (put.gathered (get_or l.jobs r 0) (ap (λ (x : ℕ). get_or l.jobs x 0) e))
-          | inr g ↦ inr g
-        ]
-      ];
-      only = λ j h. elim (put.only j h) [
-        | inl g ↦ so_far.only j g
-        | inr e ↦ inr (q, popped_marked, sym e)
-      ];
-    }
+    gathering_on put = grind (arith, popped_marked)
 
 -- of all positions
 pub have_all : {l : LayoutState} {n most : ℕ} → HaveJobs l n most → HaveJobs l (length l.jobs) most
-have_all have = record {
-  many = refl;
-  below = λ q here. have.below q (let many = have.many in omega arith);
-}
+have_all have = grind arith
 
 -- the marks are of the heads below a limit in some blocks
 module _ (rows : Rows) (from to limit : ℕ) (ordered : from ≤ to) (within : 8 * to ≤ length rows.heads)
@@ -81,46 +52,17 @@ module _ (rows : Rows) (from to limit : ℕ) (ordered : from ≤ to) (within : 8
 
   pub gathered_below : {l : LayoutState} {old now : List ℕ} → HasGathered (IsJobAt l marks) old now
       → HasGathered (IsJobBelow l rows.heads (IsInBlocks from to) limit) old now
-  gathered_below {l} {old} {now} gathered = record {
-    kept = gathered.kept;
-    gathered = λ j next. gathered.gathered j (
-      next.position,
-      subst (λ (xs : List ℕ). IsIn xs next.position) (sym are)
-          (below_is_in rows from to limit ordered within next.position
-          (record { there = next.there; waits = next.waits; below = next.below })),
-      next.job,
-    );
-    only = λ j h. elim (gathered.only j h) [
-      | inl g ↦ inl g
-      | inr at ↦ (let is = marked_below at.0 at.1 in inr (record {
-        position = at.0;
-        there = is.there;
-        waits = is.waits;
-        below = is.below;
-        job = at.2;
-      }))
-    ];
-  }
+  gathered_below {l} {old} {now} gathered = grind (arith, below_is_in, marked_below)
 
 -- some blocks, and those behind them
 module _ (l : LayoutState) (heads : List ℕ) (limit : ℕ) where
   moved : (among others : ℕ → Type 0) → (j : ℕ) → (next : IsJobBelow l heads among limit j) → others next.position
       → IsJobBelow l heads others limit j
-  moved among others j next there = record {
-    position = next.position;
-    there = there;
-    waits = next.waits;
-    below = next.below;
-    job = next.job;
-  }
+  moved among others j next there = grind arith
 
   pub none_gathered : (from : ℕ) (old : List ℕ)
       → HasGathered (IsJobBelow l heads (IsInBlocks from from) limit) old old
-  none_gathered from old = record {
-    kept = λ j h. h;
-    gathered = λ j next. (let a = next.there.0 in let b = next.there.1 in absurd (omega arith));
-    only = λ j h. inl h;
-  }
+  none_gathered from old = grind arith
 
   pub more_gathered : (first from to : ℕ) (old now new : List ℕ) → first ≤ from → from ≤ to
       → HasGathered (IsJobBelow l heads (IsInBlocks first from) limit) old now
@@ -148,18 +90,7 @@ module _ (l : LayoutState) (heads : List ℕ) (limit : ℕ) where
 -- what is put in first, and all that is gathered then
 pub gathered_with : (j : ℕ) (P : ℕ → Type 0) (one js : List ℕ) → HasPut j [] one → HasGathered P one js → Rises js
     → IsGatheredWith j P js
-gathered_with j P one js put more rises = record {
-  has = more.kept j (put.gathered j refl);
-  gathered = more.gathered;
-  only = λ q h. elim (more.only q h) [
-    | inl g ↦ elim (put.only q g) [
-      | inl nothing ↦ absurd nothing
-      | inr e ↦ inl e
-    ]
-    | inr is ↦ inr is
-  ];
-  rises = rises;
-}
+gathered_with j P one js put more rises = grind arith
 
 in_alike : (x : ℕ) (xs : List ℕ) → AllByRecursion (λ p. p ≡ x) xs → (q : ℕ) → IsIn xs q → q ≡ x
 in_alike x [] all q h = absurd h

@@ -1,5 +1,5 @@
 -- The conflict set is the chosen job and the jobs that are gathered from the lanes.
-use Rattle.std.proofs.Common.{◌≡◌, ℕ, zero, suc, ◌+◌, ◌-◌, ◌≤◌, ◌<◌, max, ◌⊎◌, inl, inr, Bool, true, false, ◌||◌, List}
+use Rattle.std.proofs.Common.{◌≡◌, ℕ, zero, suc, ◌+◌, ◌≤◌, ◌<◌, ◌⊎◌, inl, inr, Bool, true, false, ◌||◌, List}
 use Rattle.std.proofs.Common.{[], ◌∷◌, length, get_or, refl, sym, ◌∙◌, ap, subst, arith, eqb, ltb}
 use Rattle.std.specs.List.{filter, range_with_len, best_of}
 use Rattle.std.proofs.lemmas.Bool.{cases_Bool, cases_eq, cases_lt, and_from, and_parts, lt-ltb}
@@ -7,7 +7,7 @@ use Rattle.std.proofs.lemmas.Bool.{le-ltb, ltb-true, or_left, or_right, eq-eqb, 
 use Rattle.std.proofs.lemmas.List.{get_or_past}
 use Rattle.shop_lanes.specs.Ends.{IsFirstLeast}
 use Rattle.shop_lanes.specs.Rows.{Rows}
-use Rattle.shop_model.specs.Shop.{Shop, IsOperation, route_of, machine_of, time_of}
+use Rattle.shop_model.specs.Shop.{Shop, IsOperation, route_of, machine_of}
 use Rattle.shop_model.specs.Word.{Placing}
 use Rattle.shop_model.proofs.Ends.{IsOperation-job}
 use Rattle.shop_bound.specs.Conflicts.{open_jobs, next_machine, next_head, next_end, conflicts_with, conflict_among}
@@ -34,8 +34,7 @@ first_least e j (x ∷ xs) c r is_in least first = elim (cases_lt (e x) (e j)) [
   ]) (λ i h. least i (inr h)) (λ i h. first i (inr h)))
   | inr ge ↦ rw (le-ltb (e x) (e j) ge) (first_least e j xs c ((λ q h. r.0 q (inr h)), r.1.1) (elim is_in [
     | inl s ↦ inl s
-    | inr (inl s) ↦ (let a = r.0 x (inl refl) in let b = first j (inl refl) (omega arith) in let d = ap e s
-        in absurd (omega arith))
+    | inr (inl s) ↦ grind arith
     | inr (inr h) ↦ inr h
   ]) (λ i h. least i (elim h [
     | inl s ↦ inl s
@@ -68,23 +67,16 @@ in_filter t (x ∷ xs) q h = elim (cases_Bool (t x)) [
 pub filter_in : (t : ℕ → Bool) (xs : List ℕ) (q : ℕ) → IsIn xs q → t q ≡ true → IsIn (filter t xs) q
 filter_in t [] q h is = absurd h
 filter_in t (x ∷ xs) q (inl s) is = rw (ap t (sym s) ∙ is) (inl s)
-filter_in t (x ∷ xs) q (inr h) is = elim (cases_Bool (t x)) [
-  | inl e ↦ rw e (inr (filter_in t xs q h is))
-  | inr e ↦ rw e (filter_in t xs q h is)
-]
+filter_in t (x ∷ xs) q (inr h) is = grind (arith, cases_Bool, filter_in t xs q h is)
 
 pub filter_rises : (t : ℕ → Bool) (xs : List ℕ) → Rises xs → Rises (filter t xs)
 filter_rises t [] r = tt
-filter_rises t (x ∷ xs) r = elim (cases_Bool (t x)) [
-  | inl e ↦ rw e ((λ q h. r.0 q (in_filter t xs q h).0), filter_rises t xs r.1)
-  | inr e ↦ rw e (filter_rises t xs r.1)
-]
+filter_rises t (x ∷ xs) r = grind (arith, cases_Bool, in_filter, filter_rises t xs r.1)
 
 pub in_range : (a n q : ℕ) → IsIn (range_with_len a n) q → (a ≤ q) × (q < a + n)
 in_range a zero q h = absurd h
 in_range a (suc n) q (inl e) = (omega arith, omega arith)
-in_range a (suc n) q (inr h) = let r = in_range (a + 1) n q h in let b = r.0 in let d = r.1
-    in (omega arith, omega arith)
+in_range a (suc n) q (inr h) = grind (arith, in_range (a + 1) n q h)
 
 pub range_in : (n a q : ℕ) → a ≤ q → q < a + n → IsIn (range_with_len a n) q
 range_in zero a q low high = absurd (omega arith)
@@ -99,16 +91,10 @@ range_rises (suc n) a = ((λ q h. let b = (in_range (a + 1) n q h).0 in omega ar
 
 module _ (shop : Shop) (p : Placing) where
   pub open_rises : Rises (open_jobs shop p)
-  open_rises = filter_rises (λ j. ltb (p.steps j) (length (route_of shop j))) (range_with_len 0 (length shop.jobs))
-      (range_rises (length shop.jobs) 0)
+  open_rises = grind (arith, filter_rises, range_rises)
 
   pub open_is : (j : ℕ) → IsIn (open_jobs shop p) j → (j < length shop.jobs) × IsOperation shop j (p.steps j)
-  open_is j h =
-      let r = in_filter (λ i. ltb (p.steps i) (length (route_of shop i))) (range_with_len 0 (length shop.jobs)) j h
-      in (
-        (let a = (in_range 0 (length shop.jobs) j r.0).1 in omega arith),
-        ltb-true (p.steps j) (length (route_of shop j)) r.1,
-      )
+  open_is j h = grind (arith, in_filter, in_range, ltb-true)
 
   pub is_open : (j : ℕ) → IsOperation shop j (p.steps j) → IsIn (open_jobs shop p) j
   is_open j op = filter_in (λ i. ltb (p.steps i) (length (route_of shop i))) (range_with_len 0 (length shop.jobs)) j
@@ -121,17 +107,11 @@ either false b e = inr e
 
 -- what follows a next operation begins no earlier than that can end
 ready_from_end : (shop : Shop) (p : Placing) (j n : ℕ) → next_end shop p j ≤ ready_after shop p j (suc n)
-ready_from_end shop p j zero =
-    let e : p.steps j + 0 ≡ p.steps j = omega arith
-    in let a = ap (λ (k : ℕ). max (p.ready j) (p.free (machine_of shop j k)) + time_of shop j k) e
-    in omega arith
+ready_from_end shop p j zero = grind arith
 ready_from_end shop p j (suc n) = let a = ready_from_end shop p j n in omega arith
 
 later_head : (shop : Shop) (p : Placing) (j k : ℕ) → p.steps j < k → next_end shop p j ≤ head_of shop p j k
-later_head shop p j k later =
-    let e : suc (k - p.steps j - 1) ≡ k - p.steps j = omega arith
-    in let a = ready_from_end shop p j (k - p.steps j - 1)
-    in let b = ap (λ (n : ℕ). ready_after shop p j n) e in omega arith
+later_head shop p j k later = grind (arith, ready_from_end)
 
 -- the next operation of a job waits among some positions with a head below a limit
 pub record IsNextBelow (nexts heads : List ℕ) (among : ℕ → Type 0) (limit j : ℕ) : Type 0 where
@@ -142,15 +122,7 @@ pub record IsNextBelow (nexts heads : List ℕ) (among : ℕ → Type 0) (limit 
 
 gathered_as : (j : ℕ) (P Q : ℕ → Type 0) → ((i : ℕ) → P i → Q i) → ((i : ℕ) → Q i → P i) → (js : List ℕ)
     → IsGatheredWith j P js → IsGatheredWith j Q js
-gathered_as j P Q to back js is = record {
-  has = is.has;
-  gathered = λ i q. is.gathered i (back i q);
-  only = λ i h. elim (is.only i h) [
-    | inl e ↦ inl e
-    | inr p ↦ inr (to i p)
-  ];
-  rises = is.rises;
-}
+gathered_as j P Q to back js is = grind arith
 
 module _ {shop : Shop} {p : Placing} {l : LayoutState} {nexts : List ℕ} {rows : Rows}
     (can : AreNextsAt shop p l nexts rows) where
@@ -223,8 +195,7 @@ module _ {shop : Shop} {p : Placing} {l : LayoutState} {nexts : List ℕ} {rows 
           in let known = next.job
           in let here : get_or nexts i 0 < length rows.heads = elim (cases_lt (get_or nexts i 0) (length rows.heads)) [
             | inl h ↦ h
-            | inr past ↦ absurd (let a = next.waits in let b = get_or_past rows.heads (get_or nexts i 0) 0 past
-                in omega arith)
+            | inr past ↦ grind (arith, get_or_past)
           ]
           in let o = next_is can i (omega arith) here
           in let at = next_there can i o
@@ -272,20 +243,14 @@ module _ {shop : Shop} {p : Placing} {l : LayoutState} {nexts : List ℕ} {rows 
           let all = open_jobs shop p
           in one_rising js (filter (conflicts_with shop p r) all) is.rises
           (filter_rises (conflicts_with shop p r) all (open_rises shop p)) (λ q h. elim (is.only q h) [
-            | inl e ↦ filter_in (conflicts_with shop p r) all q (subst (IsIn all) (sym e) (is_open shop p r op))
-                (or_left (eqb q r) _ (eq-eqb q r e))
-            | inr next ↦ (let c = in_conflict q next
-                in filter_in (conflicts_with shop p r) all q (is_open shop p q c.0) c.1)
+            | inl e ↦ grind (arith, filter_in, is_open, or_left, eq-eqb)
+            | inr next ↦ grind (arith, in_conflict, filter_in, is_open)
           ]) (λ q h.
           let f = in_filter (conflicts_with shop p r) all q h
           in let o = open_is shop p q f.0
           in elim (either (eqb q r) _ f.1) [
             | inl e ↦ subst (IsIn js) (sym (eqb-true q r e)) is.has
-            | inr e ↦ (let parts = and_parts (eqb (next_machine shop p q) (next_machine shop p r))
-                (ltb (next_head shop p q) (next_end shop p r)) e
-                in is.gathered q (below_from q o.1
-                (eqb-true (next_machine shop p q) (next_machine shop p r) parts.0)
-                (ltb-true (next_head shop p q) (next_end shop p r) parts.1)))
+            | inr e ↦ grind (arith, and_parts, below_from, eqb-true, ltb-true)
           ])
 
 module _ {greatest : ℕ} {shop : Shop} {p : Placing} {l : LayoutState} {nexts : List ℕ} {rows : Rows}
@@ -354,18 +319,10 @@ module _ {greatest : ℕ} {shop : Shop} {p : Placing} {l : LayoutState} {nexts :
       least_end = is
 
       pub chosen_is : conflict_among shop p (open_jobs shop p) ≡ filter (conflicts_with shop p r) (open_jobs shop p)
-      chosen_is = conflict_of_first shop p (open_jobs shop p) r (open_rises shop p) (is_open shop p r op)
-          (λ i h. let o = open_is shop p i h
-          in let a = is.least i (let b = can.ends.jobs in let d = o.0 in omega arith)
-          in let b = can.ends.next i o.1 in let d = can.ends.next r op in omega arith)
-          (λ i h lt. let o = open_is shop p i h
-          in let a = is.first i lt
-          in let b = can.ends.next i o.1 in let d = can.ends.next r op in omega arith)
+      chosen_is = grind (arith, conflict_of_first, open_rises, is_open, open_is)
 
       pub chosen_in : IsIn (conflict_among shop p (open_jobs shop p)) r
-      chosen_in = subst (λ (js : List ℕ). IsIn js r) (sym chosen_is)
-          (filter_in (conflicts_with shop p r) (open_jobs shop p) r (is_open shop p r op)
-          (or_left (eqb r r) _ (eq-eqb r r refl)))
+      chosen_in = grind (arith, chosen_is, filter_in, is_open, or_left, eq-eqb)
 
       pub is_conflict : {m limit : ℕ} → m ≡ machine_of shop r (p.steps r) → limit ≡ next_end shop p r + 1
           → (js : List ℕ) → IsGatheredWith r (IsJobBelow l rows.heads (IsOnMachine l m) limit) js

@@ -1,5 +1,5 @@
 -- The ends of next operations are kept up in lanes.
-use Rattle.std.proofs.Common.{◌≡◌, ℕ, ◌+◌, ◌<◌, inl, inr, List, length, get_or, refl, sym, ◌∙◌, ap, subst, arith}
+use Rattle.std.proofs.Common.{◌≡◌, ℕ, ◌+◌, ◌<◌, inl, inr, List, length, get_or, refl, sym, ◌∙◌, ap, arith}
 use Rattle.std.proofs.lemmas.Bool.{cases_lt, lt-ltb, le-ltb}
 use Rattle.std.proofs.lemmas.Grind.{get_or-set_at}
 use Rattle.std.proofs.lemmas.List.{get_or-set_other, length-set}
@@ -11,7 +11,6 @@ use Rattle.shop_bound.specs.Conflicts.{next_end}
 use Rattle.shop_layout.specs.HeadLimits.{FitsLanes}
 use Rattle.shop_states.specs.inner.LaneChoices.{AreEndsAt, AreNextsAt, AreNextsOf}
 use Rattle.shop_states.specs.inner.LaneEnds.{end_at, AreEndsOf, CanKeepEnds, HasEnds, IsEndOf}
-use Rattle.shop_states.specs.inner.LaneHeads.{AreHeadsAt}
 use Rattle.shop_states.specs.inner.LaneStates.{AreHeadsInLanes}
 use Rattle.shop_layout.specs.Positions.{LayoutState}
 use Rattle.shop_states.specs.inner.Raises.{AreFirst}
@@ -27,26 +26,16 @@ module _ {greatest : ℕ} {l : LayoutState} {nexts : List ℕ} {old : Rows} (kee
   module _ {job : ℕ} (known : job < length nexts) {new : Rows}
       (wrote : new ≡ with_end now job (end_at greatest nexts now job)) where
     pub beside_more : HasEnds old new
-    beside_more = record {
-      heads = ap (λ (r : Rows). r.heads) wrote ∙ beside.heads;
-      times = ap (λ (r : Rows). r.times) wrote ∙ beside.times;
-      tails = ap (λ (r : Rows). r.tails) wrote ∙ beside.tails;
-      ends = ap (λ (r : Rows). length r.ends) wrote
-          ∙ (length-set now.ends job (end_at greatest nexts now job) ∙ beside.ends);
-    }
+    beside_more = grind (arith, length-set)
 
     same_at : (j : ℕ) → end_at greatest nexts new j ≡ end_at greatest nexts now j
     same_at j = ap (λ (r : Rows). end_at greatest nexts r j) wrote
 
     pub end_here : IsEndOf greatest nexts new job
-    end_here =
-        let long = beside.ends in let as_many = keep.ends
-        in ap (λ (r : Rows). get_or r.ends job 0) wrote
-        ∙ (get_or-set_at now.ends job job (end_at greatest nexts now job) 0 refl (omega arith) ∙ sym (same_at job))
+    end_here = grind (arith, get_or-set_at, same_at)
 
     pub end_other : (j : ℕ) → (j ≡ job → ⊥) → IsEndOf greatest nexts now j → IsEndOf greatest nexts new j
-    end_other j ne is = ap (λ (r : Rows). get_or r.ends j 0) wrote
-        ∙ (get_or-set_other now.ends job j (end_at greatest nexts now job) 0 ne ∙ (is ∙ sym (same_at j)))
+    end_other j ne is = grind (arith, get_or-set_other, same_at)
 
 module _ {greatest : ℕ} {shop : Shop} {w : List ℕ} {l : LayoutState} {rows : Rows}
     (kept : AreHeadsInLanes greatest shop w l rows) {nexts : List ℕ}
@@ -55,8 +44,7 @@ module _ {greatest : ℕ} {shop : Shop} {w : List ℕ} {l : LayoutState} {rows :
   p = placing shop w
 
   pub nexts_at : AreNextsAt shop (placing shop w) l nexts rows
-  nexts_at =
-      record { laid = kept.laid; limits = kept.limits; are = are; heads = kept.heads; times = kept.times }
+  nexts_at = grind arith
 
   -- what stands before a next operation on its route is placed
   pub next_first : AreFirst l nexts rows.heads
@@ -76,8 +64,7 @@ module _ {greatest : ℕ} {shop : Shop} {w : List ℕ} {l : LayoutState} {rows :
   }
 
   next_fits : (j : ℕ) → IsOperation shop j (p.steps j) → next_end shop p j < greatest
-  next_fits j op =
-      let head = head_first shop p j in let fits = kept.fits w kept.word j (p.steps j) op (omega arith) in omega arith
+  next_fits j op = grind (arith, head_first)
 
   module _ (as_many : length rows.ends ≡ length shop.jobs) where
     pub can_keep : CanKeepEnds greatest l nexts rows
@@ -129,13 +116,4 @@ module _ {greatest : ℕ} {shop : Shop} {w : List ℕ} {l : LayoutState} {rows :
 -- the ends alone differ
 pub with_ends : {greatest : ℕ} {shop : Shop} {w : List ℕ} {l : LayoutState} {old new : Rows} → HasEnds old new
     → AreHeadsInLanes greatest shop w l old → AreHeadsInLanes greatest shop w l new
-with_ends {shop} {w} {l} beside kept = record {
-  limits = kept.limits;
-  word = kept.word;
-  laid = kept.laid;
-  times = beside.times ∙ kept.times;
-  tails = beside.tails ∙ kept.tails;
-  fits = kept.fits;
-  computable = kept.computable;
-  heads = subst (AreHeadsAt shop (placing shop w) l) (sym beside.heads) kept.heads;
-}
+with_ends {shop} {w} {l} beside kept = grind arith

@@ -34,8 +34,7 @@ lanes_tails [] ts [] a b = refl
 lanes_tails [] ts (q ∷ qs) a b = absurd (omega arith)
 lanes_tails (h ∷ hs) [] qs a b = absurd (omega arith)
 lanes_tails (h ∷ hs) (t ∷ ts) [] a b = absurd (omega arith)
-lanes_tails (h ∷ hs) (t ∷ ts) (q ∷ qs) a b =
-    let rest = lanes_tails hs ts qs (omega arith) (omega arith) in omega arith
+lanes_tails (h ∷ hs) (t ∷ ts) (q ∷ qs) a b = grind (arith, lanes_tails hs ts qs (omega arith) (omega arith))
 
 module _ {shop : Shop} (limits : IsWithinLimits shop) {l : LayoutState} (laid : IsLaidOut shop l) where
   within : (m : ℕ) → m < shop.machines → first_position l (m + 1) ≤ first_position l shop.machines
@@ -47,10 +46,7 @@ module _ {shop : Shop} (limits : IsWithinLimits shop) {l : LayoutState} (laid : 
       → AreSpansFit greatest (latest_end shop + 1) shop.machines l rows
   spans_fit greatest fits rows times tails long = record {
     known = laid.machines;
-    blocks = λ m known. (let a = (laid.each m known).room in let b = within m known in record {
-      ordered = omega arith;
-      within = omega arith;
-    });
+    blocks = λ m known. grind (arith, within);
     below = λ m known. (let f = fits m known in omega arith);
     fits = λ m known. (let from = get_or l.blocks m 0 in let to = get_or l.blocks (m + 1) 0
         in let b = within m known

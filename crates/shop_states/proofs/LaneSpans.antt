@@ -1,6 +1,6 @@
 -- Spans over lanes that stand for operations by nonincreasing tail: parts of their one-machine bound.
 use Rattle.std.proofs.Common.{◌≡◌, ℕ, zero, suc, ◌+◌, ◌-◌, ◌^◌, ◌≤◌, ◌<◌, max, ◌⊎◌, inl, inr, List, [], ◌∷◌, ◌++◌}
-use Rattle.std.proofs.Common.{length, sym, ap, subst, arith, leb, append_assoc}
+use Rattle.std.proofs.Common.{length, sym, ap, subst, arith, append_assoc}
 use Rattle.std.specs.List.{filter, sum_by}
 use Rattle.std.proofs.lemmas.Bool.{cases_Bool, cases_lt, leb-true, le-leb}
 use Rattle.std.proofs.lemmas.List.Sums.{sum_by-cons}
@@ -41,14 +41,7 @@ pub record IsServedAs (least head : ℕ) (t : Triple) (x : Lane) : Type 0 where
   pub same : ((least ≤ x.head) × (head ≤ t.head)) ⊎ ((x.head < least) × (t.head < head))
 
 pub served_as : (head : ℕ) (t : Triple) (x : Lane) → IsLaneOf t x → IsServedAs (head + 1) head t x
-served_as head t x r = record {
-  time = r.time;
-  tail = r.tail;
-  same = elim (cases_lt t.head head) [
-    | inl low ↦ inr (let a = r.head in omega arith, low)
-    | inr high ↦ inl (let a = r.head in omega arith, high)
-  ];
-}
+served_as head t x r = grind (arith, cases_lt)
 
 module _ (least head : ℕ) (some : 0 < least) where
   -- a span is at least what any threshold of tails gives
@@ -64,21 +57,8 @@ module _ (least head : ℕ) (some : 0 < least) where
       in let time = r.time in let last = r.tail
       in let more = sum_by-cons (λ (u : Triple). u.time) t us
       in elim r.same [
-        | inl on ↦ (let a = span_served least start x ls on.0
-            in let e = le-leb head t.head on.1
-            in elim (cases_Bool (leb tail t.tail)) [
-              | inl f ↦ rw (e, f) (λ above. elim (cases_lt 0 (length us)) [
-                | inl also ↦ (let b = rest (start + x.time) also in omega arith)
-                | inr not ↦ (let b : sum_by (λ (u : Triple). u.time) us ≡ 0 = none us not
-                    in let c = leb-true tail t.tail f in omega arith)
-              ])
-              | inr f ↦ rw (e, f) (λ above. (let b = rest (start + x.time) above in omega arith))
-            ])
-        | inr off ↦ (let a = span_left least start x ls off.0
-            in elim (cases_Bool (leb head t.head)) [
-              | inl e ↦ absurd (let b = leb-true head t.head e in let c = off.1 in omega arith)
-              | inr e ↦ rw e (λ above. (let b = rest start above in omega arith))
-            ])
+        | inl on ↦ grind (arith, span_served, le-leb, cases_Bool, cases_lt, none, leb-true)
+        | inr off ↦ grind (arith, span_left, cases_Bool, leb-true)
       ]
     where
       none : (us : List Triple) → length us ≤ 0 → sum_by (λ u. u.time) us ≡ 0
@@ -99,13 +79,8 @@ module _ (least head : ℕ) (some : 0 < least) where
       in let same : one ((us ++ t ∷ []) ++ ts) ≡ one (us ++ t ∷ ts) = ap one again
       in let time = r.time in let last = r.tail
       in elim r.same [
-        | inl on ↦ (let a = span_served least start x ls on.0
-            in let w = within_in us t ts head nonincreasing on.1
-            in let more = times_from-more head us t on.1
-            in let b = rest (start + x.time) (omega arith) in omega arith)
-        | inr off ↦ (let a = span_left least start x ls off.0
-            in let less = times_from-less head us t off.1
-            in let b = rest start (omega arith) in omega arith)
+        | inl on ↦ grind (arith, span_served, within_in, times_from-more)
+        | inr off ↦ grind (arith, span_left, times_from-less)
       ]
 
 none_above : (ts : List Triple) (head tail : ℕ) → length (filter (is_above head tail) ts) ≡ 0
@@ -126,11 +101,7 @@ module _ {ts : List Triple} {ls : List Lane} (m : AreMatched IsLaneOf ts ls) whe
       span_within (head + 1) head (omega arith) [] (served_from head) nonincreasing (head + 1) (from_none head)
 
   pub from_head_covers : (head tail : ℕ) → span_above ts head tail + 1 ≤ max 1 (span (head + 1) (head + 1) ls)
-  from_head_covers head tail = elim (cases_lt 0 (length (filter (is_above head tail) ts))) [
-    | inl some ↦ (let a = span_covers (head + 1) head (omega arith) tail (served_from head) (head + 1) some
-        in let b = span_above-some ts head tail some in omega arith)
-    | inr not ↦ (let b = none_above ts head tail (omega arith) in omega arith)
-  ]
+  from_head_covers head tail = grind (arith, cases_lt, span_covers, served_from, span_above-some, none_above)
 
   pub spans_within : (above upto : ℕ) → IsNonincreasing (λ t. t.tail) ts → (xs : List Lane)
       → spans_from above upto ls xs ≤ one ts + 1
@@ -156,10 +127,7 @@ spans_have : (from to : ℕ) (all : List Lane) {ts : List Triple} {ls : List Lan
 spans_have from to all nothing i here a b = absurd (omega arith)
 spans_have from to all (empty {ts} {ls} x e m) i here a b =
     let c = spans_low from (to + 1) all x ls (omega arith) in let d = spans_have from to all m i here a b in omega arith
-spans_have from to all (matched {ts} {ls} t x r m) zero here a b =
-    let e = r.head in let c = spans_counted from (to + 1) all x ls (omega arith) (omega arith)
-    in let d : span (t.head + 1) (t.head + 1) all ≡ span x.head x.head all =
-    ap (λ (n : ℕ). span n n all) (sym e) in omega arith
+spans_have from to all (matched {ts} {ls} t x r m) zero here a b = grind (arith, spans_counted)
 spans_have from to all (matched {ts} {ls} t x r m) (suc i) here a b =
     let d = spans_have from to all m i (omega arith) a b in omega arith
 

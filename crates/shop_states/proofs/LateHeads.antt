@@ -55,10 +55,7 @@ module _ {greatest : ℕ} {shop : Shop} {w : List ℕ} {l : LayoutState} {hs es 
 
   pub same_machine : (j k : ℕ) → IsAmong cs j → IsAmong cs k
       → machine_of shop j ((placing shop w).steps j) ≡ machine_of shop k ((placing shop w).steps k)
-  same_machine j k a b = subst (λ (i : ℕ). machine_of shop i ((placing shop w).steps i)
-      ≡ machine_of shop k ((placing shop w).steps k)) a.is
-      (subst (λ (i : ℕ). machine_of shop (job_at cs a.at) ((placing shop w).steps (job_at cs a.at))
-      ≡ machine_of shop i ((placing shop w).steps i)) b.is (siblings.machine a.at b.at a.within b.within))
+  same_machine j k a b = grind arith
 
   module _ {t : Latest} (latest : AreLatest (end_by hs l.times nexts) cs t) where
     abbrev machine : ℕ
@@ -68,13 +65,7 @@ module _ {greatest : ℕ} {shop : Shop} {w : List ℕ} {l : LayoutState} {hs es 
     last = get_or nexts t.job 0
 
     pub second_low : t.second ≤ t.end
-    second_low = elim latest.second [
-      | inl none ↦ omega arith
-      | inr some ↦ (let j = some.0 in let a = some.1.0 in let is = some.1.1.1
-          in let each = latest.each a.at a.within
-          in let same : end_by hs l.times nexts (job_at cs a.at) ≡ end_by hs l.times nexts j =
-          ap (end_by hs l.times nexts) a.is in omega arith)
-    ]
+    second_low = grind arith
 
     -- some heads that are late enough behind the last candidate
     record IsBeside (b : ℕ → ℕ) : Type 0 where
@@ -113,14 +104,7 @@ module _ {greatest : ℕ} {shop : Shop} {w : List ℕ} {l : LayoutState} {hs es 
 
     -- its position is one of the machine
     on_its : (m : ℕ) → m ≡ machine → IsOnMachine l m last
-    on_its m is =
-        let at = place_of shop kept.kept.limits l kept.kept.laid t.job ((placing shop w).steps t.job)
-        (its_operation latest.last)
-        in let low = at.from in let high = at.to in let place = its_place latest.last
-        in let a : first_position l m ≡ first_position l machine = ap (first_position l) is
-        in let b : first_position l (m + 1) ≡ first_position l (machine + 1) =
-        ap (λ (n : ℕ). first_position l (n + 1)) is
-        in (omega arith, omega arith)
+    on_its m is = grind (arith, place_of, its_operation, its_place)
 
     -- jobs apart stand apart
     apart : (j : ℕ) → IsAmong cs j → (j ≡ t.job → ⊥) → last ≡ place l j ((placing shop w).steps j) → ⊥
@@ -218,21 +202,11 @@ module _ {greatest : ℕ} {shop : Shop} {w : List ℕ} {l : LayoutState} {hs es 
 
       late_fits : (q : ℕ) → 0 < late_head q → late_head q + get_or l.times q 0 ≤ greatest
       unfolding late_head of_last
-      late_fits q some =
-          let b = beside.1
-          in elim (cases_lt 0 (of_last q)) [
-            | inl first ↦ (let x = child_fits kept.kept t.job (its_word latest.last) q first
-                in elim (cases_lt 0 (beside.0 q)) [
-                  | inl second ↦ (let y = b.fits q second in omega arith)
-                  | inr none ↦ omega arith
-                ])
-            | inr none ↦ (let y = b.fits q (omega arith) in omega arith)
-          ]
+      late_fits q some = grind (arith, beside, cases_lt, of_last, child_fits, its_word)
 
       late_small : (q : ℕ) → late_head q ≤ latest_end shop + 1
       unfolding late_head of_last
-      late_small q =
-          let x = child_small kept.kept t.job (its_word latest.last) q in let y = beside.1.small q in omega arith
+      late_small q = grind (arith, child_small, its_word, beside)
 
       -- an operation that begins when the machine is free ends in time
       ends_fit : (q e : ℕ) → IsLateIn from to last t.end t.second q e → 0 < get_or hs q 0
@@ -288,14 +262,10 @@ module _ {greatest : ℕ} {shop : Shop} {w : List ℕ} {l : LayoutState} {hs es 
 
           other_none : (q : ℕ) → get_or (set hs (place l j ((placing shop w).steps j)) 0) q 0 ≡ 0 → child_other q ≡ 0
           unfolding child_other
-          other_none q none = rw (le-ltb 0 (get_or (set hs (place l j ((placing shop w).steps j)) 0) q 0) (omega arith))
-              refl
+          other_none q none = grind (arith, le-ltb)
 
           struck_some : (q : ℕ) → 0 < child_other q → 0 < get_or (set hs (place l j ((placing shop w).steps j)) 0) q 0
-          struck_some q some = elim (cases_eq (get_or (set hs (place l j ((placing shop w).steps j)) 0) q 0) 0) [
-            | inl none ↦ (let z = other_none q none in absurd (omega arith))
-            | inr more ↦ omega arith
-          ]
+          struck_some q some = grind (arith, cases_eq, other_none)
 
           -- what waits on the machine is raised behind its end
           delayed : (i k : ℕ) → k + 1 < steps_of l i
@@ -311,8 +281,7 @@ module _ {greatest : ℕ} {shop : Shop} {w : List ℕ} {l : LayoutState} {hs es 
               in let rises = raises.raised.rises q
               in let order = raises.raised.order i k two (omega arith)
               in elim (cases_eq (get_or l.machines q 0) machine) [
-                | inr off ↦ (let none : floor_on machine (end_by hs l.times nexts j) (get_or l.machines q 0) ≡ 0 =
-                    rw (ne_eqb (get_or l.machines q 0) machine off) refl in omega arith)
+                | inr off ↦ grind (arith, ne_eqb)
                 | inl on ↦ (let all : floor_on machine (end_by hs l.times nexts j) (get_or l.machines q 0)
                     ≡ end_by hs l.times nexts j = rw (eq-eqb (get_or l.machines q 0) machine on) refl
                     in let own = kept.kept.laid.machines_at.at (machine_of shop i k) q

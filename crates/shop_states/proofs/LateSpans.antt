@@ -47,9 +47,7 @@ module _ {greatest : ℕ} {shop : Shop} {w : List ℕ} {l : LayoutState} {hs es 
 
   module _ (m : ℕ) (known : m < shop.machines) where
     in_rows : 8 * get_or l.blocks (m + 1) 0 ≤ length hs
-    in_rows =
-        let a = blocks_within shop kept.kept.limits l kept.kept.laid (m + 1) (omega arith)
-        in let c = kept.kept.heads.positions in let d = kept.kept.laid.positions.times in omega arith
+    in_rows = grind (arith, blocks_within)
 
     timed : length l.times ≡ length hs
     timed = kept.kept.laid.positions.times ∙ sym kept.kept.heads.positions
@@ -76,14 +74,8 @@ module _ {greatest : ℕ} {shop : Shop} {w : List ℕ} {l : LayoutState} {hs es 
         (lanes_on (rows_of l hs es) l m) ys) late_lanes
         (blocks_beside (IsRisen raise.from raise.to 0) (get_or l.blocks m 0) (get_or l.blocks (m + 1) 0) hs now.heads
         l.times l.tails timed tailed raises.positions in_rows (λ q low high. record {
-          some = λ waits. elim (cases_eq (get_or hs q 0) 0) [
-            | inl none ↦ (let z = raises.raised.rests q none in absurd (omega arith))
-            | inr yes' ↦ omega arith
-          ];
-          risen = λ waits. elim (seen q (on_it q low high)) [
-            | inl still ↦ inl still
-            | inr rose ↦ (let f = rose.0 in let t' = rose.1 in inr (inl (omega arith, omega arith)))
-          ];
+          some = λ waits. grind (arith, cases_eq);
+          risen = λ waits. grind (arith, on_it);
         }))
         in let all = spans_risen top (lb shop w + 1) raise.from raise.to 0 (lanes_on (rows_of l hs es) l m)
         (λ g some high. word_spans kept.kept.limits kept.kept.laid w kept.kept.word kept.kept.heads m known g some)

@@ -1,6 +1,6 @@
 -- What is left for a machine, by its slots: what waits for it, so the bound of a word.
 use Rattle.std.proofs.Common.{◌≡◌, ℕ, zero, suc, ◌+◌, ◌-◌, ◌≤◌, ◌<◌, max, inl, inr, Bool, true, false, List, [], ◌∷◌}
-use Rattle.std.proofs.Common.{◌++◌, length, get_or, map, refl, sym, ◌∙◌, ap, subst, arith, eqb, leb}
+use Rattle.std.proofs.Common.{length, get_or, map, refl, sym, ◌∙◌, ap, arith, eqb, leb}
 use Rattle.std.specs.List.{AllByRecursion, filter, flat_map, range_with_len}
 use Rattle.std.proofs.lemmas.Bool.{cases_Bool, cases_lt, le-leb, leb-true}
 use Rattle.std.proofs.lemmas.List.{map-append}
@@ -12,7 +12,7 @@ use Rattle.shop_model.specs.Word.{Placing, IsWord, placing}
 use Rattle.shop_bound.specs.declared.triples.Triple.{Triple}
 use Rattle.shop_bound.specs.OneMachine.{one}
 use Rattle.shop_bound.specs.inner.NonincreasingTails.{IsNonincreasing}
-use Rattle.shop_bound.proofs.SameSums.{HaveSameSums, permuted_sums, filtered_sums, mapped_sums, same_one}
+use Rattle.shop_bound.proofs.SameSums.{permuted_sums, filtered_sums, mapped_sums, same_one}
 use Rattle.shop_bound.specs.Bound.{Waiting, waiting, triples_on, lb}
 use Rattle.shop_bound.specs.Heads.{head_of, waiting_at, steps_left}
 use Rattle.shop_bound.proofs.HeadWalks.{waiting_is}
@@ -38,33 +38,16 @@ left_for shop slots p m = left_of shop p (get_or slots m [])
 filter_mapped : {A B : Type 0} (test : B → Bool) (g : A → B) (xs : List A)
     → filter test (map g xs) ≡ map g (filter (λ x. test (g x)) xs)
 filter_mapped test g [] = refl
-filter_mapped test g (x ∷ xs) = elim (cases_Bool (test (g x))) [
-  | inl e ↦ rw e (ap (λ ys. g x ∷ ys) (filter_mapped test g xs))
-  | inr e ↦ rw e (filter_mapped test g xs)
-]
+filter_mapped test g (x ∷ xs) = grind (arith, cases_Bool, filter_mapped test g xs)
 
 flat_mapped : {A B : Type 0} (v : A → B) (test : A → Bool) (f : ℕ → List A) (js : List ℕ)
     → map v (filter test (flat_map f js)) ≡ flat_map (λ j. map v (filter test (f j))) js
 flat_mapped v test f [] = refl
-flat_mapped v test f (j ∷ js) =
-    ap (map v) (filter-append test (f j) (flat_map f js))
-    ∙ map-append v (filter test (f j)) (filter test (flat_map f js))
-    ∙ ap (λ ys. map v (filter test (f j)) ++ ys) (flat_mapped v test f js)
+flat_mapped v test f (j ∷ js) = grind (arith, filter-append, map-append, flat_mapped v test f js)
 
 filter_swap : {A : Type 0} (p q : A → Bool) (xs : List A) → filter p (filter q xs) ≡ filter q (filter p xs)
 filter_swap p q [] = refl
-filter_swap p q (x ∷ xs) =
-    let rest = filter_swap p q xs
-    in elim (cases_Bool (p x)) [
-      | inl e ↦ elim (cases_Bool (q x)) [
-        | inl f ↦ rw (e, f, e) (ap (λ ys. x ∷ ys) rest)
-        | inr f ↦ rw (e, f) rest
-      ]
-      | inr e ↦ elim (cases_Bool (q x)) [
-        | inl f ↦ rw (e, f, e) rest
-        | inr f ↦ rw (e, f) rest
-      ]
-    ]
+filter_swap p q (x ∷ xs) = grind (arith, cases_Bool, filter_swap p q xs)
 
 range_from : (s a n : ℕ) → filter (leb s) (range_with_len a n) ≡ range_with_len (max s a) (n - (s - a))
 range_from s a zero = let e : zero - (s - a) ≡ zero = omega arith in sym (ap (range_with_len (max s a)) e)
@@ -118,9 +101,7 @@ module _ (shop : Shop) (p : Placing) (m : ℕ) where
   left_of_jobs : (js : List ℕ)
       → flat_map (λ j. left_of shop p (operations_in (route_of shop j) m j)) js ≡ flat_map waiting_in js
   left_of_jobs [] = refl
-  left_of_jobs (j ∷ js) =
-      ap (λ ys. ys ++ flat_map (λ i. left_of shop p (operations_in (route_of shop i) m i)) js) (left_of_job j)
-      ∙ ap (λ ys. waiting_in j ++ ys) (left_of_jobs js)
+  left_of_jobs (j ∷ js) = grind (arith, left_of_job, left_of_jobs js)
 
   left_is_waiting : left_of shop p (operations_on shop m) ≡ triples_on m (waiting shop p)
   left_is_waiting =
@@ -134,10 +115,7 @@ module _ (shop : Shop) (p : Placing) (m : ℕ) where
   -- so slots in any order have the same bound
   left_one : (slots : List Slot) → AreSlotsOf shop m slots
       → one (left_of shop p slots) ≡ one (triples_on m (waiting shop p))
-  left_one slots are = same_one (left_of shop p slots) (triples_on m (waiting shop p))
-      (subst (λ ts. HaveSameSums (left_of shop p slots) ts) left_is_waiting
-      (mapped_sums (triple_of shop p) (filter (is_left p) slots) (filter (is_left p) (operations_on shop m))
-      (filtered_sums (is_left p) slots (operations_on shop m) (permuted_sums (operations_on shop m) slots are.same))))
+  left_one slots are = grind (arith, same_one, left_is_waiting, mapped_sums, filtered_sums, permuted_sums)
 
 -- their tails fall
 pub left_falls : (shop : Shop) (p : Placing) (slots : List Slot) → IsNonincreasing (λ s. s.tail) slots

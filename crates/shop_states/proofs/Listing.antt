@@ -49,18 +49,13 @@ module _ (limit : ℕ) (own : ℕ → ℕ) where
   pub regrouped : (js done more : List ℕ) (cs : List Candidate) (n a b : ℕ)
       → ListsOwn limit own ((js ++ done) ++ more) cs ((n + a) + b)
       → ListsOwn limit own (js ++ (done ++ more)) cs (n + (a + b))
-  regrouped js done more cs n a b list =
-      subst (λ (is : List ℕ). ListsOwn limit own is cs (n + (a + b))) (append_assoc js done more)
-      (counted ((n + a) + b) (n + (a + b)) (omega arith) list)
+  regrouped js done more cs n a b list = grind (arith, append_assoc, counted)
 
   pub begun : (js : List ℕ) (cs : List Candidate) (n : ℕ) → ListsOwn limit own js cs n
       → ListsOwn limit own (js ++ []) cs (n + 0)
-  begun js cs n list = subst (λ (is : List ℕ). ListsOwn limit own is cs (n + 0)) (sym (append-nil js))
-      (counted n (n + 0) (omega arith) list)
+  begun js cs n list = grind (arith, append-nil, counted)
 
   -- nothing is left to do
   pub ended : (js done left whole : List ℕ) (cs : List Candidate) (n : ℕ) → done ++ left ≡ whole → left ≡ []
       → ListsOwn limit own (js ++ done) cs n → ListsOwn limit own (js ++ whole) cs n
-  ended js done left whole cs n all nothing list =
-      subst (λ (is : List ℕ). ListsOwn limit own (js ++ is) cs n)
-      (sym (append-nil done) ∙ (ap (λ (is : List ℕ). done ++ is) (sym nothing) ∙ all)) list
+  ended js done left whole cs n all nothing list = grind (arith, append-nil)

@@ -1,5 +1,5 @@
 -- A beginning that goes on along a word.
-use Rattle.std.proofs.Common.{◌≡◌, ℕ, ◌≤◌, ◌∙◌, List, length, take, ap, sym, arith}
+use Rattle.std.proofs.Common.{◌≡◌, ℕ, ◌≤◌, List, length, take, arith}
 use Rattle.std.proofs.lemmas.List.{with_items_is}
 use Rattle.std.specs.Vec.{with_items}
 use Rattle.shop_model.specs.Shop.{Shop, operation_count}
@@ -19,15 +19,4 @@ pub gone_on : (shop : Shop) (l : LayoutState) (b : Beginning) → IsBeginningOf 
       ready = with_items b.ready ready;
       free = with_items b.free free;
     })
-gone_on shop l b is w row n fits long same nexts ready free at =
-    let before = is.placed
-    in let path = with_items_is b.path row (long ∙ sym b.path.ok.0)
-    in let next = with_items_is b.next_legs nexts (at.next_jobs ∙ (sym before.next_jobs ∙ sym b.next_legs.ok.0))
-    in let readies = with_items_is b.ready ready (at.jobs ∙ (sym before.jobs ∙ sym b.ready.ok.0))
-    in let frees = with_items_is b.free free (at.machines ∙ (sym before.machines ∙ sym b.free.ok.0))
-    in let most : length (with_items b.path row).items ≡ operation_count shop = ap length path ∙ (long ∙ is.room)
-    in record {
-      room = most;
-      within = omega (arith, most, fits);
-      placed = rw (path, next, readies, frees, same) at;
-    }
+gone_on shop l b is w row n fits long same nexts ready free at = grind (arith, with_items_is)

@@ -1,9 +1,8 @@
 -- The rows of the next machine whose raise is taken, cut out of rows that were looked up before.
-use Rattle.std.proofs.Common.{◌≡◌, ℕ, ◌+◌, ◌*◌, ◌^◌, ◌≤◌, ◌<◌, List, ◌∷◌, ap, get_or, length, map, refl, subst}
-use Rattle.std.proofs.Common.{sym, ◌∙◌, arith}
+use Rattle.std.proofs.Common.{◌≡◌, ℕ, ◌+◌, ◌*◌, ◌^◌, ◌≤◌, ◌<◌, List, ◌∷◌, ap, get_or, length, map, refl}
+use Rattle.std.proofs.Common.{◌∙◌, arith}
 use Rattle.std.proofs.lemmas.List.{length-map}
-use Rattle.shop_lanes.specs.Rows.{AreBlocksOf, AreCutFrom, Lane, lanes_in}
-use Rattle.shop_lanes.specs.Spans.{FitsSpan}
+use Rattle.shop_lanes.specs.Rows.{AreBlocksOf, AreCutFrom, lanes_in}
 use Rattle.shop_lanes.specs.declared.lane_rows.LaneRows.{LaneRows}
 use Rattle.shop_lanes.proofs.RowValues.{lanes_of_cut, long_cut}
 use Rattle.shop_layout.specs.Lanes.{lanes_on, rows_of}
@@ -27,23 +26,14 @@ module _ {greatest : ℕ} {old raises : List Raise} {raised machines rest : List
 
   module _ {from to : ℕ} (from_is : from ≡ get_or l.blocks m 0) (to_is : to ≡ get_or l.blocks (m + 1) 0) where
     are_blocks : AreBlocksOf heads l.times l.tails from to
-    are_blocks =
-        let blocks = can.fits.blocks m its_known in let ordered = blocks.ordered in let within = blocks.within
-        in record {
-          ordered = omega arith;
-          within = omega arith;
-          times_are_as_many = can.times;
-          tails_are_as_many = can.tails ∙ can.times;
-        }
+    are_blocks = grind (arith, its_known)
 
     pub cut_ordered : from ≤ to
     cut_ordered = are_blocks.ordered
 
     module _ {N : Type 0} (value : N → ℕ) (rows : LaneRows N) (heads_are : map value rows.heads.now ≡ heads) where
       pub cut_within : 8 * to ≤ length rows.heads.now
-      cut_within =
-          let long = length-map rows.heads.now value in let same = ap (λ (hs : List ℕ). length hs) heads_are
-          in let within = are_blocks.within in omega arith
+      cut_within = grind (arith, length-map, are_blocks)
 
       module _ (times_are : map value rows.times.now ≡ l.times) (tails_are : map value rows.tails.now ≡ l.tails)
           {cut : LaneRows N} (are : AreCutFrom rows from to cut) where
@@ -55,18 +45,8 @@ module _ {greatest : ℕ} {old raises : List Raise} {raised machines rest : List
           to_small = let same = ap (λ (r : Raise). r.to) raise_is in let smaller = left.smaller m in omega arith
 
           pub can_bound : (each : ℕ) → (0 < each → to ≡ from + each) → CanBoundRows value greatest each cut raise
-          can_bound each count =
-              let long = long_cut value are heads_are times_are tails_are are_blocks
-              in let small = to_small in let below = can.fits.below m its_known in let fits = can.fits.fits m its_known
-              in record {
-                whole_blocks = omega arith;
-                count = λ some. (let e = count some in omega arith);
-                below = omega arith;
-                fits = subst (λ (xs : List Lane). FitsSpan greatest (value raise.to) xs) (sym cut_lanes) (omega arith);
-              }
+          can_bound each count = grind (arith, long_cut, are_blocks, to_small, its_known, cut_lanes)
 
           pub cut_span : {limit least r : ℕ} → IsSpanByRaise (raise_in value raise) (lanes_in value cut) limit least r
               → IsSpanByRaise (raise_of raises m) (lanes_on (rows_of l heads ends) l m) limit least r
-          cut_span {limit} {least} {r} span = subst (λ (a : Raise).
-              IsSpanByRaise a (lanes_on (rows_of l heads ends) l m) limit least r) raise_is
-              (subst (λ (xs : List Lane). IsSpanByRaise (raise_in value raise) xs limit least r) cut_lanes span)
+          cut_span {limit} {least} {r} span = grind (arith, cut_lanes)

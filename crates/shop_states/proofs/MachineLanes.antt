@@ -115,14 +115,10 @@ module _ {shop : Shop} (limits : IsWithinLimits shop) {l : LayoutState} (laid : 
     machine_lanes = lanes_of hs l.times l.tails from to
 
     lanes_as_many : (length l.times ≡ length hs) × (length l.tails ≡ length hs)
-    lanes_as_many = (let a = laid.positions.times in let b = laid.positions.tails in let c = stored.positions
-        in (omega arith, omega arith))
+    lanes_as_many = grind arith
 
     whole_blocks : length (blocks from to (lanes hs l.times l.tails)) ≡ 8 * (to - from)
-    whole_blocks =
-        let within = machine_within
-        in let long = length-lanes hs l.times l.tails lanes_as_many.0 lanes_as_many.1
-        in length-blocks from to (lanes hs l.times l.tails) (omega arith) ∙ omega arith
+    whole_blocks = grind (arith, machine_within, length-lanes, lanes_as_many, length-blocks)
 
     lane_in : (i : ℕ) (d : Lane) → first_position l m + i < first_position l (m + 1)
         → get_or machine_lanes i d ≡ lane_at hs l.times l.tails (position_at_rank l.blocks m i)
@@ -138,8 +134,7 @@ module _ {shop : Shop} (limits : IsWithinLimits shop) {l : LayoutState} (laid : 
 
     machine_long : length machine_lanes ≡ first_position l (m + 1) - first_position l m
     unfolding machine_lanes
-    machine_long =
-        length-by_columns (to - from) (blocks from to (lanes hs l.times l.tails)) whole_blocks ∙ omega arith
+    machine_long = grind (arith, length-by_columns, whole_blocks)
 
     -- the lanes of a machine, if what is related to a waiting operation's triple is its lane
     pub lanes_matched : (R : Triple → Lane → Type 0)
@@ -171,8 +166,7 @@ module _ {shop : Shop} (limits : IsWithinLimits shop) {l : LayoutState} (laid : 
         in let at = (laid.each m known).at i d here
         in let h = ap (λ (x : Lane). x.head) (lane_in i e (omega arith))
         in elim (cases_lt s.step (p.steps s.job)) [
-          | inl low ↦ (let w = stored.placed s.job s.step op.step (omega arith)
-              in h ∙ (ap (λ (q : ℕ). get_or hs q 0) (sym at.place) ∙ w))
+          | inl low ↦ grind arith
           | inr high ↦ absurd (true≢false (sym (le-leb (p.steps s.job) s.step high) ∙ placed))
         ])
         (λ i e behind here.

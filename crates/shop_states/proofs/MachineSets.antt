@@ -38,20 +38,14 @@ none_put = ap (λ (l : List ℕ). l ++ set_bits 64 64 0) (set_bits-zero 64 0) �
 
 pub pop_low : (low high m : ℕ) → 0 < low → low < 2 ^ 64 → m ≡ count_trailing_zeros 64 low
     → machines_of low high ≡ m ∷ machines_of (bit_and low (low - 1)) high
-pop_low low high m some small is =
-    ap (λ (l : List ℕ). l ++ set_bits 64 64 high) (set_bits-lowest 64 0 low some small)
-    ∙ ap (λ (x : ℕ). x ∷ machines_of (bit_and low (low - 1)) high) (omega arith)
+pop_low low high m some small is = grind (arith, set_bits-lowest)
 
 no_low : (low high : ℕ) → low ≡ 0 → machines_of low high ≡ set_bits 64 64 high
-no_low low high none = ap (λ (x : ℕ). machines_of x high) none
-    ∙ ap (λ (l : List ℕ). l ++ set_bits 64 64 high) (set_bits-zero 64 0)
+no_low low high none = grind (arith, set_bits-zero)
 
 pub pop_high : (low high m : ℕ) → low ≡ 0 → 0 < high → high < 2 ^ 64 → m ≡ 64 + count_trailing_zeros 64 high
     → machines_of low high ≡ m ∷ machines_of low (bit_and high (high - 1))
-pop_high low high m none some small is =
-    no_low low high none ∙ set_bits-lowest 64 64 high some small
-    ∙ ap (λ (x : ℕ). x ∷ set_bits 64 64 (bit_and high (high - 1))) (sym is)
-    ∙ ap (λ (l : List ℕ). m ∷ l) (sym (no_low low (bit_and high (high - 1)) none))
+pop_high low high m none some small is = grind (arith, no_low, set_bits-lowest)
 
 pub pop_none : (low high : ℕ) → low ≡ 0 → high ≡ 0 → machines_of low high ≡ []
 pop_none low high a b = no_low low high a ∙ ap (λ (x : ℕ). set_bits 64 64 x) b ∙ set_bits-zero 64 64

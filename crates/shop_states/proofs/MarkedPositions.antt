@@ -1,6 +1,6 @@
 -- The positions at which something waits with a head below a limit, and the marks of these.
 use Rattle.std.proofs.Common.{◌≡◌, ℕ, zero, suc, ◌+◌, ◌*◌, ◌-◌, ◌≤◌, ◌<◌, inl, inr, Bool, true}
-use Rattle.std.proofs.Common.{List, [], ◌∷◌, length, get_or, take, drop, refl, sym, ◌∙◌, ap, subst, arith, ltb}
+use Rattle.std.proofs.Common.{List, [], ◌∷◌, length, get_or, take, drop, refl, ◌∙◌, ap, subst, arith, ltb}
 use Rattle.std.proofs.lemmas.Bool.{cases_Bool, and_from, and_parts, lt-ltb, ltb-true}
 use Rattle.std.proofs.lemmas.List.{get_or-take, get_or-drop, length-take-le, length-drop}
 use Rattle.shop_lanes.specs.Rows.{Rows}
@@ -13,13 +13,7 @@ module _ (p : ℕ → Bool) where
       → IsIn (marked p at xs) (at + i)
   marked_in at [] i below is = absurd (omega arith)
   marked_in at (x ∷ xs) zero below is = rw is (inl (omega arith))
-  marked_in at (x ∷ xs) (suc i) below is =
-      let e : at + 1 + i ≡ at + suc i = omega arith
-      in let rest = subst (IsIn (marked p (at + 1) xs)) e (marked_in (at + 1) xs i (omega arith) is)
-      in elim (cases_Bool (p x)) [
-        | inl t ↦ rw t (inr rest)
-        | inr t ↦ rw t rest
-      ]
+  marked_in at (x ∷ xs) (suc i) below is = grind (arith, cases_Bool, marked_in (at + 1) xs i (omega arith) is)
 
   abbrev IsMarked : ℕ → List ℕ → ℕ → Type 0
   IsMarked at xs q = (i : ℕ) × (i < length xs) × (q ≡ at + i) × (p (get_or xs i 0) ≡ true)
@@ -39,13 +33,7 @@ module _ (p : ℕ → Bool) where
 
   pub marked_rises : (at : ℕ) (xs : List ℕ) → Rises (marked p at xs)
   marked_rises at [] = tt
-  marked_rises at (x ∷ xs) = elim (cases_Bool (p x)) [
-    | inl t ↦ rw t (
-      (λ q h. let m = marked_out (at + 1) xs q h in let a = m.2 in omega arith),
-      marked_rises (at + 1) xs,
-    )
-    | inr t ↦ rw t (marked_rises (at + 1) xs)
-  ]
+  marked_rises at (x ∷ xs) = grind (arith, cases_Bool, marked_out, marked_rises (at + 1) xs)
 
 pub among_same : (heads : List ℕ) {from to first behind : ℕ} (limit : ℕ) → from ≡ first → to ≡ behind
     → positions_among heads from to limit ≡ positions_among heads first behind limit
@@ -62,12 +50,10 @@ module _ (rows : Rows) (from to limit : ℕ) (ordered : from ≤ to) (within : 8
   part = take (8 * to - 8 * from) (drop (8 * from) rows.heads)
 
   part_long : length part ≡ 8 * to - 8 * from
-  part_long = length-take-le (8 * to - 8 * from) (drop (8 * from) rows.heads)
-      (omega (arith, length-drop (8 * from) rows.heads))
+  part_long = grind (arith, length-take-le, length-drop)
 
   part_at : (i : ℕ) → i < 8 * to - 8 * from → get_or part i 0 ≡ get_or rows.heads (8 * from + i) 0
-  part_at i below = get_or-take (8 * to - 8 * from) (drop (8 * from) rows.heads) i 0 below
-      ∙ get_or-drop (8 * from) rows.heads i 0
+  part_at i below = grind (arith, get_or-take, get_or-drop)
 
   pub below_is_in : (q : ℕ) → IsBelow rows.heads from to limit q → IsIn (positions_below rows from to limit) q
   below_is_in q is =
@@ -83,17 +69,7 @@ module _ (rows : Rows) (from to limit : ℕ) (ordered : from ≤ to) (within : 8
       (lt-ltb (get_or part i 0) limit (omega arith))))
 
   pub in_is_below : (q : ℕ) → IsIn (positions_below rows from to limit) q → IsBelow rows.heads from to limit q
-  in_is_below q h =
-      let m = marked_out (waits_below limit) (8 * from) part q h
-      in let i = m.0
-      in let below = m.1
-      in let q_is = m.2
-      in let long = part_long
-      in let same = part_at i (omega arith) ∙ ap (λ (x : ℕ). get_or rows.heads x 0) (sym q_is)
-      in let parts = and_parts (ltb 0 (get_or part i 0)) (ltb (get_or part i 0) limit) m.3
-      in let some = ltb-true 0 (get_or part i 0) parts.0
-      in let under = ltb-true (get_or part i 0) limit parts.1
-      in record { there = (omega arith, omega arith); waits = omega arith; below = omega arith }
+  in_is_below q h = grind (arith, marked_out, part_long, part_at, and_parts, ltb-true)
 
   pub below_rises : Rises (positions_below rows from to limit)
   below_rises = marked_rises (waits_below limit) (8 * from) part

@@ -1,12 +1,12 @@
 -- The next operations of a placing, where they stand in lanes.
-use Rattle.std.proofs.Common.{◌≡◌, ℕ, ◌+◌, ◌-◌, ◌≤◌, ◌<◌, max, inl, inr, List, length, get_or, sym, ◌∙◌, ap, arith}
+use Rattle.std.proofs.Common.{◌≡◌, ℕ, ◌+◌, ◌≤◌, ◌<◌, List, length, get_or, sym, ◌∙◌, ap, arith}
 use Rattle.std.proofs.lemmas.Bool.{cases_lt}
 use Rattle.shop_lanes.specs.Rows.{Rows}
-use Rattle.shop_model.specs.Shop.{Shop, IsOperation, machine_of, route_of, time_of}
+use Rattle.shop_model.specs.Shop.{Shop, IsOperation, route_of, time_of}
 use Rattle.shop_model.specs.Word.{Placing}
 use Rattle.shop_model.proofs.Ends.{IsOperation-job}
 use Rattle.shop_bound.specs.Conflicts.{next_end, next_head}
-use Rattle.shop_bound.specs.Heads.{head_of, ready_after}
+use Rattle.shop_bound.specs.Heads.{head_of}
 use Rattle.shop_layout.specs.Positions.{LayoutState, first_position, place}
 use Rattle.shop_layout.proofs.LaidPlaces.{place_of}
 use Rattle.shop_states.specs.inner.LaneChoices.{AreNextPlaced, AreNextsAt}
@@ -14,8 +14,7 @@ use Rattle.shop_states.proofs.Followed.{place_past, place_there}
 
 -- the head of a next operation
 pub head_first : (shop : Shop) (p : Placing) (j : ℕ) → head_of shop p j (p.steps j) ≡ next_head shop p j
-head_first shop p j = ap (λ (d : ℕ). max (ready_after shop p j d) (p.free (machine_of shop j (p.steps j))))
-    (let e : p.steps j - p.steps j ≡ 0 = omega arith in e)
+head_first shop p j = grind arith
 
 module _ {shop : Shop} {p : Placing} {l : LayoutState} {nexts : List ℕ} {rows : Rows}
     (can : AreNextsAt shop p l nexts rows) where
@@ -33,17 +32,10 @@ module _ {shop : Shop} {p : Placing} {l : LayoutState} {nexts : List ℕ} {rows 
 
   pub next_past : (j : ℕ) → j < length shop.jobs → length (route_of shop j) ≤ p.steps j
       → length rows.heads ≤ get_or nexts j 0
-  next_past j known past =
-      let route = can.laid.routes j
-      in let a = can.are.are j known
-      in let b = place_past l (first_position l shop.machines) j (p.steps j) (omega arith)
-      in let d = can.heads.positions in omega arith
+  next_past j known past = grind (arith, place_past)
 
   pub next_is : (j : ℕ) → j < length shop.jobs → get_or nexts j 0 < length rows.heads → IsOperation shop j (p.steps j)
-  next_is j known below = elim (cases_lt (p.steps j) (length (route_of shop j))) [
-    | inl op ↦ op
-    | inr past ↦ absurd (let a = next_past j known past in omega arith)
-  ]
+  next_is j known below = grind (arith, cases_lt, next_past)
 
   pub next_placed : AreNextPlaced l rows.heads nexts
   next_placed = record {
@@ -58,9 +50,7 @@ module _ {shop : Shop} {p : Placing} {l : LayoutState} {nexts : List ℕ} {rows 
   -- its head, its time and its end
   pub stored_head : (j : ℕ) → IsOperation shop j (p.steps j)
       → get_or rows.heads (get_or nexts j 0) 0 ≡ next_head shop p j + 1
-  stored_head j op =
-      let at = ap (λ (x : ℕ). get_or rows.heads x 0) (next_there j op)
-      in let a = can.heads.waiting j (p.steps j) op (omega arith) in let b = head_first shop p j in omega arith
+  stored_head j op = grind (arith, next_there, head_first)
 
   pub stored_time : (j : ℕ) → IsOperation shop j (p.steps j)
       → get_or rows.times (get_or nexts j 0) 0 ≡ time_of shop j (p.steps j)

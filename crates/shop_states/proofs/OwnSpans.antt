@@ -1,6 +1,6 @@
 -- Own spans tell the bound after each candidate of a word.
 use Rattle.std.proofs.Common.{◌≡◌, ℕ, zero, suc, ◌+◌, ◌-◌, ◌*◌, ◌≤◌, ◌<◌, max, inl, inr, true, List, [], ◌∷◌, ◌++◌}
-use Rattle.std.proofs.Common.{length, get_or, drop, refl, sym, ◌∙◌, ap, subst, arith, eqb}
+use Rattle.std.proofs.Common.{length, get_or, drop, refl, sym, ◌∙◌, ap, subst, arith}
 use Rattle.std.specs.List.{All}
 use Rattle.std.proofs.lemmas.Bool.{and_parts, cases_Bool, cases_lt, eqb-true}
 use Rattle.std.proofs.lemmas.Grind.{same_number_lists}
@@ -8,12 +8,12 @@ use Rattle.std.proofs.lemmas.List.Elements.{All-drop, All-take}
 use Rattle.shop_lanes.specs.Rows.{AreBlocks, Lane, Rows, lanes, lanes_between, lanes_of, blocks}
 use Rattle.shop_lanes.proofs.Columns.{All-by_columns}
 use Rattle.shop_lanes.proofs.LaneLists.{length-blocks, length-lanes}
-use Rattle.shop_lanes.specs.Spans.{AreOwnSpans, FitOwnSpans, own_span}
+use Rattle.shop_lanes.specs.Spans.{AreOwnSpans, FitOwnSpans}
 use Rattle.shop_model.specs.Limits.{IsWithinLimits}
 use Rattle.shop_model.specs.Shop.{Shop, machine_of}
 use Rattle.shop_model.specs.Word.{Placing, IsWord, placing}
 use Rattle.shop_bound.specs.Bound.{lb}
-use Rattle.shop_bound.specs.Conflicts.{chosen_of, conflict, conflict_among, conflicts_with, next_machine, open_jobs}
+use Rattle.shop_bound.specs.Conflicts.{conflict, conflict_among, conflicts_with, next_machine}
 use Rattle.shop_states.specs.inner.Advances.{IsAdvancing, foreseen}
 use Rattle.shop_states.specs.States.{ListsBelow, none, listed, closed}
 use Rattle.shop_states.specs.inner.Candidates.{AreCandidatesOf, IsCandidateOf, IsTold, ListsOwn, own_at}
@@ -38,16 +38,7 @@ use Rattle.shop_states.proofs.StateSteps.{next_at, next_known}
 module _ {shop : Shop} (limits : IsWithinLimits shop) {l : LayoutState} (laid : IsLaidOut shop l) (p : Placing)
     {hs ks : List ℕ} (a : AreHeadsAt shop p l hs) (b : AreHeadsAt shop p l ks) where
   head_same : (q : ℕ) → get_or hs q 0 ≡ get_or ks q 0
-  head_same q = elim (each_position shop limits l laid q) [
-    | inl o ↦ (let c = ap (λ (x : ℕ). get_or hs x 0) o.at in let d = ap (λ (x : ℕ). get_or ks x 0) o.at
-        in elim (cases_lt o.step (p.steps o.job)) [
-          | inl before ↦ (let e = a.placed o.job o.step o.is before in let f = b.placed o.job o.step o.is before
-              in omega arith)
-          | inr opened ↦ (let e = a.waiting o.job o.step o.is opened in let f = b.waiting o.job o.step o.is opened
-              in omega arith)
-        ])
-    | inr free ↦ (let e = a.padding q free in let f = b.padding q free in omega arith)
-  ]
+  head_same q = grind (arith, each_position, cases_lt)
 
   pub same_heads : hs ≡ ks
   same_heads = same_number_lists hs ks (a.positions ∙ sym b.positions) (λ q known. head_same q)
@@ -55,18 +46,12 @@ module _ {shop : Shop} (limits : IsWithinLimits shop) {l : LayoutState} (laid : 
 -- a conflict set is on one machine
 on_its : (shop : Shop) (p : Placing) (c i : ℕ) → conflicts_with shop p c i ≡ true
     → next_machine shop p i ≡ next_machine shop p c
-on_its shop p c i t = elim (cases_Bool (eqb i c)) [
-  | inl e ↦ ap (next_machine shop p) (eqb-true i c e)
-  | inr e ↦ eqb-true (next_machine shop p i) (next_machine shop p c) (and_parts _ _ (rw e at t)).0
-]
+on_its shop p c i t = grind (arith, cases_Bool, eqb-true, and_parts)
 
 pub on_one : (shop : Shop) (p : Placing) (js : List ℕ) (i k : ℕ) → IsIn (conflict_among shop p js) i
     → IsIn (conflict_among shop p js) k → next_machine shop p i ≡ next_machine shop p k
 on_one shop p [] i k h g = absurd h
-on_one shop p (j ∷ js) i k h g =
-    let c = chosen_of shop p j js
-    in on_its shop p c i (in_filter (conflicts_with shop p c) (j ∷ js) i h).1
-    ∙ sym (on_its shop p c k (in_filter (conflicts_with shop p c) (j ∷ js) k g).1)
+on_one shop p (j ∷ js) i k h g = grind (arith, on_its, in_filter)
 
 -- the heads of lanes
 head_in : (hs ts qs : List ℕ) (top : ℕ) → ((q : ℕ) → get_or hs q 0 ≤ top)
@@ -188,10 +173,7 @@ module _ {greatest : ℕ} {shop : Shop} {w : List ℕ} {l : LayoutState} {heads 
       told_is : (owns : List ℕ)
           → AreOwnSpans heads l.times l.tails (get_or l.blocks m 0) (get_or l.blocks (m + 1) 0) owns
           → told_at nexts (8 * get_or l.blocks m 0) owns j ≡ own_at l heads x - 1
-      told_is owns are =
-          ap (λ (n : ℕ). n - 1) (are x its_from its_to its_head
-          ∙ ap (λ (n : ℕ). own_span heads l.times l.tails (get_or l.blocks n 0) (get_or l.blocks (n + 1) 0) x)
-          (sym m_is))
+      told_is owns are = grind (arith, its_from, its_to, its_head)
 
   -- the conflict set
   module _ {jobs : List ℕ} (set_is : jobs ≡ conflict shop w) where
@@ -202,8 +184,7 @@ module _ {greatest : ℕ} {shop : Shop} {w : List ℕ} {l : LayoutState} {heads 
     is_one : (j : ℕ) → IsIn (conflict shop w) j → (c : Candidate) → c.job ≡ j
         → max (lb shop w) c.own ≡ max (lb shop w) (own_at l heads (get_or nexts j 0) - 1)
         → IsCandidateOf shop w l c.job c.own
-    is_one j h c same adds =
-        subst (λ (i : ℕ). IsCandidateOf shop w l i c.own) (sym same) (own_of j (set_fits j h) c.own adds)
+    is_one j h c same adds = grind (arith, own_of, set_fits)
 
     listing : (limit : ℕ) (own : ℕ → ℕ)
         → ((j : ℕ) → IsIn (conflict shop w) j → own j ≡ own_at l heads (get_or nexts j 0) - 1)
@@ -249,10 +230,7 @@ module _ {greatest : ℕ} {shop : Shop} {w : List ℕ} {l : LayoutState} {heads 
       first_fits = set_fits first has
 
       on_its_machine : (j : ℕ) → IsIn (conflict shop w) j → get_or l.machines (get_or nexts j 0) 0 ≡ m
-      on_its_machine j h =
-          its_machine j (set_fits j h)
-          ∙ (on_one shop (placing shop w) (open_jobs shop (placing shop w)) j first h has
-          ∙ (sym (its_machine first first_fits) ∙ sym m_is))
+      on_its_machine j h = grind (arith, its_machine, set_fits, on_one)
 
       m_known : m < shop.machines
       m_known =
@@ -263,10 +241,7 @@ module _ {greatest : ℕ} {shop : Shop} {w : List ℕ} {l : LayoutState} {heads 
       blocks_are = rw (from_is, to_is) (its_blocks m m_known)
 
       pub can_tell : CanTell greatest (rows_of l heads ends) from to
-      can_tell = record {
-        blocks = blocks_are;
-        fits = rw (from_is, to_is) (owns_fit m m_known);
-      }
+      can_tell = grind (arith, blocks_are, owns_fit, m_known)
 
       pub told_all : (count : ℕ) → 8 * to ≤ 8 * from + count → (j : ℕ) → IsIn jobs j
           → IsTold nexts (8 * from) count j

@@ -1,6 +1,6 @@
 -- Next legs, and when jobs are ready and machines free, while a word is placed.
-use Rattle.std.proofs.Common.{◌≡◌, ℕ, ◌+◌, ◌≤◌, ◌<◌, ◌^◌, max, inl, inr, List, [], length, map, take}
-use Rattle.std.proofs.Common.{get_or, set, sym, ◌∙◌, ap, subst, arith}
+use Rattle.std.proofs.Common.{◌≡◌, ℕ, ◌+◌, ◌≤◌, ◌<◌, ◌^◌, max, List, [], length, map, take}
+use Rattle.std.proofs.Common.{get_or, set, sym, ◌∙◌, subst, arith}
 use Rattle.std.proofs.lemmas.Bool.{cases_eq}
 use Rattle.std.proofs.lemmas.Grind.{get_or-set_at}
 use Rattle.std.proofs.lemmas.List.{get_or-set_other, length-set, take_more}
@@ -27,46 +27,21 @@ pub none_at : (shop : Shop) (l : LayoutState) → (legs ready free old : List �
     → AreBegun shop l (length shop.jobs) legs ready → length free ≡ length old
     → ((m : ℕ) → m < length old → get_or free m 0 ≡ 0) → length old ≡ shop.machines
     → IsPlacedAt shop (none_placed shop) l legs ready free
-none_at shop l legs ready free old begun same none long = record {
-  next_jobs = begun.next_jobs;
-  jobs = begun.jobs;
-  machines = same ∙ long;
-  next_at = begun.first;
-  ready_at = begun.released;
-  free_at = λ m known. none m (omega arith);
-}
+none_at shop l legs ready free old begun same none long = grind arith
 
 -- one more job is at its first leg
 pub begun_more : {shop : Shop} {l : LayoutState} {n : ℕ} → n < length shop.jobs → {legs ready : List ℕ}
     → AreBegun shop l n legs ready → {i t : ℕ} → i ≡ leg_index l n 0 → t ≡ release_of shop n
     → AreBegun shop l (n + 1) (set legs n i) (set ready n t)
-begun_more {shop} {l} {n} known {legs} {ready} begun {i} {t} first release = record {
-  next_jobs = length-set legs n i ∙ begun.next_jobs;
-  jobs = length-set ready n t ∙ begun.jobs;
-  first = λ j here. elim (cases_eq j n) [
-    | inl f ↦ get_or-set_at legs n j i 0 f (let a = begun.next_jobs in omega arith)
-        ∙ (first ∙ ap (λ (x : ℕ). leg_index l x 0) (sym f))
-    | inr ne ↦ get_or-set_other legs n j i 0 ne ∙ begun.first j (omega arith)
-  ];
-  released = λ j here. elim (cases_eq j n) [
-    | inl f ↦ get_or-set_at ready n j t 0 f (let a = begun.jobs in omega arith)
-        ∙ (release ∙ ap (release_of shop) (sym f))
-    | inr ne ↦ get_or-set_other ready n j t 0 ne ∙ begun.released j (omega arith)
-  ];
-}
+begun_more {shop} {l} {n} known {legs} {ready} begun {i} {t} first release =
+    grind (arith, length-set, cases_eq, get_or-set_at, get_or-set_other)
 
 -- where the legs of the next job begin, which is a small number
 pub begins_behind : {shop : Shop} → IsWithinLimits shop → {l : LayoutState} → IsLaidOut shop l → {n : ℕ}
     → n < length shop.jobs → {read : LayoutState} → read ≡ l → {places : List ℕ} → places ≡ get_or read.places n []
     → {i : ℕ} → i ≡ leg_index l n 0
     → (i + (length places + 1) ≡ leg_index l (n + 1) 0) × (i + (length places + 1) < 2 ^ 32)
-begins_behind limits {l} laid {n} known same {places} are at =
-    let long : length places ≡ length (get_or l.places n []) =
-    ap length are ∙ ap (λ (x : LayoutState). length (get_or x.places n [])) same
-    in let jobs = laid.jobs
-    in let more = next_first l n (omega arith)
-    in let small = first_small limits laid (n + 1) (omega arith)
-    in (omega arith, omega arith)
+begins_behind limits {l} laid {n} known same {places} are at = grind (arith, next_first, first_small)
 
 -- what is read of the next leg of a job that can go on
 module _ {shop : Shop} (limits : IsWithinLimits shop) {l : LayoutState} {p : Placing}
@@ -81,9 +56,7 @@ module _ {shop : Shop} (limits : IsWithinLimits shop) {l : LayoutState} {p : Pla
 
     module _ {e : ℕ} (ends : e ≡ max (get_or ready j 0) (get_or free leg.machine 0) + leg.time) where
       finish : e ≡ max (p.ready j) (p.free (machine_of shop j (p.steps j))) + time_of shop j (p.steps j)
-      finish =
-          let a = at.ready_at j job_known in let b = at.free_at leg.machine machine_known
-          in let c = ap p.free is.machine in let d = is.time in omega arith
+      finish = grind (arith, job_known, machine_known)
 
       -- it is placed
       placed_more : {i : ℕ} → i ≡ get_or legs j 0 + 1
@@ -99,31 +72,9 @@ module _ {shop : Shop} (limits : IsWithinLimits shop) {l : LayoutState} {p : Pla
             next_jobs = length-set legs j i ∙ at.next_jobs;
             jobs = length-set ready j e ∙ at.jobs;
             machines = length-set free m e ∙ at.machines;
-            next_at = λ a there. elim (cases_eq a j) [
-              | inl f ↦ (let here = get_or-set_at legs j a i 0 f (let b = at.next_jobs in omega arith)
-                  in let before = at.next_at j known
-                  in let steps = n.steps_here
-                  in let same : leg_index l a ((place_next shop p j).steps a)
-                  ≡ leg_index l j ((place_next shop p j).steps j) =
-                  ap (λ (x : ℕ). leg_index l x ((place_next shop p j).steps x)) f
-                  in omega arith)
-              | inr ne ↦ get_or-set_other legs j a i 0 ne ∙ (at.next_at a there
-                  ∙ ap (leg_index l a) (sym (n.steps_other a ne)))
-            ];
-            ready_at = λ i there. elim (cases_eq i j) [
-              | inl f ↦ (let a = get_or-set_at ready j i e 0 f (let b = at.jobs in omega arith)
-                  in let c = n.ready_here
-                  in let d : (place_next shop p j).ready i ≡ (place_next shop p j).ready j =
-                  ap (place_next shop p j).ready f
-                  in omega arith)
-              | inr ne ↦ get_or-set_other ready j i e 0 ne ∙ (at.ready_at i there ∙ sym (n.ready_other i ne))
-            ];
-            free_at = λ i there. elim (cases_eq i m) [
-              | inl f ↦ (let a = get_or-set_at free m i e 0 f (let b = at.machines in omega arith)
-                  in let c = n.free_here i (f ∙ is.machine) in omega arith)
-              | inr ne ↦ get_or-set_other free m i e 0 ne
-                  ∙ (at.free_at i there ∙ sym (n.free_other i (λ f. ne (f ∙ sym is.machine))))
-            ];
+            next_at = λ a there. grind (arith, cases_eq, get_or-set_at, get_or-set_other);
+            ready_at = λ i there. grind (arith, cases_eq, get_or-set_at, get_or-set_other);
+            free_at = λ i there. grind (arith, cases_eq, get_or-set_at, get_or-set_other);
           }
 
 -- what is read for the entry of a word that comes next is there, and the sum fits
@@ -189,8 +140,7 @@ module _ {shop : Shop} (limits : IsWithinLimits shop) {l : LayoutState} (laid : 
         next = omega arith;
         job = omega arith;
         leg = index_there limits laid j entry_known (before.steps j) entry_within same (at.next_at j entry_known);
-        few = (let a = leg_small limits laid j entry_known (before.steps j) entry_within
-            in let b = at.next_at j entry_known in omega arith);
+        few = grind (arith, leg_small, entry_known, entry_within);
         machine = λ leg is. (let a = machine_known limits at j entry_operation (entry_leg is) in omega arith);
         small = entry_small;
       }
@@ -213,8 +163,7 @@ module _ {shop : Shop} (w : List ℕ) {l : LayoutState} {legs ready free : List 
 
   pub steps_are : (j : ℕ) → j < length shop.jobs
       → get_or (map (λ i. step_at l i (get_or legs i 0)) (range_with_len 0 (length legs))) j 0 ≡ p.steps j
-  steps_are j known = get_or-map-range_with_len (λ i. step_at l i (get_or legs i 0)) 0 (length legs) j j 0
-      (let a = at.next_jobs in omega arith) (omega arith) ∙ (let a = at.next_at j known in omega arith)
+  steps_are j known = grind (arith, get_or-map-range_with_len)
 
   pub placement_is : IsPlacement shop (placing shop w) (placement_at l legs ready free)
   placement_is = record {

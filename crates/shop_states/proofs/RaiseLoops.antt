@@ -13,12 +13,7 @@ use Rattle.shop_states.specs.inner.Raises.{AreWaiting, Raises, IsFollowed, IsInd
 
 weaker : (l : LayoutState) (A B : ℕ → Type 0) (e : ℕ) (old new : ℕ → ℕ) → ((q : ℕ) → B q → A q)
     → IsRaised l A e old new → IsRaised l B e old new
-weaker l A B e old new part r = record {
-  rises = r.rises;
-  rests = r.rests;
-  order = r.order;
-  reach = λ q in_part waits. r.reach q (part q in_part) waits;
-}
+weaker l A B e old new part r = grind arith
 
 -- what was to come is still to come, and no less
 go_on : (l : LayoutState) (A B C : ℕ → Type 0) (e : ℕ) (a b : List ℕ) (other : ℕ → ℕ) → IsLeastRaise l A e a b
@@ -99,16 +94,7 @@ still_raisable {l} {A} B {C} {e} {a} {b} can x in_a in_b = record {
 pub raises_none : (greatest : ℕ) (l : LayoutState) (nexts : List ℕ) (A : ℕ → Type 0) (e : ℕ) (a : Rows)
     → AreInRouteOrder l (at_in a.heads) → ((q : ℕ) → A q → 0 < get_or a.heads q 0 → e ≤ get_or a.heads q 0)
     → Raises greatest l nexts A e a a
-raises_none greatest l nexts A e a order enough = record {
-  raised = record {
-    positions = refl;
-    raised = record { rises = λ q. omega arith; rests = λ q z. z; order = order; reach = enough };
-    least = λ other raised q. raised.rises q;
-  };
-  times = refl;
-  tails = refl;
-  ends = record { long = refl; none = λ f. refl; each = λ j known is. is };
-}
+raises_none greatest l nexts A e a order enough = grind arith
 
 -- those marked that are no longer to come
 abbrev pub IsDone : List ℕ → List ℕ → ℕ → Type 0
@@ -127,10 +113,7 @@ pub record AreMarksRaised (greatest : ℕ) (l : LayoutState) (nexts marks : List
 module _ {greatest : ℕ} {l : LayoutState} {nexts marks : List ℕ} {e : ℕ} {old : Rows}
     (can : IsRaisable greatest l nexts old (IsIn marks) e) where
   pub marks_begin : AreWaiting old.heads marks → AreMarksRaised greatest l nexts marks e marks old old
-  marks_begin are = record {
-    raises = raises_none greatest l nexts (IsDone marks marks) e old can.order (λ q done waits. absurd (done.1 done.0));
-    to_come = record { waits = λ q h. (h, are.waits q h); rises = are.rises };
-  }
+  marks_begin are = grind (arith, raises_none)
 
   module _ {todo : List ℕ} {now : Rows} (so_far : AreMarksRaised greatest l nexts marks e todo old now) {q : ℕ}
       {rest : List ℕ} (popped : todo ≡ q ∷ rest) where
@@ -138,23 +121,16 @@ module _ {greatest : ℕ} {l : LayoutState} {nexts marks : List ℕ} {e : ℕ} {
     is_in = subst (λ (xs : List ℕ). IsIn xs q) (sym popped) (inl refl)
 
     pub popped_waits : 0 < get_or now.heads q 0
-    popped_waits = let a = so_far.to_come.waits q is_in in let b = a.1 in let c = so_far.raises.raised.raised.rises q
-        in omega arith
+    popped_waits = grind (arith, is_in)
 
     pub popped_within : q < length now.heads
-    popped_within = elim (cases_lt q (length now.heads)) [
-      | inl h ↦ h
-      | inr h ↦ (let a = get_or_past now.heads q 0 h in let b = popped_waits in absurd (omega arith))
-    ]
+    popped_within = grind (arith, cases_lt, get_or_past, popped_waits)
 
     pub popped_here : IsIn marks q
     popped_here = (so_far.to_come.waits q is_in).0
 
     popped_to_come : AreToCome marks rest old.heads
-    popped_to_come = record {
-      waits = λ r h. so_far.to_come.waits r (subst (λ (xs : List ℕ). IsIn xs r) (sym popped) (inr h));
-      rises = (subst Rises popped so_far.to_come.rises).1;
-    }
+    popped_to_come = grind arith
 
     not_in_rest : IsIn rest q → ⊥
     not_in_rest h = let a = (subst Rises popped so_far.to_come.rises).0 q h in omega arith
@@ -175,10 +151,7 @@ module _ {greatest : ℕ} {l : LayoutState} {nexts marks : List ℕ} {e : ℕ} {
     ]
 
     here_done : (r : ℕ) → r ≡ q → IsDone marks rest r
-    here_done r f = (
-      (subst (IsIn marks) (sym f) popped_here),
-      λ h. not_in_rest (subst (IsIn rest) f h),
-    )
+    here_done r f = grind (arith, popped_here, not_in_rest)
 
     pub popped_raisable : IsRaisable greatest l nexts now (IsPosition q) e
     popped_raisable =
@@ -227,29 +200,12 @@ module _ (old : Rows) {marks : List ℕ} (from to e : ℕ) (ordered : from ≤ t
   marks_in q h = (marked_there q h).there
 
   pub marks_waiting : AreWaiting old.heads marks
-  marks_waiting = record {
-    waits = λ q h. (marked_there q h).waits;
-    rises = subst Rises (sym are) (below_rises old from to e ordered within);
-  }
+  marks_waiting = grind (arith, marked_there, below_rises)
 
   pub marks_raisable : {greatest : ℕ} {l : LayoutState} {nexts : List ℕ}
       → IsRaisable greatest l nexts old (IsInBlocks from to) e
       → IsRaisable greatest l nexts old (IsIn marks) e
-  marks_raisable {greatest} {l} {nexts} can = record {
-    firsts = can.firsts;
-    ends = can.ends;
-    indexed = can.indexed;
-    followed = can.followed;
-    machines = can.machines;
-    times = can.times;
-    timed = can.timed;
-    places = can.places;
-    order = can.order;
-    other = can.other;
-    raised = weaker l (IsInBlocks from to) (IsIn marks) e (at_in old.heads) can.other marks_in can.raised;
-    fits = can.fits;
-    computable = can.computable;
-  }
+  marks_raisable {greatest} {l} {nexts} can = grind (arith, weaker, marks_in)
 
   pub marks_raised : {greatest : ℕ} {l : LayoutState} {nexts : List ℕ} {new : Rows}
       → Raises greatest l nexts (IsIn marks) e old new
@@ -301,12 +257,9 @@ module _ {greatest : ℕ} {l : LayoutState} {nexts : List ℕ} {first from : ℕ
 pub no_blocks : {greatest : ℕ} {l : LayoutState} {nexts : List ℕ} (first behind : ℕ) {e : ℕ} {old : Rows}
     → IsRaisable greatest l nexts old (IsInBlocks first behind) e
     → Raises greatest l nexts (IsInBlocks first first) e old old
-no_blocks {greatest} {l} {nexts} first behind {e} {old} can =
-    raises_none greatest l nexts (IsInBlocks first first) e old can.order
-    (λ q h waits. let a = h.0 in let b = h.1 in absurd (omega arith))
+no_blocks {greatest} {l} {nexts} first behind {e} {old} can = grind (arith, raises_none)
 
 pub all_blocks : {greatest : ℕ} {l : LayoutState} {nexts : List ℕ} (first from behind : ℕ) {e : ℕ} {old now : Rows}
     → from ≡ behind → Raises greatest l nexts (IsInBlocks first from) e old now
     → Raises greatest l nexts (IsInBlocks first behind) e old now
-all_blocks {greatest} {l} {nexts} first from behind {e} {old} {now} same raises =
-    subst (λ (x : ℕ). Raises greatest l nexts (IsInBlocks first x) e old now) same raises
+all_blocks {greatest} {l} {nexts} first from behind {e} {old} {now} same raises = grind arith

@@ -1,6 +1,6 @@
 -- A raise over rows, head by head.
 use Rattle.std.proofs.Common.{◌≡◌, ℕ, ◌+◌, ◌≤◌, ◌<◌, List, [], length, get_or, set}
-use Rattle.std.proofs.Common.{refl, sym, ◌∙◌, ap, subst, arith, inl, inr}
+use Rattle.std.proofs.Common.{refl, sym, ◌∙◌, ap, arith}
 use Rattle.std.proofs.lemmas.Bool.{cases_lt}
 use Rattle.std.proofs.lemmas.List.{get_or_default, get_or_past}
 use Rattle.shop_lanes.specs.Rows.{Rows, with_head}
@@ -32,19 +32,7 @@ module _ {greatest : ℕ} {l : LayoutState} {p e : ℕ} {old : Rows}
       → new ≡ with_head old p e
       → {t ready time : ℕ} → t ≡ get_or l.steps p 0 + 1 → time ≡ get_or new.times p 0 → ready ≡ e + time
       → IsWalking greatest l p e t ready old new
-  begun below {new} wrote {t} {ready} next read sum =
-      let heads : new.heads ≡ set old.heads p e = ap (λ (r : Rows). r.heads) wrote
-      in let times : new.times ≡ old.times = ap (λ (r : Rows). r.times) wrote
-      in let same : get_or new.times p 0 ≡ get_or l.times p 0 =
-      ap (λ (xs : List ℕ). get_or xs p 0) (times ∙ can.times)
-      in record {
-        up_to = subst (λ (hs : List ℕ). IsRaisedUpTo l p e (get_or l.jobs p 0) t ready old.heads hs) (sym heads)
-            (walk_begins can.indexed p e (get_or l.jobs p 0) old.heads refl t ready (can.places p some) refl next (omega
-            arith) can.order some below);
-        times = times;
-        tails = ap (λ (r : Rows). r.tails) wrote;
-        ends = ap (λ (r : Rows). r.ends) wrote;
-      }
+  begun below {new} wrote {t} {ready} next read sum = grind (arith, walk_begins)
 
   module _ {t ready : ℕ} {now : Rows} (so_far : IsWalking greatest l p e t ready old now)
       (more : t < steps_of l (get_or l.jobs p 0)) {q : ℕ} (at : q ≡ place l (get_or l.jobs p 0) t) where
@@ -64,35 +52,13 @@ module _ {greatest : ℕ} {l : LayoutState} {p e : ℕ} {old : Rows}
         → new ≡ with_head now q ready
         → {h time u : ℕ} → u ≡ t + 1 → time ≡ get_or new.times q 0 → h ≡ ready + time
         → IsWalking greatest l p e u h old new
-    on below {new} wrote {h} next read sum =
-        let heads : new.heads ≡ set now.heads q ready = ap (λ (r : Rows). r.heads) wrote
-        in let times : new.times ≡ now.times = ap (λ (r : Rows). r.times) wrote
-        in let same : get_or new.times q 0 ≡ get_or l.times q 0 =
-        ap (λ (xs : List ℕ). get_or xs q 0) (times ∙ (so_far.times ∙ can.times))
-        in let i = get_or l.jobs p 0
-        in record {
-          up_to = subst (λ (x : ℕ). IsRaisedUpTo l p e i x h old.heads new.heads) (sym next)
-              (subst (λ (hs : List ℕ). IsRaisedUpTo l p e i (t + 1) h old.heads hs) (sym heads)
-              (walk_on can.indexed p e i old.heads refl so_far.up_to can.order more q h at below (omega arith)));
-          times = times ∙ so_far.times;
-          tails = ap (λ (r : Rows). r.tails) wrote ∙ so_far.tails;
-          ends = ap (λ (r : Rows). r.ends) wrote ∙ so_far.ends;
-        }
+    on below {new} wrote {h} next read sum = grind (arith, walk_on, more)
 
   pub ended : {t ready : ℕ} {now : Rows}
       → IsWalking greatest l p e t ready old now
       → (t < steps_of l (get_or l.jobs p 0) → ready ≤ get_or now.heads (place l (get_or l.jobs p 0) t) 0)
       → Raises greatest l [] (IsPosition p) e old now
-  ended {t} {ready} {now} so_far enough = record {
-    raised = walk_ends can.indexed p e (get_or l.jobs p 0) old.heads refl so_far.up_to enough;
-    times = so_far.times;
-    tails = so_far.tails;
-    ends = record {
-      long = ap length so_far.ends;
-      none = λ f. so_far.ends;
-      each = λ j known is. absurd (omega arith);
-    };
-  }
+  ended {t} {ready} {now} so_far enough = grind (arith, walk_ends)
 
 -- so far a raise has followed the route of position p up to a leg
 pub record IsFollowing (greatest : ℕ) (l : LayoutState) (p e index ready : ℕ) (old new : Rows) : Type 0 where
@@ -121,32 +87,17 @@ module _ {greatest : ℕ} {l : LayoutState} {p e : ℕ} {old : Rows}
   module _ {index ready : ℕ} {now : Rows} (so_far : IsFollowing greatest l p e index ready old now) where
     -- a leg of the route, or its end, is among all
     pub leg_known : index < length (all_legs l)
-    leg_known = let at = so_far.index_is
-        in let a = index_known l job (can.places p some).job so_far.step so_far.known in omega arith
+    leg_known = grind (arith, index_known)
 
     module _ {leg : Leg} (is : leg ≡ get_or (all_legs l) index (end_of 0)) where
       read : leg ≡ get_or (all_legs l) (leg_index l job so_far.step) (end_of 0)
       read = is ∙ ap (λ (i : ℕ). get_or (all_legs l) i (end_of 0)) so_far.index_is
 
       stands : leg.position ≡ place_or (length old.heads) l.places job so_far.step
-      stands = elim (cases_lt so_far.step (steps_of l job)) [
-        | inl here ↦ ap (λ (x : Leg). x.position)
-            (read ∙ leg_here l job (can.places p some).job so_far.step (end_of 0) here)
-            ∙ sym (place_there l (length old.heads) job so_far.step here)
-        | inr past ↦ ap (λ (x : Leg). x.position)
-            (read ∙ leg_behind l job (can.places p some).job so_far.step (end_of 0)
-            (let known = so_far.known in omega arith))
-            ∙ (can.followed.following ∙ sym (place_past l (length old.heads) job so_far.step past))
-      ]
+      stands = grind (arith, cases_lt, read, leg_here, place_there, leg_behind, place_past)
 
       pub position_up_to : leg.position ≤ length now.heads
-      position_up_to =
-          let at = stands in let long = so_far.walking.up_to.positions
-          in elim (cases_lt so_far.step (steps_of l job)) [
-            | inl here ↦ (let a = place_there l (length old.heads) job so_far.step here
-                in let b = (can.indexed.step job so_far.step here).within in let c = can.indexed.jobs in omega arith)
-            | inr past ↦ (let a = place_past l (length old.heads) job so_far.step past in omega arith)
-          ]
+      position_up_to = grind (arith, stands, cases_lt, place_there, place_past)
 
       -- what is ready next fits, since no raised head is above the least of those that do
       fitting : ready ≤ greatest
@@ -159,33 +110,18 @@ module _ {greatest : ℕ} {l : LayoutState} {p e : ℕ} {old : Rows}
       module _ {head : ℕ} (looked : head ≡ get_or now.heads leg.position greatest) where
         -- it ends where the head is great enough, or at the end of the route
         pub ended_at : ready ≤ head → Raises greatest l [] (IsPosition p) e old now
-        ended_at enough = ended can some so_far.walking (λ there.
-            let long = so_far.walking.up_to.positions
-            in let b = (can.indexed.step job so_far.step there).within in let c = can.indexed.jobs
-            in let at = stands ∙ place_there l (length old.heads) job so_far.step there
-            in let same : get_or now.heads leg.position 0 ≡ get_or now.heads (place l job so_far.step) 0 =
-            ap (λ (x : ℕ). get_or now.heads x 0) at
-            in let one = get_or_default now.heads leg.position greatest 0 (omega arith) in omega arith)
+        ended_at enough = grind (arith, ended, stands, place_there, get_or_default)
 
         module _ (below : head < ready) where
           -- the head behind the last position isn't below what is ready
           pub is_there : leg.position < length old.heads
-          is_there = elim (cases_lt leg.position (length old.heads)) [
-            | inl here ↦ here
-            | inr past ↦ absurd (let long = so_far.walking.up_to.positions in let fits = fitting
-                in let b = get_or_past now.heads leg.position greatest (omega arith) in omega arith)
-          ]
+          is_there = grind (arith, cases_lt, fitting, get_or_past)
 
           pub read_there : head ≡ get_or now.heads leg.position 0
-          read_there = let a = is_there in let long = so_far.walking.up_to.positions
-              in looked ∙ get_or_default now.heads leg.position greatest 0 (omega arith)
+          read_there = grind (arith, is_there, get_or_default)
 
           more : so_far.step < steps_of l job
-          more = elim (cases_lt so_far.step (steps_of l job)) [
-            | inl here ↦ here
-            | inr past ↦ absurd (let a = is_there in let b = stands
-                in let c = place_past l (length old.heads) job so_far.step past in omega arith)
-          ]
+          more = grind (arith, cases_lt, is_there, stands, place_past)
 
           here : leg.position ≡ place l job so_far.step
           here = stands ∙ place_there l (length old.heads) job so_far.step more

@@ -1,6 +1,6 @@
 -- Heads are raised along a route while they are too small.
 use Rattle.std.proofs.Common.{◌≡◌, ℕ, ◌+◌, ◌≤◌, ◌<◌, inl, inr, List, length, get_or, set, refl, sym}
-use Rattle.std.proofs.Common.{◌∙◌, ap, subst, arith}
+use Rattle.std.proofs.Common.{◌∙◌, ap, arith}
 use Rattle.std.proofs.lemmas.Bool.{cases_eq}
 use Rattle.std.proofs.lemmas.Grind.{get_or-set_at}
 use Rattle.std.proofs.lemmas.List.{get_or-set_other, length-set}
@@ -25,13 +25,7 @@ pub record IsRaisedUpTo (l : LayoutState) (p e i t ready : ℕ) (old new : List 
 
 module _ {l : LayoutState} {n : ℕ} (ix : IsIndexed l n) where
   pub apart : (j k i t : ℕ) → k < steps_of l j → t < steps_of l i → place l j k ≡ place l i t → (j ≡ i) × (k ≡ t)
-  apart j k i t here there same =
-      let a = ix.step j k here
-      in let b = ix.step i t there
-      in (
-        sym a.job ∙ (ap (λ (x : ℕ). get_or l.jobs x 0) same ∙ b.job),
-        sym a.step ∙ (ap (λ (x : ℕ). get_or l.steps x 0) same ∙ b.step),
-      )
+  apart j k i t here there same = grind arith
 
   pub place_within : (j k : ℕ) → k < steps_of l j → place l j k < n
   place_within j k here = let a = ix.step j k here in let b = a.within in let c = ix.jobs in omega arith
@@ -41,49 +35,7 @@ module _ {l : LayoutState} {n : ℕ} (ix : IsIndexed l n) where
         → ready ≡ e + get_or l.times p 0 → AreInRouteOrder l (at_in old) → 0 < get_or old p 0 → get_or old p 0 ≤ e
         → IsRaisedUpTo l p e i t ready old (set old p e)
     walk_begins t ready at job step sum order waits below =
-        let s = get_or l.steps p 0
-        in let in_row : s < steps_of l i = subst (λ (x : ℕ). s < steps_of l x) (sym job) at.step
-        in let here : place l i s ≡ p = subst (λ (x : ℕ). place l x s ≡ p) (sym job) at.is
-        in let within : p < length old = (let a = place_within i s in_row in omega arith)
-        in let now : get_or (set old p e) p 0 ≡ e = get_or-set_at old p p e 0 refl within
-        in let there : get_or (set old p e) (place l i s) 0 ≡ e = get_or-set_at old p (place l i s) e 0 here within
-        in record {
-          before = s;
-          next = step;
-          within = in_row;
-          positions = length-set old p e;
-          rises = λ q. elim (cases_eq q p) [
-            | inl f ↦ (let a = get_or-set_at old p q e 0 f within
-                in let b : get_or old q 0 ≡ get_or old p 0 = ap (λ (x : ℕ). get_or old x 0) f in omega arith)
-            | inr ne ↦ (let a = get_or-set_other old p q e 0 ne in omega arith)
-          ];
-          rests = λ q none. elim (cases_eq q p) [
-            | inl f ↦ (let b : get_or old q 0 ≡ get_or old p 0 = ap (λ (x : ℕ). get_or old x 0) f
-                in absurd (omega arith))
-            | inr ne ↦ get_or-set_other old p q e 0 ne ∙ none
-          ];
-          order = λ j k two not_here some.
-              let other : place l j k ≡ p → ⊥ = (λ f. not_here (apart j k i s (omega arith) in_row (f ∙ sym here)))
-              in let same = get_or-set_other old p (place l j k) e 0 other
-              in let was = order j k two (omega arith)
-              in elim (cases_eq (place l j (k + 1)) p) [
-                | inl f ↦ (let a = get_or-set_at old p (place l j (k + 1)) e 0 f within
-                    in let b : get_or old (place l j (k + 1)) 0 ≡ get_or old p 0 = ap (λ (x : ℕ). get_or old x 0) f
-                    in omega arith)
-                | inr ne ↦ (let a = get_or-set_other old p (place l j (k + 1)) e 0 ne in omega arith)
-              ];
-          waits = omega arith;
-          ready_is = (let a : get_or l.times (place l i s) 0 ≡ get_or l.times p 0 =
-              ap (λ (x : ℕ). get_or l.times x 0) here in omega arith);
-          reach = omega arith;
-          least = λ other raised q. elim (cases_eq q p) [
-            | inl f ↦ (let a = get_or-set_at old p q e 0 f within
-                in let b = raised.reach q f (let c : get_or old q 0 ≡ get_or old p 0 = ap (λ (x : ℕ). get_or old x 0) f
-                in omega arith)
-                in omega arith)
-            | inr ne ↦ (let a = get_or-set_other old p q e 0 ne in let b = raised.rises q in omega arith)
-          ];
-        }
+        grind (arith, place_within, get_or-set_at, length-set, cases_eq, get_or-set_other, apart)
 
     module _ {t ready : ℕ} {new : List ℕ} (so_far : IsRaisedUpTo l p e i t ready old new) where
       -- any raise has the next step wait until the one before it ends
@@ -181,35 +133,4 @@ module _ {l : LayoutState} {n : ℕ} (ix : IsIndexed l n) where
       -- the next head is late enough, or there is none
       pub walk_ends : (t < steps_of l i → ready ≤ get_or new (place l i t) 0)
           → IsLeastRaise l (IsPosition p) e old new
-      walk_ends enough = record {
-        positions = so_far.positions;
-        raised = record {
-          rises = so_far.rises;
-          rests = so_far.rests;
-          order = λ j k two waiting.
-              let b = so_far.before
-              in elim (cases_eq j i) [
-                | inl f ↦ elim (cases_eq k b) [
-                  | inl g ↦ (
-                      let c : place l j k ≡ place l i b = ap (λ (x : ℕ). place l x k) f ∙ ap (place l i) g
-                      in let d : place l j (k + 1) ≡ place l i t =
-                      ap (λ (x : ℕ). place l x (k + 1)) f ∙ ap (place l i) (let y = so_far.next in omega arith)
-                      in let u : get_or new (place l j k) 0 ≡ get_or new (place l i b) 0 =
-                      ap (λ (x : ℕ). get_or new x 0) c
-                      in let v : get_or l.times (place l j k) 0 ≡ get_or l.times (place l i b) 0 =
-                      ap (λ (x : ℕ). get_or l.times x 0) c
-                      in let w : get_or new (place l j (k + 1)) 0 ≡ get_or new (place l i t) 0 =
-                      ap (λ (x : ℕ). get_or new x 0) d
-                      in let long : steps_of l j ≡ steps_of l i = ap (steps_of l) f
-                      in let y = so_far.next
-                      in let z = enough (omega arith)
-                      in let r = so_far.ready_is
-                      in omega arith)
-                  | inr ne ↦ so_far.order j k two (λ z. ne z.1) waiting
-                ]
-                | inr ne ↦ so_far.order j k two (λ z. ne z.0) waiting
-              ];
-          reach = λ q is waits. subst (λ (x : ℕ). e ≤ get_or new x 0) (sym is) so_far.reach;
-        };
-        least = so_far.least;
-      }
+      walk_ends enough = grind (arith, cases_eq)

@@ -19,47 +19,11 @@ module _ {l : LayoutState} {p e : ℕ} {old new : List ℕ} (least : IsLeastRais
   at_q v r e = rw (eq-eqb r q e) refl
 
   not_q : (v r : ℕ) → (r ≡ q → ⊥) → but v r ≡ get_or new r 0
-  not_q v r ne = elim (cases_Bool (eqb r q)) [
-    | inl is ↦ absurd (ne (eqb-true r q is))
-    | inr is ↦ rw is refl
-  ]
+  not_q v r ne = grind (arith, cases_Bool, eqb-true)
 
   raised_but : (v : ℕ) → get_or old q 0 ≤ v → (get_or old q 0 ≡ 0 → v ≡ 0) → v ≤ get_or new q 0
       → (q ≡ p → 0 < get_or old q 0 → e ≤ v) → IsRaised l (IsPosition p) e (at_in old) (but v)
-  raised_but v low none high enough = record {
-    rises = λ r. elim (cases_eq r q) [
-      | inl f ↦ (let a = at_q v r f in let b : get_or old r 0 ≡ get_or old q 0 = ap (λ (x : ℕ). get_or old x 0) f
-          in omega arith)
-      | inr ne ↦ (let a = not_q v r ne in let b = least.raised.rises r in omega arith)
-    ];
-    rests = λ r nil. elim (cases_eq r q) [
-      | inl f ↦ (let a = at_q v r f in let b : get_or old r 0 ≡ get_or old q 0 = ap (λ (x : ℕ). get_or old x 0) f
-          in let c = none (omega arith) in omega arith)
-      | inr ne ↦ not_q v r ne ∙ least.raised.rests r nil
-    ];
-    order = λ i k two some. elim (cases_eq (place l i (k + 1)) q) [
-      | inl f ↦ (let nil = first i k two f in let still = least.raised.rests (place l i k) nil
-          in elim (cases_eq (place l i k) q) [
-            | inl g ↦ (let a = at_q v (place l i k) g
-                in let b : get_or old (place l i k) 0 ≡ get_or old q 0 = ap (λ (x : ℕ). get_or old x 0) g
-                in let c = none (omega arith) in absurd (omega arith))
-            | inr ne ↦ (let a = not_q v (place l i k) ne in absurd (omega arith))
-          ])
-      | inr nf ↦ (let b = not_q v (place l i (k + 1)) nf
-          in elim (cases_eq (place l i k) q) [
-            | inl g ↦ (let a = at_q v (place l i k) g
-                in let same : get_or new (place l i k) 0 ≡ get_or new q 0 = ap (λ (x : ℕ). get_or new x 0) g
-                in let c = least.raised.order i k two (omega arith) in omega arith)
-            | inr ne ↦ (let a = not_q v (place l i k) ne in let c = least.raised.order i k two (omega arith)
-                in omega arith)
-          ])
-    ];
-    reach = λ r here some. elim (cases_eq r q) [
-      | inl f ↦ (let a = at_q v r f in let b : get_or old r 0 ≡ get_or old q 0 = ap (λ (x : ℕ). get_or old x 0) f
-          in let c = enough (sym f ∙ here) (omega arith) in omega arith)
-      | inr ne ↦ (let a = not_q v r ne in let b = least.raised.reach r here some in omega arith)
-    ];
-  }
+  raised_but v low none high enough = grind (arith, cases_eq, at_q, not_q, least)
 
   pub head_stays : (q ≡ p → ⊥) → get_or new q 0 ≡ get_or old q 0
   head_stays ne =
@@ -77,35 +41,16 @@ module _ {l : LayoutState} {p e : ℕ} {old new : List ℕ} (least : IsLeastRais
 module _ {greatest : ℕ} {l : LayoutState} {nexts : List ℕ} {p e : ℕ} {old : Rows}
     (can : IsRaisable greatest l nexts old (IsPosition p) e) (some : 0 < get_or old.heads p 0) where
   pub raised_within : p < length old.heads
-  raised_within = elim (cases_lt p (length old.heads)) [
-    | inl h ↦ h
-    | inr past ↦ absurd (let a = get_or_past old.heads p 0 past in omega arith)
-  ]
+  raised_within = grind (arith, cases_lt, get_or_past)
 
   pub raised_fits : e + get_or old.times p 0 ≤ greatest
-  raised_fits =
-      let a = can.raised.reach p refl some in let b = can.fits p (let d = can.raised.rises p in omega arith)
-      in let same = ap (λ (xs : List ℕ). get_or xs p 0) can.times in omega arith
+  raised_fits = grind arith
 
 module _ {greatest : ℕ} {l : LayoutState} {nexts : List ℕ} {p e : ℕ} {old mid : Rows}
     (can : IsRaisable greatest l nexts old (IsPosition p) e) (set : SetsEndAt l nexts p e old mid) where
   -- with no ends to keep up
   pub mid_raisable : IsRaisable greatest l [] mid (IsPosition p) e
-  mid_raisable = rw set.heads (record {
-    firsts = record { own = λ j known here. absurd (omega arith); first = λ j i k known more at. absurd (omega arith) };
-    ends = omega arith;
-    indexed = can.indexed;
-    followed = can.followed;
-    machines = can.machines;
-    times = set.times ∙ can.times;
-    timed = can.timed;
-    places = can.places;
-    order = can.order;
-    other = can.other;
-    raised = can.raised;
-    fits = can.fits;
-    computable = can.computable;
-  })
+  mid_raisable = grind arith
 
   module _ (some : 0 < get_or old.heads p 0) (below : get_or old.heads p 0 ≤ e) {new : Rows}
       (raised : Raises greatest l [] (IsPosition p) e mid new) where
@@ -148,13 +93,4 @@ module _ {greatest : ℕ} {l : LayoutState} {nexts : List ℕ} {p e : ℕ} {old 
         ]
 
     pub raised_with_ends : Raises greatest l nexts (IsPosition p) e old new
-    raised_with_ends = record {
-      raised = least;
-      times = raised.times ∙ set.times;
-      tails = raised.tails ∙ set.tails;
-      ends = record {
-        long = ap length (raised.ends.none refl) ∙ set.long;
-        none = λ f. raised.ends.none refl ∙ set.none f;
-        each = each;
-      };
-    }
+    raised_with_ends = grind (arith, least, each)

@@ -188,16 +188,7 @@ module _ {shop : Shop} (limits : IsWithinLimits shop) {l : LayoutState} (laid : 
       module _ {e : ℕ} (end : e ≡ q.free machine + 1) where
         pub target_raised : IsRaised l (IsOnMachine l machine) e (at_in old) target
         target_raised = record {
-          rises = λ r. elim (cases_eq (get_or old r 0) 0) [
-            | inl z ↦ omega arith
-            | inr nz ↦ (let w = waits_at r (omega arith) in let o = w.0
-                in let a = are.waiting o.job o.step o.is w.1
-                in let b = target_at o.job o.step o.is w.1
-                in let c = heads_up shop p j q n o.job o.step w.1
-                in let d : get_or old (place l o.job o.step) 0 ≡ get_or old r 0 = ap (λ (x : ℕ). get_or old x 0) o.at
-                in let f : target (place l o.job o.step) ≡ target r = ap target o.at
-                in omega arith)
-          ];
+          rises = λ r. grind (arith, cases_eq, waits_at, target_at, heads_up);
           rests = target_none;
           order = λ i k two some.
               let op = operation_in i (k + 1) two
@@ -238,10 +229,7 @@ module _ {shop : Shop} (limits : IsWithinLimits shop) {l : LayoutState} (laid : 
               machines = laid.machines_at.positions ∙ sym (ap length heads ∙ are.positions);
               times = times;
               timed = laid.positions.times ∙ sym (ap length heads ∙ are.positions);
-              places = λ r some.
-                  let w = waits_at r (let a : get_or rows.heads r 0 ≡ get_or old r 0 =
-                  ap (λ (xs : List ℕ). get_or xs r 0) heads in omega arith)
-                  in is_place w.0.job w.0.step r w.0.is w.0.at;
+              places = λ r some. grind (arith, waits_at, is_place);
               order = subst (λ (xs : List ℕ). AreInRouteOrder l (at_in xs)) (sym heads) in_order;
               other = target;
               raised = of rows.heads heads;
@@ -264,33 +252,12 @@ module _ {shop : Shop} (limits : IsWithinLimits shop) {l : LayoutState} (laid : 
           -- a head is enough, where its step is ready no later
           free_enough : (i k : ℕ) → IsOperation shop i k → q.steps i ≤ k
               → q.free (machine_of shop i k) + 1 ≤ new (place l i k)
-          free_enough i k op opened =
-              let w = are.waiting i k op opened
-              in let rises = up.rises (place l i k)
-              in let m = machine_of shop i k
-              in elim (cases_eq m machine) [
-                | inl f ↦ (let at = place_of shop limits l laid i k op
-                    in let low : first_position l m ≡ first_position l machine = ap (first_position l) f
-                    in let high : first_position l (m + 1) ≡ first_position l (machine + 1) = ap
-                    (λ (x : ℕ). first_position l (x + 1)) f
-                    in let a = at.from in let b = at.to
-                    in let c = up.reach (place l i k) (omega arith, omega arith) (omega arith)
-                    in let same : q.free m ≡ q.free machine = ap q.free f
-                    in omega arith)
-                | inr ne ↦ (let a = n.free_other m ne in omega arith)
-              ]
+          free_enough i k op opened = grind (arith, cases_eq, place_of)
 
           -- step by step from the first that isn't placed
           ready_enough : (i d k : ℕ) → q.steps i + d ≡ k → IsOperation shop i k
               → ready_after shop q i (k - q.steps i) + 1 ≤ new (place l i k)
-          ready_enough i zero k is op =
-              let w = are.waiting i k op (omega arith)
-              in let rises = up.rises (place l i k)
-              in let first = ready_first shop q i k (omega arith)
-              in let a = ready_first_same shop p j q n i
-              in let f : q.steps i - p.steps i ≡ k - p.steps i = omega arith
-              in let g = ap (ready_after shop p i) f
-              in omega arith
+          ready_enough i zero k is op = grind (arith, ready_first, ready_first_same)
           ready_enough i (suc d) k is op =
               let b = q.steps i + d
               in let f : k ≡ b + 1 = omega arith

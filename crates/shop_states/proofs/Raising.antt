@@ -51,9 +51,7 @@ module _ (from to : ℕ) where
   kept_of : (head tail : ℕ) → (head < from) ⊎ (to < head) → {xs vs : List Triple} → IsRaisedPart from to xs vs
       → AllByRecursion (λ v. (head ≤ v.head) × (tail ≤ v.tail)) vs → IsKept head tail xs vs
   kept_of head tail out done a = record { kept = []; sub = none; all = tt; times = refl; long = refl }
-  kept_of head tail out (less x p) a =
-      let r = kept_of head tail out p a
-      in record { kept = r.kept; sub = skip x r.sub; all = r.all; times = r.times; long = r.long }
+  kept_of head tail out (less x p) a = grind (arith, skip, kept_of head tail out p a)
   kept_of head tail out (more {xs = xs} {ys = vs} x v e p) a =
       let r = kept_of head tail out p a.1
       in let same_time = e.time
@@ -143,16 +141,7 @@ none_passes f test [] h = refl
 none_passes f test (x ∷ xs) h = rw (h x) (none_passes f test xs h)
 
 pub one_between-none : (from to : ℕ) (ts : List Triple) → to < from → one_between from to ts ≡ 0
-one_between-none from to ts h = none_passes span_of (begins_between from to) (sublists ts) (λ ys. fails ys) where
-  fails : (ys : List Triple) → begins_between from to ys ≡ false
-  fails ys = elim (cases_Bool (leb from (least_of (λ t. t.head) ys))) [
-    | inl e ↦ elim (cases_Bool (leb (least_of (λ t. t.head) ys) to)) [
-      | inl f ↦ absurd (let a = leb-true from (least_of (λ (t : Triple). t.head) ys) e
-          in let b = leb-true (least_of (λ (t : Triple). t.head) ys) to f in omega arith)
-      | inr f ↦ rw (e, f) refl
-    ]
-    | inr e ↦ rw e refl
-  ]
+one_between-none from to ts h = grind (arith, none_passes, cases_Bool, leb-true)
 
 -- a slot before and after: what is left was left, with a head raised so
 pub record IsSlotRaised (from to : ℕ) (shop : Shop) (p q : Placing) (s : Slot) : Type 0 where

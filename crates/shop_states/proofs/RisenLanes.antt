@@ -31,12 +31,9 @@ span_beside b a (beside {xs} {ys} x y r rest) c e le =
       | inl off ↦ (let s = span_left a c y ys off
           in elim (cases_lt x.head b) [
             | inl out ↦ (let t = span_left b e x xs out in let u = span_beside b a rest c e le in omega arith)
-            | inr among ↦ (let t = span_served b e x xs among
-                in let u = span_beside b a rest c (e + x.time) (omega arith) in omega arith)
+            | inr among ↦ grind (arith, span_served, span_beside b a rest c (e + x.time) (omega arith))
           ])
-      | inr on ↦ (let s = span_served a c y ys on
-          in let t = span_served b e x xs (r.counts on)
-          in let u = span_beside b a rest (c + y.time) (e + x.time) (omega arith) in omega arith)
+      | inr on ↦ grind (arith, span_served, span_beside b a rest (c + y.time) (e + x.time) (omega arith))
     ]
 
 -- no span of lanes is above u, from whatever moment up to `top` on
@@ -60,13 +57,7 @@ IsRisenLane from to floor = IsLaneBeside (IsRisen from to floor)
 -- of fewer lanes no more
 spans_fewer : (above upto : ℕ) (all : List Lane) (x : Lane) (xs : List Lane)
     → spans_from above upto all xs ≤ spans_from above upto all (x ∷ xs)
-spans_fewer above upto all x xs = elim (cases_lt above x.head) [
-  | inl low ↦ elim (cases_lt upto x.head) [
-    | inl past ↦ (let a = spans_high above upto all x xs past in omega arith)
-    | inr high ↦ (let a = spans_counted above upto all x xs low high in omega arith)
-  ]
-  | inr none ↦ (let a = spans_low above upto all x xs none in omega arith)
-]
+spans_fewer above upto all x xs = grind (arith, cases_lt, spans_high, spans_counted, spans_low)
 
 module _ (top u from to floor : ℕ) (xs : List Lane) (before : AreUpTo top u xs) where
   -- outside of the raise, and above the floor
@@ -97,16 +88,7 @@ module _ (top u from to floor : ℕ) (xs : List Lane) (before : AreUpTo top u xs
       (lowest : (h : ℕ) → 0 < h → h ≤ floor → span h h ys ≤ b) where
     span_risen : (z : Lane) (zs : List Lane) → spans_from from to ys (z ∷ zs) ≤ b → 0 < z.head → z.head ≤ top
         → span z.head z.head ys ≤ b
-    span_risen z zs inside some high = elim (cases_lt floor z.head) [
-      | inl above ↦ elim (cases_lt from z.head) [
-        | inl low ↦ elim (cases_lt to z.head) [
-          | inl past ↦ (let a = span_outside ys are z.head above high (inr past) in omega arith)
-          | inr within ↦ (let a = spans_counted from to ys z zs low within in omega arith)
-        ]
-        | inr out ↦ (let a = span_outside ys are z.head above high (inl out) in omega arith)
-      ]
-      | inr below ↦ lowest z.head some below
-    ]
+    span_risen z zs inside some high = grind (arith, cases_lt, span_outside, spans_counted)
 
     spans_risen_of : (zs : List Lane) → spans_from from to ys zs ≤ b → spans_from 0 top ys zs ≤ b
     spans_risen_of [] inside = omega arith
@@ -114,11 +96,7 @@ module _ (top u from to floor : ℕ) (xs : List Lane) (before : AreUpTo top u xs
         let fewer = spans_fewer from to ys z zs
         in let rest = spans_risen_of zs (omega arith)
         in elim (cases_lt 0 z.head) [
-          | inl some ↦ elim (cases_lt top z.head) [
-            | inl past ↦ (let a = spans_high 0 top ys z zs past in omega arith)
-            | inr high ↦ (let a = spans_counted 0 top ys z zs some high
-                in let c = span_risen z zs inside some high in omega arith)
-          ]
+          | inl some ↦ grind (arith, cases_lt, spans_high, spans_counted, span_risen)
           | inr none ↦ (let a = spans_low 0 top ys z zs none in omega arith)
         ]
 

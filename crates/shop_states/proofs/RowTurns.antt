@@ -1,5 +1,5 @@
 -- What one step of a walk along a route finds.
-use Rattle.std.proofs.Common.{◌≡◌, ℕ, ◌+◌, ◌-◌, ◌≤◌, ◌<◌, max, length, get_or, ◌∙◌, ap, arith}
+use Rattle.std.proofs.Common.{◌≡◌, ℕ, ◌+◌, ◌-◌, ◌≤◌, ◌<◌, max, length, get_or, arith}
 use Rattle.shop_model.specs.Limits.{IsWithinLimits}
 use Rattle.shop_model.specs.Shop.{Shop, machine_of, time_of}
 use Rattle.shop_model.specs.Word.{Placing}
@@ -15,11 +15,4 @@ pub open_turn : (shop : Shop) → IsWithinLimits shop → (s : PlacementState) (
     → head ≡ max ready (get_or s.free m 0)
     → (p : Placing) → IsPlacement shop p s → (head ≡ head_of shop p j k)
     × (head + t ≡ ready_after shop p j (k + 1 - p.steps j))
-open_turn shop limits s j job k ready head {m} {t} on for known opened is_head p is =
-    let a = is.steps j job
-    in let free : get_or s.free m 0 ≡ p.free (machine_of shop j k) =
-    ap (λ (i : ℕ). get_or s.free i 0) on ∙ is.free (machine_of shop j k) (limits.on_machines j k)
-    in let d = known p is
-    in let here : head ≡ head_of shop p j k = omega arith
-    in let more = ready_more shop p j k (omega arith)
-    in (here, omega arith)
+open_turn shop limits s j job k ready head {m} {t} on for known opened is_head p is = grind (arith, ready_more)

@@ -15,7 +15,7 @@ use Rattle.shop_bound.specs.Bound.{lb}
 use Rattle.shop_bound.specs.Heads.{head_of}
 use Rattle.shop_layout.specs.Lanes.{lanes_on}
 use Rattle.shop_states.specs.inner.LaneHeads.{AreHeadsAt, AreStored}
-use Rattle.shop_layout.specs.Positions.{AreMachinesOf, LayoutState, IsLaidOut, place, first_position}
+use Rattle.shop_layout.specs.Positions.{AreMachinesOf, LayoutState, IsLaidOut, first_position}
 use Rattle.shop_states.specs.inner.Watchers.{IsSeenAt, floor_on}
 use Rattle.shop_states.specs.inner.HeadRaises.{Raise}
 use Rattle.shop_states.proofs.ChildBounds.{left-le-lb}
@@ -72,10 +72,7 @@ blocks_beside R first end hs hs' ts qs a b c within each =
         → length ts ≡ length ks → length qs ≡ length ks
         → lanes (by_columns (end - first) (blocks first end ks)) (by_columns (end - first) (blocks first end ts))
         (by_columns (end - first) (blocks first end qs)) ≡ lanes_of ks ts qs first end
-    by_both ks lk lt lq et eq =
-        lanes-by_columns (end - first) (blocks first end ks) (blocks first end ts) (blocks first end qs) lk
-        (lt ∙ sym lk) (lq ∙ sym lk)
-        ∙ ap (λ (xs : List Lane). by_columns (end - first) xs) (lanes-blocks ks ts qs first end et eq)
+    by_both ks lk lt lq et eq = grind (arith, lanes-by_columns, lanes-blocks)
 
 -- no span of a machine is above the bound of the word
 pub word_spans : {shop : Shop} → (limits : IsWithinLimits shop) → {l : LayoutState} → (laid : IsLaidOut shop l)
@@ -105,31 +102,13 @@ module _ {shop : Shop} (limits : IsWithinLimits shop) {l : LayoutState} (laid : 
     (new : AreHeadsAt shop (place_next shop (placing shop w) j) l now) where
   -- what waits now waited before
   waited : (q : ℕ) → 0 < get_or now q 0 → 0 < get_or was q 0
-  waited q some = elim (each_position shop limits l laid q) [
-    | inl o ↦ (let p = placing shop w
-        in let rise = steps_rise shop p j (place_next shop p j) (place_next-is shop p j) o.job
-        in let a : get_or was (place l o.job o.step) 0 ≡ get_or was q 0 = ap (λ (x : ℕ). get_or was x 0) o.at
-        in let b : get_or now (place l o.job o.step) 0 ≡ get_or now q 0 = ap (λ (x : ℕ). get_or now x 0) o.at
-        in elim (cases_lt o.step ((place_next shop p j).steps o.job)) [
-          | inl before ↦ (let c = new.placed o.job o.step o.is before in absurd (omega arith))
-          | inr opened ↦ (let c = old.waiting o.job o.step o.is (omega arith) in omega arith)
-        ])
-    | inr free ↦ (let c = new.padding q free in absurd (omega arith))
-  ]
+  waited q some = grind (arith, each_position, steps_rise, place_next-is, cases_lt)
 
   -- from the end on, all that waits now waited before, the operation aside
   module _ {left : List ℕ}
       (stored : AreStored shop (place_next shop (placing shop w) j).steps (head_of shop (placing shop w)) l left) where
     waited_left : (q : ℕ) → 0 < get_or now q 0 → 0 < get_or left q 0
-    waited_left q some = elim (each_position shop limits l laid q) [
-      | inl o ↦ (let b : get_or now (place l o.job o.step) 0 ≡ get_or now q 0 = ap (λ (x : ℕ). get_or now x 0) o.at
-          in let a : get_or left (place l o.job o.step) 0 ≡ get_or left q 0 = ap (λ (x : ℕ). get_or left x 0) o.at
-          in elim (cases_lt o.step ((place_next shop (placing shop w) j).steps o.job)) [
-            | inl before ↦ (let c = new.placed o.job o.step o.is before in absurd (omega arith))
-            | inr opened ↦ (let c = stored.waiting o.job o.step o.is opened in omega arith)
-          ])
-      | inr free ↦ (let c = new.padding q free in absurd (omega arith))
-    ]
+    waited_left q some = grind (arith, each_position, cases_lt)
 
     pub span_ahead : (top m h end : ℕ) → ((q : ℕ) → get_or now q 0 ≤ top) → 0 < h → h ≤ end
         → 8 * get_or l.blocks (m + 1) 0 ≤ length left
@@ -171,19 +150,7 @@ module _ {shop : Shop} (limits : IsWithinLimits shop) {l : LayoutState} (laid : 
         (ahead : m ≡ own → (h : ℕ) → 0 < h → h ≤ end → span h h (lanes_on rows' l m) ≤ least + 1) where
       beside : (floor : ℕ) → floor_on own end m ≤ floor
           → AreBeside (IsRisenLane raise.from raise.to floor) (lanes_on rows l m) (lanes_on rows' l m)
-      beside floor foreseen =
-          let a = blocks_beside (IsRisen raise.from raise.to floor)
-          (get_or l.blocks m 0) (get_or l.blocks (m + 1) 0) was now l.times l.tails
-          (laid.positions.times ∙ sym old.positions) (laid.positions.tails ∙ sym old.positions)
-          (new.positions ∙ sym old.positions) within (risen floor foreseen)
-          in subst (λ (xs : List Lane). AreBeside IsRisenHere xs (lanes_on rows' l m))
-          (lanes_are l rows was heads times tails m)
-          (subst (AreBeside IsRisenHere (lanes_of was l.times l.tails
-          (get_or l.blocks m 0) (get_or l.blocks (m + 1) 0)))
-          (lanes_are l rows' now heads' times' tails' m) a)
-        where
-          IsRisenHere : Lane → Lane → Type 0
-          IsRisenHere = IsRisenLane raise.from raise.to floor
+      beside floor foreseen = grind (arith, blocks_beside, risen, lanes_are)
 
       -- no span before was above the bound before
       spans_before : AreUpTo top (lb shop w + 1) (lanes_on rows l m)

@@ -33,35 +33,8 @@ record IsLeastOf (f : ℕ → ℕ) (js : List ℕ) (c : ℕ) : Type 0 where
   least : (i : ℕ) → IsIn js i → f c ≤ f i
 
 best_is_least : (f : ℕ → ℕ) (j : ℕ) (js : List ℕ) → IsLeastOf f (j ∷ js) (best_of (λ i b. ltb (f i) (f b)) j js)
-best_is_least f j [] = record {
-  member = inl refl;
-  least = λ i h. elim h [
-    | inl e ↦ (let a = ap f e in omega arith)
-    | inr g ↦ absurd g
-  ];
-}
-best_is_least f j (x ∷ xs) = elim (cases_lt (f x) (f j)) [
-  | inl lt ↦ rw (lt-ltb (f x) (f j) lt) (let r = best_is_least f x xs
-      in let here = r.least x (inl refl) in record {
-        member = inr r.member;
-        least = λ i h. elim h [
-          | inl e ↦ (let a = ap f e in omega arith)
-          | inr g ↦ r.least i g
-        ];
-      })
-  | inr ge ↦ rw (le-ltb (f x) (f j) ge) (let r = best_is_least f j xs
-      in let here = r.least j (inl refl) in record {
-        member = elim r.member [
-          | inl e ↦ inl e
-          | inr g ↦ inr (inr g)
-        ];
-        least = λ i h. elim h [
-          | inl e ↦ r.least i (inl e)
-          | inr (inl e) ↦ (let a = ap f e in omega arith)
-          | inr (inr g) ↦ r.least i (inr g)
-        ];
-      })
-]
+best_is_least f j [] = grind arith
+best_is_least f j (x ∷ xs) = grind (arith, cases_lt, lt-ltb, le-ltb, best_is_least f x xs, best_is_least f j xs)
 
 -- Job j is in conflict with no other: its next operation ends first, and no other one can begin on its machine before.
 record IsSole (shop : Shop) (p : Placing) (j : ℕ) : Type 0 where
@@ -99,11 +72,7 @@ module _ (shop : Shop) (p : Placing) where
 
   -- later steps of a job are ready at the end of its next one or later
   later_ready : (i d l : ℕ) → p.steps i + 1 + d ≡ l → next_end shop p i ≤ ready_after shop p i (l - p.steps i)
-  later_ready i zero l e =
-      let more = ready_more shop p i (p.steps i) (omega arith)
-      in let head = head_first shop p i
-      in let f : p.steps i + 1 ≡ l = omega arith
-      in let same = ap (λ (x : ℕ). ready_after shop p i (x - p.steps i)) f in omega arith
+  later_ready i zero l e = grind (arith, ready_more, head_first)
   later_ready i (suc d) l e =
       let k = p.steps i + 1 + d
       in let before = later_ready i d k refl
@@ -135,8 +104,7 @@ module _ (shop : Shop) (p : Placing) where
     its_end = let a = n.free_here (next_machine shop p j) refl in let b = n.begins_here in omega arith
 
     heads_stay : (i k : ℕ) → IsOperation shop i k → q.steps i ≤ k → head_of shop q i k ≡ head_of shop p i k
-    heads_stay i k op opened = head_stays shop p j q n i k opened (λ l below left on.
-        let a = heads_late i l (omega arith) left on in let b = its_end in inl (omega arith))
+    heads_stay i k op opened = grind (arith, head_stays, heads_late, its_end)
 
 pub sole_keeps_bound : (shop : Shop) → IsWithinLimits shop → (slots : List (List Slot)) → AreMachineSlots shop slots
     → (w : List ℕ) → IsWord shop w → SoleCandidateKeepsBound shop w

@@ -1,6 +1,6 @@
 -- What is kept of a word, with one operation more.
 use Rattle.std.proofs.Common.{◌≡◌, ℕ, ◌+◌, ◌<◌, inl, inr, List, [], ◌∷◌, ◌++◌, length, get_or, set}
-use Rattle.std.proofs.Common.{refl, sym, ◌∙◌, ap, subst, arith}
+use Rattle.std.proofs.Common.{refl, sym, ◌∙◌, ap, arith}
 use Rattle.std.proofs.lemmas.Bool.{cases_eq}
 use Rattle.std.proofs.lemmas.Grind.{get_or-set_at}
 use Rattle.std.proofs.lemmas.List.{get_or-set_other, length-set}
@@ -63,13 +63,7 @@ module _ {greatest : ℕ} {shop : Shop} {w : List ℕ} (j : ℕ) {l : LayoutStat
           ∙ next.steps_here)))
           in record {
             jobs = ap length wrote ∙ (length-set nexts j q ∙ kept.are_next.jobs);
-            are = λ i known. ap (λ (xs : List ℕ). get_or xs i 0) wrote ∙ elim (cases_eq i j) [
-              | inl e ↦ subst (λ (y : ℕ). get_or (set nexts j q) y 0
-                  ≡ place_or n l.places y ((placing shop (w ++ j ∷ [])).steps y)) (sym e) here
-              | inr ne ↦ get_or-set_other nexts j i q 0 ne
-                  ∙ (kept.are_next.are i known ∙ ap (place_or n l.places i) (sym (
-                  ap (λ (p : Placing). p.steps i) placed ∙ next.steps_other i ne)))
-            ];
+            are = λ i known. grind (arith, cases_eq, get_or-set_other);
           }
 
       -- in the heads of the word with the operation, with the ends of other jobs
@@ -102,8 +96,7 @@ module _ {greatest : ℕ} {shop : Shop} {w : List ℕ} (j : ℕ) {l : LayoutStat
 
           ends_set : AreEndsOf greatest after ended
           ends_set i known = elim (cases_eq i j) [
-            | inl e ↦ subst (IsEndOf greatest after ended) (sym e)
-                (end_here ends_more same job_more set_end)
+            | inl e ↦ grind (arith, end_here, ends_more, same, job_more)
             | inr ne ↦ (
                 let before : i < length nexts = (let a = ap length wrote in omega (arith, length-set nexts j q))
                 in let was = ends_of kept.kept kept.are_next kept.ends.jobs kept.ends i before

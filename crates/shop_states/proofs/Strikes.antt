@@ -1,11 +1,11 @@
 -- The one candidate of a word is dispatched: it is struck out, and no head rises.
-use Rattle.std.proofs.Common.{◌≡◌, ℕ, ◌<◌, inl, inr, List, [], ◌∷◌, ◌++◌, length, get_or, set, refl}
+use Rattle.std.proofs.Common.{◌≡◌, ℕ, ◌<◌, List, [], ◌∷◌, ◌++◌, length, get_or, set, refl}
 use Rattle.std.proofs.Common.{sym, ◌∙◌, ap, subst, arith}
 use Rattle.std.proofs.lemmas.Bool.{cases_lt, le-ltb, lt-ltb}
 use Rattle.std.proofs.lemmas.List.{get_or-set_other, length-set}
 use Rattle.shop_lanes.specs.Rows.{Rows, with_end, with_head}
 use Rattle.shop_model.specs.Shop.{Shop}
-use Rattle.shop_model.specs.Word.{Placing, IsWord, placing, place_next}
+use Rattle.shop_model.specs.Word.{IsWord, placing, place_next}
 use Rattle.shop_model.proofs.Unders.{placing-snoc}
 use Rattle.shop_bound.specs.Conflicts.{conflict}
 use Rattle.shop_states.specs.inner.LaneEnds.{CanKeepEnds, IsEndOf, end_at}
@@ -31,10 +31,7 @@ module _ {greatest : ℕ} {shop : Shop} {w : List ℕ} {l : LayoutState} {rows :
   its_position = within j kept fits refl
 
   pub lists_long : (length l.times ≡ length rows.heads) × (length l.following ≡ length rows.heads)
-  lists_long = (
-    kept.kept.laid.positions.times ∙ sym kept.kept.heads.positions,
-    kept.kept.laid.positions.following ∙ sym kept.kept.heads.positions,
-  )
+  lists_long = grind arith
 
   module _ {lifted : Rows} (wrote : lifted ≡ with_head rows (get_or nexts j 0) 0) where
     its_place : get_or nexts j 0 ≡ place l j ((placing shop w).steps j)
@@ -58,29 +55,11 @@ module _ {greatest : ℕ} {shop : Shop} {w : List ℕ} {l : LayoutState} {rows :
         })
 
     now : AreHeadsInLanes greatest shop (w ++ j ∷ []) l lifted
-    now = record {
-      limits = kept.kept.limits;
-      word = fits;
-      laid = kept.kept.laid;
-      times = ap (λ (r : Rows). r.times) wrote ∙ kept.kept.times;
-      tails = ap (λ (r : Rows). r.tails) wrote ∙ kept.kept.tails;
-      fits = kept.kept.fits;
-      computable = kept.kept.computable;
-      heads = subst (λ (p : Placing). AreHeadsAt shop p l lifted.heads) (sym (placing-snoc shop w j)) now_heads;
-    }
+    now = grind (arith, fits, heads, placing-snoc, now_heads)
 
     others : (i : ℕ) → i < length nexts → (get_or nexts i 0 ≡ x → ⊥) → IsEndOf greatest nexts rows i
         → IsEndOf greatest nexts lifted i
-    others i known ne was =
-        let q = get_or nexts i 0
-        in let head : get_or lifted.heads q 0 ≡ get_or rows.heads q 0 =
-        ap (λ (r : Rows). get_or r.heads q 0) wrote ∙ get_or-set_other rows.heads x q 0 0 ne
-        in let time : get_or lifted.times q 0 ≡ get_or rows.times q 0 = ap (λ (r : Rows). get_or r.times q 0) wrote
-        in let same = long
-        in ap (λ (r : Rows). get_or r.ends i 0) wrote ∙ (was ∙ (elim (cases_lt q (length rows.heads)) [
-          | inl lt ↦ rw (lt-ltb q (length rows.heads) lt, lt-ltb q (length lifted.heads) (omega arith)) (omega arith)
-          | inr ge ↦ rw (le-ltb q (length rows.heads) ge, le-ltb q (length lifted.heads) (omega arith)) refl
-        ]))
+    others i known ne was = grind (arith, get_or-set_other, long, cases_lt, lt-ltb, le-ltb)
 
     ends_long : length lifted.ends ≡ length rows.ends
     ends_long = ap (λ (r : Rows). length r.ends) wrote

@@ -29,16 +29,8 @@ module _ (floors : ℕ → ℕ) (ms : List ℕ) where
   pub seen_first : (old new : List ℕ) (raises : List Raise) (p end : ℕ) → new ≡ set old p end → p < length old
       → (was : List ℕ) → IsSeenAt (raise_of raises (get_or ms p 0)) (floors (get_or ms p 0)) (get_or was p 0) end
       → AreSeen floors ms raises was old → AreSeen floors ms raises was new
-  seen_first old new raises p end wrote within was here so q = elim (cases_eq q p) [
-    | inl e ↦ (let now : get_or new q 0 ≡ end =
-        ap (λ (xs : List ℕ). get_or xs q 0) wrote ∙ get_or-set_at old p q end 0 e within
-        in let at : IsSeenAt (raise_of raises (get_or ms q 0)) (floors (get_or ms q 0)) (get_or was q 0) end =
-        subst (λ (x : ℕ). IsSeenAt (raise_of raises (get_or ms x 0)) (floors (get_or ms x 0)) (get_or was x 0) end)
-        (sym e) here
-        in seen_same _ _ _ end (get_or new q 0) now at)
-    | inr ne ↦ seen_same _ _ _ (get_or old q 0) (get_or new q 0)
-        (ap (λ (xs : List ℕ). get_or xs q 0) wrote ∙ get_or-set_other old p q end 0 ne) (so q)
-  ]
+  seen_first old new raises p end wrote within was here so q =
+      grind (arith, cases_eq, get_or-set_at, seen_same, get_or-set_other)
 
   -- what follows is added to the raise of its machine
   pub watch_next : (old new : List ℕ) (before after : List Raise) (p v h m : ℕ) → new ≡ set old p v

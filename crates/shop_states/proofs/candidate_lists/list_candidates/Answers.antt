@@ -42,7 +42,4 @@ returns-then-position-positions-clause-are g c = λ shop w kept.
     c.clear.new.self.items c.clear.ensures.items
 
 pub list_on_machine-requires-clause-small : goal.list_on_machine-requires-clause-small
-list_on_machine-requires-clause-small g c =
-    let kept = c.requires.can.kept.kept
-    in let heads = kept.heads.positions in let following = kept.laid.positions.following
-    in let small = c.positions.type_inv in let are = c.positions.ensures in omega arith
+list_on_machine-requires-clause-small g c = grind arith

@@ -56,8 +56,4 @@ loop-job-preserved g c =
     )
 
 pub returns-clause-listed : goal.returns-clause-listed
-returns-clause-listed g c =
-    let own : ℕ → ℕ = told_at c.args.next.now c.args.first (map g.L.StateLanes.value c.args.owns.now)
-    in let now = c.loop-job.invariant.1
-    in λ js n list. ended c.args.limit own js c.loop-job.invariant.0 c.loop-job.left c.args.jobs
-    c.loop-job.candidates.items (n + c.loop-job.others) now.all (c.in_default.ensures.0) (now.listed js n list)
+returns-clause-listed g c = grind (arith, ended)

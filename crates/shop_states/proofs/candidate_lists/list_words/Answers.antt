@@ -1,4 +1,4 @@
-use Rattle.std.proofs.Common.{ℕ, List, [], ◌++◌, length, map, refl, sym, ◌∙◌, ap, subst, arith}
+use Rattle.std.proofs.Common.{ℕ, List, [], length, map, refl, sym, ap, subst, arith}
 use Rattle.std.proofs.lemmas.List.{length-append}
 use Rattle.shop_states.specs.inner.Candidates.{ListsOwn, empty, told_at}
 use Rattle.shop_states.specs.inner.RisingLists.{IsIn}
@@ -49,29 +49,7 @@ overflow_add-others g c =
     in omega arith
 
 pub loop-word-preserved : goal.loop-word-preserved
-loop-word-preserved g c =
-    let own : ℕ → ℕ = told_at c.args.next.now c.args.first (map g.L.StateLanes.value c.args.owns.now)
-    in let test = c.loop-word-test.true
-    in let now = c.loop-word.invariant.1
-    in let done = c.loop-word.invariant.0
-    in let jobs = c.new-jobs.result
-    in let longer = length-append done jobs
-    in let before = now.count
-    in let more = c.list_marked-others.ensures.count
-    in (
-      done ++ jobs,
-      record {
-        all = word_more c.args.words.now c.loop-word.word done jobs (omega arith) c.new-jobs.ensures now.all;
-        listed = c.list_marked-others.ensures.listed done c.loop-word.others now.listed;
-        count = omega arith;
-        capacity = c.list_marked-others.ensures.room ∙ now.capacity;
-      },
-    )
+loop-word-preserved g c = grind (arith, length-append, word_more)
 
 pub returns-clause-listed : goal.returns-clause-listed
-returns-clause-listed g c =
-    let own : ℕ → ℕ = told_at c.args.next.now c.args.first (map g.L.StateLanes.value c.args.owns.now)
-    in let test = c.loop-word-test.false
-    in subst (λ (js : List ℕ). ListsOwn c.args.limit own js c.loop-word.candidates.items c.loop-word.others)
-    (all_words c.args.words.now c.loop-word.word c.loop-word.invariant.0 (omega arith) c.loop-word.invariant.1.all)
-    c.loop-word.invariant.1.listed
+returns-clause-listed g c = grind (arith, all_words)

@@ -37,12 +37,7 @@ overflow_add-head g c =
     in let computable = c.requires.fill.computable in omega arith
 
 pub set_head-requires-clause-in_range : goal.set_head-requires-clause-in_range
-set_head-requires-clause-in_range g c = leg_position_known c.requires.fill c.requires.of.known
-    (c.loop-routes.invariant.filling
-    c.requires.of.job c.requires.of.known c.requires.of.some.placement c.requires.of.some.at)
-    (c.routes-routes.ensures ∙ c.grid-grid.ensures.grid) c.leg-leg.ensures
-    (c.positions-end.ensures ∙ ap (λ (l : LayoutState). length l.following) (sym c.routes-routes.ensures))
-    c.if-position-end.false
+set_head-requires-clause-in_range g c = grind (arith, leg_position_known)
 
 pub set_head-requires-clause-fits : goal.set_head-requires-clause-fits
 set_head-requires-clause-fits g c = (leg_fits c.requires.fill c.requires.of.known (c.loop-routes.invariant.filling

@@ -16,13 +16,7 @@ take_raise-raise-requires g c =
     in omega arith
 
 pub blocks_of-from-requires : goal.blocks_of-from-requires
-blocks_of-from-requires g c =
-    let left = c.loop-machine.invariant.found.left
-    in record {
-      even = c.blocks_each-each.ensures;
-      small = its_small c.requires.can left c.in-Some.ensures;
-      known = its_blocks c.requires.can left c.in-Some.ensures;
-    }
+blocks_of-from-requires g c = grind (arith, its_small, its_blocks)
 
 pub blocks-requires : goal.blocks-requires
 blocks-requires g c =
@@ -89,25 +83,13 @@ returns-clause-bounds g c =
     }
 
 pub offset_bounds-ceilings-machine : goal.offset_bounds-ceilings-machine
-offset_bounds-ceilings-machine g c =
-    let known = first_known c.loop-machine.invariant.found.left.are_listed c.in-Some.ensures
-    in let few = c.loop-machine.invariant.found.left.are_listed.few in omega arith
+offset_bounds-ceilings-machine g c = grind (arith, first_known)
 
 pub bounds-ceilings-machine : goal.bounds-ceilings-machine
-bounds-ceilings-machine g c =
-    let known = first_known c.loop-machine.invariant.found.left.are_listed c.in-Some.ensures
-    in let long = c.loop-machine.invariant.long in let same = c.loop-machine.invariant.found.left.long
-    in let many = length-map c.args.raises.now (raise_in g.L.StateLanes.value)
-    in let room = c.requires.room in omega arith
+bounds-ceilings-machine g c = grind (arith, first_known, length-map)
 
 pub offset_bounds-ceilings-machine-in-Some : goal.offset_bounds-ceilings-machine-in-Some
-offset_bounds-ceilings-machine-in-Some g c =
-    let known = first_known c.loop-machine.invariant.found.left.are_listed c.in-Some.ensures
-    in let few = c.loop-machine.invariant.found.left.are_listed.few in omega arith
+offset_bounds-ceilings-machine-in-Some g c = grind (arith, first_known)
 
 pub bounds-ceilings-machine-in-Some : goal.bounds-ceilings-machine-in-Some
-bounds-ceilings-machine-in-Some g c =
-    let known = first_known c.loop-machine.invariant.found.left.are_listed c.in-Some.ensures
-    in let long = c.loop-machine.invariant.long in let same = c.loop-machine.invariant.found.left.long
-    in let many = length-map c.args.raises.now (raise_in g.L.StateLanes.value)
-    in let room = c.requires.room in omega arith
+bounds-ceilings-machine-in-Some g c = grind (arith, first_known, length-map)

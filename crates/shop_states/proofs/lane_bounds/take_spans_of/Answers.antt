@@ -15,13 +15,7 @@ take_raise-raise-requires g c =
     in omega arith
 
 pub blocks_of-from-requires : goal.blocks_of-from-requires
-blocks_of-from-requires g c =
-    let left = c.loop-machine.invariant.left
-    in record {
-      even = c.requires.even;
-      small = its_small c.requires.can left c.in-Some.ensures;
-      known = its_blocks c.requires.can left c.in-Some.ensures;
-    }
+blocks_of-from-requires g c = grind (arith, its_small, its_blocks)
 
 pub blocks-requires : goal.blocks-requires
 blocks-requires g c =

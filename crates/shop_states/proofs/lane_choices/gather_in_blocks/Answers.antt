@@ -4,12 +4,7 @@ use Rattle.shop_states.proofs.LaneChoices.{gathered_below, have_all, marked_with
 use Rattle.shop_states.proofs.lane_choices.gather_in_blocks.Goals as goal
 
 pub loop-from-init : goal.loop-from-init
-loop-from-init g c = record {
-  ordered = omega arith;
-  within = c.requires.ordered;
-  gathered = none_gathered c.args.grid.now (g.L.StateLanes.heads c.args.lanes.now) c.args.limit c.args.first
-      c.args.jobs.now;
-}
+loop-from-init g c = grind (arith, none_gathered)
 
 pub gather_marked-requires : goal.gather_marked-requires
 gather_marked-requires g c =

@@ -1,5 +1,4 @@
-use Rattle.std.proofs.Common.{ℕ, subst, arith}
-use Rattle.shop_states.specs.inner.JobSets.{HasPut}
+use Rattle.std.proofs.Common.{arith}
 use Rattle.shop_states.proofs.LaneChoices.{gathering_begins, gathering_ends, gathering_on, popped_marked}
 use Rattle.shop_states.proofs.lane_choices.gather_marked.Goals as goal
 
@@ -11,15 +10,10 @@ job-requires g c =
     c.requires.known c.in-Some.position (popped_marked c.loop-position.invariant c.in-Some.ensures)
 
 pub put-requires : goal.put-requires
-put-requires g c =
-    let within = c.requires.known c.in-Some.position (popped_marked c.loop-position.invariant c.in-Some.ensures)
-    in let job = c.job.ensures in let below = c.requires.jobs.below c.in-Some.position within in omega arith
+put-requires g c = grind (arith, popped_marked)
 
 pub loop-position-preserved : goal.loop-position-preserved
-loop-position-preserved g c =
-    gathering_on c.loop-position.invariant c.in-Some.ensures
-    (subst (λ (j : ℕ). HasPut j c.loop-position.jobs c.put.new.self) c.job.ensures c.put.ensures)
+loop-position-preserved g c = grind (arith, gathering_on)
 
 pub returns : goal.returns
-returns g c =
-    gathering_ends c.loop-position.invariant c.in_default.ensures.0
+returns g c = grind (arith, gathering_ends)

@@ -5,13 +5,7 @@ use Rattle.shop_states.proofs.PlacedNexts.{begins_behind, begun_more}
 use Rattle.shop_states.proofs.placing.begin_jobs.Goals as goal
 
 pub overflow_cast-next_legs : goal.overflow_cast-next_legs
-overflow_cast-next_legs g c =
-    let known = c.loop-job-test.true in let jobs = c.requires.next
-    in let long = c.loop-job.invariant.begun.next_jobs
-    in let small = first_small c.grid-grid.ensures.ready.limits c.grid-grid.ensures.ready.laid c.loop-job.job
-    (omega arith)
-    in let first = c.loop-job.invariant.first_is
-    in omega arith
+overflow_cast-next_legs g c = grind (arith, first_small)
 
 pub overflow_add-first-in-loop-job : goal.overflow_add-first-in-loop-job
 overflow_add-first-in-loop-job g c =

@@ -1,6 +1,4 @@
-use Rattle.std.proofs.Common.{rules, arith, ◌≡◌, ◌+◌, ◌<◌, length, drop, ap}
-use Rattle.std.specs.Prelude.{slice_index_or}
-use Rattle.shop_runs.specs.inner.Stacks.{words_at, nodes_in_row}
+use Rattle.std.proofs.Common.{arith}
 use Rattle.shop_runs.proofs.BoundRowLemmas.{count_next}
 use Rattle.shop_runs.proofs.bound_rows.BoundRow.count.Goals as goal
 

@@ -1,6 +1,4 @@
-use Rattle.std.proofs.Common.{rules, arith, ◌≡◌, ◌+◌, ◌≤◌, take, [], ◌∙◌, ap}
-use Rattle.shop_nodes.specs.inner.HeldNodes.{nodes_below}
-use Rattle.shop_runs.specs.inner.Stacks.{nodes_in_row}
+use Rattle.std.proofs.Common.{arith}
 use Rattle.shop_runs.proofs.BoundRowLemmas.{lower_empty, cut_empty, kept_is}
 use Rattle.shop_runs.proofs.bound_rows.BoundRow.keep_below.Goals as goal
 

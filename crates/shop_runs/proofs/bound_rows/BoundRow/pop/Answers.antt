@@ -1,7 +1,5 @@
-use Rattle.std.proofs.Common.{rules, arith, ◌+◌, ◌≡◌, ◌∷◌, Some, ◌∙◌, ap, sym, subst}
-use Rattle.std.specs.Prelude.{slice_index_or, slice_set}
-use Rattle.shop_runs.specs.inner.BoundRows.{AreEmptyBelow, TakesTop}
-use Rattle.shop_runs.specs.inner.Stacks.{words_at, nodes_in_row}
+use Rattle.std.proofs.Common.{rules, arith}
+use Rattle.shop_runs.specs.inner.BoundRows.{AreEmptyBelow}
 use Rattle.shop_runs.proofs.BoundRowLemmas.{none_left, now_empty, still_empty, take_at}
 use Rattle.shop_runs.proofs.bound_rows.BoundRow.pop.Goals as goal
 

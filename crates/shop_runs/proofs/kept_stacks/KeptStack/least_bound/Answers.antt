@@ -1,5 +1,4 @@
-use Rattle.std.proofs.Common.{◌<◌, ◌∙◌, ap, arith}
-use Rattle.shop_runs.specs.inner.NodeLists.{least_of_bounds}
+use Rattle.std.proofs.Common.{arith}
 use Rattle.shop_runs.proofs.KeptLemmas.{top_tells}
 use Rattle.shop_runs.proofs.kept_stacks.KeptStack.least_bound.Goals as goal
 

@@ -1,7 +1,4 @@
-use Rattle.std.proofs.Common.{◌≡◌, ◌∷◌, [], ◌++◌, ◌∙◌, ap, sym, subst, min, arith, ◌<◌}
-use Rattle.shop_runs.specs.inner.NodeLists.{least_of_bounds}
-use Rattle.shop_runs.specs.inner.KeptStacks.{AreLeasts, least_in, nodes_from_top}
-use Rattle.shop_runs.specs.declared.kept_stacks.StackedNode.{StackedNode}
+use Rattle.std.proofs.Common.{arith}
 use Rattle.shop_runs.proofs.KeptLemmas.{least_from, leasts_with}
 use Rattle.shop_runs.proofs.kept_stacks.KeptStack.push.Goals as goal
 use Rattle.shop_runs.proofs.kept_stacks.KeptStack.push.Goals.{then-len-capacity+in_ok-reserve_exact, else-len-capacity}

@@ -1,9 +1,7 @@
-use Rattle.std.proofs.Common.{◌∙◌, ap, arith, sym, subst}
+use Rattle.std.proofs.Common.{◌∙◌, arith, sym, subst}
 use Rattle.std.proofs.lemmas.List.{take_all}
-use Rattle.shop_nodes.specs.Nodes.{AreNodes}
 use Rattle.shop_runs.specs.Laws.{IsRound, CoversInRound}
 use Rattle.shop_runs.specs.Plans.{planned}
-use Rattle.shop_runs.specs.Round.{Told}
 use Rattle.shop_runs.specs.Standings.{stands}
 use Rattle.shop_runs.specs.inner.Stores.{open_list}
 use Rattle.shop_runs.proofs.Answering.{with_rest}

@@ -1,7 +1,6 @@
-use Rattle.std.proofs.Common.{length, arith, refl, subst, sym, eqb-true}
+use Rattle.std.proofs.Common.{length, arith, refl, sym, eqb-true}
 use Rattle.shop_runs.specs.Plans.{planned}
 use Rattle.shop_runs.proofs.PieceLemmas.{some_open}
-use Rattle.shop_runs.specs.inner.Searches.{IsSearchAt}
 use Rattle.shop_runs.specs.inner.Stores.{open_list}
 use Rattle.shop_runs.proofs.Answering.{way_first, way_search, way_next, way_closed, way_last}
 use Rattle.shop_runs.proofs.runs.OpenRun.at_end.Goals as goal

@@ -1,6 +1,5 @@
-use Rattle.std.proofs.Common.{◌≡◌, ℕ, ◌≤◌, Global, Vec, [], ◌∷◌, ◌++◌, length, refl, sym, ◌∙◌, ap, subst, arith}
-use Rattle.shop_model.specs.Shop.{route_of}
-use Rattle.shop_model.specs.Word.{start_jobs, count_of}
+use Rattle.std.proofs.Common.{◌≡◌, Global, Vec, [], ◌∷◌, ◌++◌, refl, sym, ◌∙◌, ap, subst, arith}
+use Rattle.shop_model.specs.Word.{start_jobs}
 use Rattle.shop_bound.specs.Bound.{lb}
 use Rattle.shop_nodes.specs.declared.nodes.Node.{Node}
 use Rattle.shop_nodes.specs.Nodes.{words_of, AreNodes}

@@ -5,12 +5,7 @@ use Rattle.shop_states.proofs.LongerBeginnings.{gone_on}
 use Rattle.shop_states.proofs.beginnings.Beginning.go_on.Goals as goal
 
 pub write_front-requires : goal.write_front-requires
-write_front-requires g c =
-    let most = word_within c.args.laid_out.now.shop c.args.path.now c.requires.word
-    in let room = c.requires.is.room
-    in let long = ap length c.as_mut_slice-4.ensures.value
-    in let taken = length-take c.saturating_sub-to.result c.args.path.now
-    in omega arith
+write_front-requires g c = grind (arith, word_within, length-take)
 
 pub returns-clause-is : goal.returns-clause-is
 returns-clause-is g c =

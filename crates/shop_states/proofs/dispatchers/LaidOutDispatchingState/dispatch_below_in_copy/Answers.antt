@@ -1,6 +1,6 @@
 use Rattle.std.proofs.Common.{◌∙◌, arith, refl, sym}
 use Rattle.shop_states.proofs.CandidateDispatches.{candidate_can, candidate_kept, candidate_told}
-use Rattle.shop_states.proofs.AskedStates.{bound_there, kept_on_some, told_behind, word_there}
+use Rattle.shop_states.proofs.AskedStates.{bound_there, kept_on_some, told_behind}
 use Rattle.shop_states.proofs.ReadStates.{kept_copied, kept_read}
 use Rattle.shop_states.proofs.dispatchers.LaidOutDispatchingState.dispatch_below_in_copy.Goals as goal
 

@@ -1,7 +1,7 @@
 use Rattle.std.proofs.Common.{ℕ, List, refl, subst, sym}
 use Rattle.shop_states.specs.inner.Ceilings.{AreChildCeilings}
 use Rattle.shop_states.proofs.CandidateDispatches.{candidate_can, candidate_kept, candidate_told}
-use Rattle.shop_states.proofs.AskedStates.{bound_there, kept_on_some, told_behind, word_there}
+use Rattle.shop_states.proofs.AskedStates.{bound_there, kept_on_some, told_behind}
 use Rattle.shop_states.proofs.ReadStates.{kept_read}
 use Rattle.shop_states.proofs.dispatchers.LaidOutDispatchingState.dispatch_child_below.Goals as goal
 

@@ -1,8 +1,6 @@
-use Rattle.std.proofs.Common.{ℕ, List, ◌+◌, ◌∙◌, ap, arith, get_or, length, sym}
+use Rattle.std.proofs.Common.{ℕ, List, ◌∙◌, ap, arith, get_or, length}
 use Rattle.shop_lanes.proofs.Unmarking.{positions_among-set}
-use Rattle.shop_lanes.specs.Marks.{without}
 use Rattle.shop_layout.specs.Positions.{LayoutState}
-use Rattle.shop_states.specs.inner.Dispatches.{marked_up_to}
 use Rattle.shop_states.proofs.Trials.{its_blocks, its_end, its_job, its_position}
 use Rattle.shop_states.proofs.dispatches.Dispatch.of.Goals as goal
 
@@ -59,17 +57,4 @@ overflow_add-end g c =
     in omega arith
 
 pub returns-clause-is : goal.returns-clause-is
-returns-clause-is g c =
-    let x = get_or c.as_slice-next.result.now c.args.job 0
-    in let heads = g.L.StateLanes.heads c.args.state.now.lanes
-    in let l = c.args.grid.now in let m = c.machine-machine.result
-    in let time = ap (λ (r : LayoutState). get_or r.times x 0) c.routes-routes.ensures
-    in let head = c.head.ensures in let its = c.time.ensures
-    in record {
-      position_is = ap (λ (ns : List ℕ). get_or ns c.args.job 0) c.as_slice-next.ensures.value;
-      machine_is = c.machine-machine.ensures ∙ ap (λ (r : LayoutState). get_or r.machines x 0) c.routes-routes.ensures;
-      end_is = omega arith;
-      delayed_are = c.unmark.ensures ∙ (ap (without x) c.mark_below-delayed.ensures
-          ∙ sym (positions_among-set heads (get_or l.blocks m 0) (marked_up_to l m) (c.head.result + c.time.result)
-          x));
-    }
+returns-clause-is g c = grind (arith, positions_among-set)

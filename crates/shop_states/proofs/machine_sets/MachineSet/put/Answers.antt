@@ -8,11 +8,7 @@ use Rattle.shop_states.proofs.machine_sets.MachineSet.put.Goals as goal
 
 pub invariant_of-self : goal.invariant_of-self
 invariant_of-self c =
-    let low : c.args.machine < 64 = elim c.then-are_few.branch [
-      | then-are_few-via-then-are_few w ↦ c.requires.few w.if-are_few.true
-      | then-are_few-via-else-are_few+then-machine-lt64 w ↦ w.if-machine-lt64.true
-    ]
-    in (put_small c.self.inside.low c.args.machine c.self.invariant.0 low, c.self.invariant.1)
+    grind (arith, then-are_few-via-then-are_few, then-are_few-via-else-are_few+then-machine-lt64, put_small)
 
 pub returns-then-are_few : goal.returns-then-are_few
 returns-then-are_few c =
@@ -27,9 +23,7 @@ returns-then-are_few c =
     (one_shl c.args.machine 64 low))
 
 pub invariant_of-self-2 : goal.invariant_of-self-2
-invariant_of-self-2 c =
-    let few = c.requires.known
-    in (c.self.invariant.0, put_small c.self.inside.high (c.args.machine - 64) c.self.invariant.1 (omega arith))
+invariant_of-self-2 c = grind (arith, put_small)
 
 pub returns : goal.returns
 returns c =
