@@ -33,8 +33,8 @@ pub is_front_cut : (plan : Plan) (t : OpenRun) (bound : ℕ) (front : List Node)
     → IsFrontCut (planned plan) t bound front
 is_front_cut plan t bound front least first = grind arith
 
-module _ (shop : Shop) (plan : Planned) (t : OpenRun) (bound : ℕ) (front : List Node) (of : IsSearchOf shop plan.order t)
-    (cut : IsFrontCut plan t bound front) where
+module _ (shop : Shop) (plan : Planned) (t : OpenRun) (bound : ℕ) (front : List Node)
+    (of : IsSearchOf shop plan.order t) (cut : IsFrontCut plan t bound front) where
   nodes : List Node
   nodes = open_list t.open
 
@@ -43,42 +43,44 @@ module _ (shop : Shop) (plan : Planned) (t : OpenRun) (bound : ℕ) (front : Lis
       (All-take (IsNode shop) (256 * plan.piece) (open_list t.open) of.bounds)
 
   -- the pieces that the front is cut into, in the round that is made of them
-  module _ (ps : List Piece) (rest : List Node) (pieces : nodes_in ps ≡ cut_into 256 plan.piece front) (none : rest ≡ [])
-    where
-      pub made_told : told_of shop t.word t.makespan bound plan.budget ps rest t.rounds t.nodes
-          ≡ front_of (cut_of shop plan (stand_of t))
-      unfolding nodes
-      made_told =
-          let words : words_of nodes ≡ in_order shop plan.order (words_of nodes) = sym of.ordered
-          in let best : t.makespan ≡ lb shop t.word = of.makespan
-          in let least : bound ≡ least_bound shop (lb shop t.word) (in_order shop plan.order (words_of nodes)) =
-          cut.least ∙ (least_is shop t.makespan nodes of.bounds ∙ (λ i. least_bound shop (best i) (words i)))
-          in let all : pieces_in ps ≡ cut_into 256 plan.piece (in_order shop plan.order (words_of nodes)) =
-          cut_words ps 256 plan.piece nodes (pieces ∙ (ap (cut_into 256 plan.piece) cut.first
-          ∙ cut_front 256 plan.piece (256 * plan.piece) nodes cut.some (omega arith))) ∙ ap (cut_into 256 plan.piece) words
-          in let others : words_of rest ≡ [] = ap words_of none
-          in (λ i. record {
-            shop = shop;
-            word = t.word;
-            best = best i;
-            bound = least i;
-            budget = plan.budget;
-            pieces = all i;
-            rest = others i;
-            rounds = t.rounds;
-            nodes = t.nodes;
-          })
+  module _ (ps : List Piece) (rest : List Node) (pieces : nodes_in ps ≡ cut_into 256 plan.piece front)
+      (none : rest ≡ []) where
+    pub made_told : told_of shop t.word t.makespan bound plan.budget ps rest t.rounds t.nodes
+        ≡ front_of (cut_of shop plan (stand_of t))
+    unfolding nodes
+    made_told =
+        let words : words_of nodes ≡ in_order shop plan.order (words_of nodes) = sym of.ordered
+        in let best : t.makespan ≡ lb shop t.word = of.makespan
+        in let least : bound ≡ least_bound shop (lb shop t.word) (in_order shop plan.order (words_of nodes)) =
+        cut.least ∙ (least_is shop t.makespan nodes of.bounds ∙ (λ i. least_bound shop (best i) (words i)))
+        in let all : pieces_in ps ≡ cut_into 256 plan.piece (in_order shop plan.order (words_of nodes)) =
+        cut_words ps 256 plan.piece nodes (pieces ∙ (ap (cut_into 256 plan.piece) cut.first
+        ∙ cut_front 256 plan.piece (256 * plan.piece) nodes cut.some (omega arith))) ∙ ap (cut_into 256 plan.piece)
+        words
+        in let others : words_of rest ≡ [] = ap words_of none
+        in (λ i. record {
+          shop = shop;
+          word = t.word;
+          best = best i;
+          bound = least i;
+          budget = plan.budget;
+          pieces = all i;
+          rest = others i;
+          rounds = t.rounds;
+          nodes = t.nodes;
+        })
 
-      pub made_round : IsRound (told_of shop t.word t.makespan bound plan.budget ps rest t.rounds t.nodes)
-      made_round = subst IsRound (sym made_told) (front_is_round (cut_of shop plan (stand_of t))
-          (cut_is_round shop plan (stand_of t) of.standing))
+    pub made_round : IsRound (told_of shop t.word t.makespan bound plan.budget ps rest t.rounds t.nodes)
+    made_round = subst IsRound (sym made_told) (front_is_round (cut_of shop plan (stand_of t))
+        (cut_is_round shop plan (stand_of t) of.standing))
 
-      pub made_pieces : ArePieces shop ps
-      made_pieces = cut_nodes shop ps 256 plan.piece front pieces front_nodes
+    pub made_pieces : ArePieces shop ps
+    made_pieces = cut_nodes shop ps 256 plan.piece front pieces front_nodes
 
-      pub made_few : length ps ≤ 256
-      made_few = let a = few_pieces 256 plan.piece front in let b = ap length pieces in let d = length-map ps (λ (p : Piece). p.nodes.items)
-          in omega arith
+    pub made_few : length ps ≤ 256
+    made_few = let a = few_pieces 256 plan.piece front in let b = ap length pieces
+        in let d = length-map ps (λ (p : Piece). p.nodes.items)
+        in omega arith
 
 -- the others are the rest of what is cut
 pub others_are : (shop : Shop) (plan : Planned) (t : OpenRun) (others : List Node) → IsSearchOf shop plan.order t

@@ -13,8 +13,8 @@ use std::collections::BTreeMap;
 use std::collections::btree_map::Entry;
 use std::marker::Model;
 
-/// Open nodes by bound: `stacks` has the words of the open nodes of each bound, if there are any. Contracts see the list
-/// of nodes, from the least bound up.
+/// Open nodes by bound: `stacks` has the words of the open nodes of each bound, if there are any. Contracts see the
+/// list of nodes, from the least bound up.
 #[derive(Drop)]
 pub(crate) struct BoundMap {
     stacks: BTreeMap<u64, Stack>,

@@ -9,8 +9,8 @@ use shop_model::{Instance, Word};
 use shop_nodes::Node;
 use std::alloc::{AllocError as NoMemory, Global};
 
-/// Instances of more operations keep the order of their machines. On longer machines most children are settled without a
-/// trial, so the order matters less, and bounding words takes longer.
+/// Instances of more operations keep the order of their machines. On longer machines most children are settled without
+/// a trial, so the order matters less, and bounding words takes longer.
 const MOST_OPERATIONS: usize = 400;
 
 /// From the bounds of how many words the order is made, at most. More tell little more.
@@ -20,8 +20,8 @@ const WORDS: usize = 4;
 /// one of the first round.
 const ROUND_TO_REORDER: u64 = 1;
 
-/// Adds the one-machine bound of each machine after `word` to the machine's number in `keys`. No sum gets near 2^64, and
-/// none has to be right. Fails with `NoMemory` if memory runs out.
+/// Adds the one-machine bound of each machine after `word` to the machine's number in `keys`. No sum gets near 2^64,
+/// and none has to be right. Fails with `NoMemory` if memory runs out.
 fn add_bounds(
     alloc: Global,
     instance: &Instance,

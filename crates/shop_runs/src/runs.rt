@@ -141,8 +141,8 @@ impl OpenRun {
         Ok((next, layout))
     }
 
-    /// Starts a run, and searches rounds until no node is open or the plan's rounds are done. Each round hands its layout
-    /// to the next. Fails with `NoMemory` if memory runs out.
+    /// Starts a run, and searches rounds until no node is open or the plan's rounds are done. Each round hands its
+    /// layout to the next. Fails with `NoMemory` if memory runs out.
     fn at_end<R, C: Crew<R>>(
         rt: &R,
         alloc: Global,

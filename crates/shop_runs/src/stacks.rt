@@ -77,8 +77,8 @@ impl Stack {
         self.cover(alloc, word)
     }
 
-    /// Puts `word` on top, in a chunk of its own, which takes a quarter of a KB at once. Fails with `NoMemory` if memory
-    /// runs out; the stack has then lost words.
+    /// Puts `word` on top, in a chunk of its own, which takes a quarter of a KB at once. Fails with `NoMemory` if
+    /// memory runs out; the stack has then lost words.
     fn cover(&mut self, alloc: Global, word: SharedWord) -> Result<(), NoMemory>
         ensures { OnOk result (words_on self.new ≡ word ∷ words_on self.old) }
     {

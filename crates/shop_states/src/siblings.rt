@@ -183,8 +183,8 @@ fn free_at(position: usize, last: usize, latest: Latest) -> u64
     latest.end
 }
 
-/// A machine whose operations some candidates delay, all on that machine. It has positions `from` up to `to` (excluded);
-/// the candidates' operation that ends last stands at `last`, and `latest` tells when.
+/// A machine whose operations some candidates delay, all on that machine. It has positions `from` up to `to`
+/// (excluded); the candidates' operation that ends last stands at `last`, and `latest` tells when.
 #[derive(Clone, Copy)]
 pub(crate) struct LateMachine {
     pub from: usize,

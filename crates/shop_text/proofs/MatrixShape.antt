@@ -157,7 +157,12 @@ times_on_to size done (e ∷ times) machines some left len h g =
       times_row_to,
       length-append,
       times_on_to size (done ++ e.row ∷ []) times
-          machines (omega (arith, length-append done (e.row ∷ []))) (omega (arith, left, length-append done (e.row ∷ [])))
+          machines (omega (arith, length-append done (e.row ∷ []))) (omega (
+            arith,
+            left,
+            length-append done (e.row ∷
+                []),
+          ))
           len h.1 g,
     )
 

@@ -59,7 +59,8 @@ rest_long {S} old depth (suc n) =
 
 -- what waits once closed ones are put on top
 pub rest_waits : {S : Type 0} (old : List (Held S)) {new : List (Held S)} (word : List ℕ) {depth : ℕ} (n : ℕ)
-    → depth ≡ length word → new ≡ with_held_rest old depth n → waiting_in new ≡ with_rest (waiting_in old) (length word) n
+    → depth ≡ length word → new ≡ with_held_rest old depth n → waiting_in new ≡ with_rest (waiting_in old) (length word)
+    n
 rest_waits old word {depth} n deep put = ap waiting_in put
     ∙ (waiting_rest old depth n ∙ ap (λ (k : ℕ). with_rest (waiting_in old) k n) deep)
 

@@ -166,7 +166,8 @@ turn_halted s depth count on some few =
       in_order = replaced s.shop s.walk.best s.word s.stack (Rest depth count) rest on refl
           (fewer_closed s.shop s.walk.best s.word depth count b few p.own);
       fewer = none_spent b (length s.shop.jobs) (length (s.stack ++ rest ∷ []))
-          (length (s.stack ++ Rest depth count ∷ [])) some (length_push s.stack rest ∙ sym (length_push s.stack (Rest depth count)));
+          (length (s.stack ++ Rest depth count ∷ [])) some (length_push s.stack rest ∙ sym (length_push s.stack (Rest
+          depth count)));
       shop = refl;
       spent = omega arith;
     }

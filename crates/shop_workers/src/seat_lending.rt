@@ -53,8 +53,8 @@ pub fn seats_for_workers(
     Ok(lent)
 }
 
-// Joins the workers' seats, and puts their entries into the places of their pieces. Fails with `NoMemory` if memory runs
-// out, here or for a worker.
+// Joins the workers' seats, and puts their entries into the places of their pieces. Fails with `NoMemory` if memory
+// runs out, here or for a worker.
 fn join_all<'r>(
     alloc: Global,
     board: &Board,

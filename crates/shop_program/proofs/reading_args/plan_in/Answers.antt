@@ -21,5 +21,6 @@ returns-in_err-budget c =
 pub returns-in_err-piece : goal.returns-in_err-piece
 returns-in_err-piece c =
     let rows = rows_of (found_of c.args.found.now) in
-    passed_on (NoNumber rows (codes "piece")) (HasPlan rows) c.from_residual-in_err-piece.result c.in_err-piece.field-0.0
+    passed_on (NoNumber rows (codes "piece")) (HasPlan rows) c.from_residual-in_err-piece.result
+    c.in_err-piece.field-0.0
     (no_piece rows) c.in_err-piece.ensures.err c.from_residual-in_err-piece.ensures.1

@@ -2,7 +2,8 @@ use Rattle.std.proofs.Common.{rules, ◌∷◌, ◌∙◌, Some, None, refl, sub
 use Rattle.shop_runs.specs.inner.Stacks.{words_on, IsTopIfMore}
 use Rattle.shop_runs.proofs.StackLemmas.{next_is}
 use Rattle.shop_runs.proofs.bound_maps.BoundMap.pop.Goals as goal
-use Rattle.shop_runs.proofs.bound_maps.BoundMap.pop.Goals.{in-Some-pop_if_more+in_ok-insert-in-Some-pop_if_more, in-None}
+use Rattle.shop_runs.proofs.bound_maps.BoundMap.pop.Goals.{in-Some-pop_if_more+in_ok-insert-in-Some-pop_if_more}
+use Rattle.shop_runs.proofs.bound_maps.BoundMap.pop.Goals.{in-None}
 
 pub returns : goal.returns
 returns c =

@@ -24,7 +24,8 @@ returns c =
       | in-Occupied+in_ok-push-in-Occupied w ↦
           (let found : lookup (is_at (nat_cmp bound)) es ≡ Some w.into_mut.result.now = search rules
           in ap nodes w.self-inside-is ∙ (ap nodes_by_bound (search rules) ∙ (put_is es word bound w.push.new.self
-          c.entry.ensures.ordered (w.in_ok-push-in-Occupied.ensures ∙ ap (λ o. word ∷ words_left o) (sym found)) ∙ put)))
+          c.entry.ensures.ordered (w.in_ok-push-in-Occupied.ensures ∙ ap (λ o. word ∷ words_left o) (sym found)) ∙
+          put)))
       | in-Vacant w ↦
           (let none : lookup (is_at (nat_cmp bound)) es ≡ None = search rules
           in ap nodes w.self-inside-is ∙ (ap nodes_by_bound (search rules) ∙ (put_is es word bound w.of.result

@@ -4,7 +4,8 @@ use Rattle.shop_nodes.specs.Nodes.{IsNode, AreNodes}
 use Rattle.shop_runs.specs.Plans.{planned}
 use Rattle.shop_runs.specs.inner.OpenNodes.{AreBelow}
 use Rattle.shop_runs.specs.inner.Stores.{open_list}
-use Rattle.shop_runs.proofs.FrontCuts.{is_front_cut, front_nodes, made_told, made_round, made_pieces, made_few, others_are}
+use Rattle.shop_runs.proofs.FrontCuts.{is_front_cut, front_nodes, made_told}
+use Rattle.shop_runs.proofs.FrontCuts.{made_round, made_pieces, made_few, others_are}
 use Rattle.shop_runs.proofs.KeptBelow.{all_below}
 use Rattle.shop_runs.proofs.runs.OpenRun.cut.Goals as goal
 

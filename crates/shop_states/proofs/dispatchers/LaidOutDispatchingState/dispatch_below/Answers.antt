@@ -14,7 +14,8 @@ of-dispatch-requires g c = record {
 
 pub advance_below-requires-clause-can : goal.advance_below-requires-clause-can
 advance_below-requires-clause-can g c = candidate_can c.grid-grid.ensures.grid c.of-dispatch.ensures.job
-    c.requires.can.is.0.kept c.requires.can.is.1 (bound_there c.requires.can.is.0 c.requires.can.bound_is) c.range_of-range.ensures.least
+    c.requires.can.is.0.kept c.requires.can.is.1 (bound_there c.requires.can.is.0 c.requires.can.bound_is)
+    c.range_of-range.ensures.least
     c.requires.scratch.machines
     (λ rows heads times tails m here known later above. absurd (omega arith))
 

@@ -15,7 +15,8 @@ of-dispatch-requires g c = record {
 
 pub advance_below-requires-clause-can : goal.advance_below-requires-clause-can
 advance_below-requires-clause-can g c = candidate_can c.grid-grid.ensures.grid c.of-dispatch.ensures.job
-    c.requires.can.is.0.kept c.requires.can.is.1 (bound_there c.requires.can.is.0 c.requires.can.bound_is) c.range_of-range.ensures.least
+    c.requires.can.is.0.kept c.requires.can.is.1 (bound_there c.requires.can.is.0 c.requires.can.bound_is)
+    c.range_of-range.ensures.least
     c.requires.scratch.machines
     (subst (λ (xs : List ℕ). AreChildCeilings c.args.self.now.shop c.requires.can.word
     c.args.self.now.layout c.args.candidate.job xs) (sym c.as_slice-ceilings.ensures.value) c.requires.can.is.2)

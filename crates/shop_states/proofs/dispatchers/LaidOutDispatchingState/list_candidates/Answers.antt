@@ -27,7 +27,8 @@ list_candidates-requires-clause-can g c = record {
 }
 
 pub returns-clause-listed : goal.returns-clause-listed
-returns-clause-listed g c = λ w of. listed_there of (gathered g.L.StateLanes.GREATEST c.args.self.now.shop c.args.self.now.layout
+returns-clause-listed g c = λ w of. listed_there of (gathered g.L.StateLanes.GREATEST c.args.self.now.shop
+    c.args.self.now.layout
     c.grid.result.now c.grid.ensures.grid (g.L.StateLanes.heads c.args.state.now.lanes)
     (g.L.StateLanes.ends c.args.state.now.lanes) c.args.state.now.next.items c.args.limit
     c.list_candidates.new.candidates.items c.list_candidates.result c.list_candidates.ensures.are w of.kept)

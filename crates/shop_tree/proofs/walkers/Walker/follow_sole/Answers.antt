@@ -54,7 +54,8 @@ returns g c =
     in let keeps : SoleCandidateKeepsBound shop word = subst (λ (x : Shop). SoleCandidateKeepsBound x word)
     self.same_shop (g.met.D.Dispatching.sole_keeps_bound d word self.states.current.value at.state)
     in let gone = follows_one (stage_of self) job short
-    (ap (λ (x : Shop). conflict x word) (sym self.same_shop) ∙ alone) keeps c.requires.some (let a = at.bound in let b = at.below in omega arith) at.in_order
+    (ap (λ (x : Shop). conflict x word) (sym self.same_shop) ∙ alone) keeps c.requires.some (let a = at.bound in let b =
+    at.below in omega arith) at.in_order
     in reached self c.take_job.new.self c.args.bound
     (subst (λ (t : Stage). HasGone (stage_of self) t c.args.bound) (sym c.take_job.ensures.stage)
     (subst (λ (b : ℕ). HasGone (stage_of self) (gone_on (stage_of self) job) b) (sym at.bound) gone))
