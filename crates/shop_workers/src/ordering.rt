@@ -4,7 +4,7 @@ ghost use Rattle.std.specs.Prelude.{slice_set, slice_index_or, vec_len};
 ghost use Rattle.shop_runs.specs.Entries.{told};
 ghost use Rattle.shop_runs.specs.Crews.{OneForEach, IsEntryOf};
 ghost use Rattle.shop_workers.specs.Entries.{OfRound};
-ghost use Rattle.shop_workers.specs.inner.Gathered.{AllOfRound, Placed};
+ghost use Rattle.shop_workers.specs.inner.Gathered.{AllOfRound, Placed, Fills, StayFilled, AreKept};
 
 use shop_runs::{Entry, PieceSearch, Round};
 use std::alloc::{AllocError as NoMemory, Global};
@@ -27,6 +27,8 @@ fn put<'r>(round: &'r Round<'r>, slots: &mut Vec<Option<Entry<'r>>>, entry: Entr
     requires slots { Placed (told round.now) slots.old.items }
     ensures len { vec_len slots.new ≡ vec_len slots.old }
     ensures placed { Placed (told round.now) slots.new.items }
+    ensures stays { StayFilled slots.old.items slots.new.items }
+    ensures fills { Fills slots.new.items entry.entry }
 {
     let number = entry.number();
     if number < slots.len() {
@@ -44,6 +46,8 @@ pub fn place<'r>(
     requires slots { Placed (told round.now) slots.old.items }
     ensures len { vec_len slots.new ≡ vec_len slots.old }
     ensures placed { Placed (told round.now) slots.new.items }
+    ensures stays { StayFilled slots.old.items slots.new.items }
+    ensures filled { All (Fills slots.new.items) entries.entry.items }
 {
     while let Some(entry) = entries.pop() {
         put(round, slots, entry);
@@ -70,6 +74,7 @@ fn or_search<'r, P: PieceSearch<'r>>(
     requires brought { IfSome brought (λ e. IsEntryOf (told (P.searched searcher.old)) number e) }
     ensures round { P.searched searcher.new ≡ P.searched searcher.old }
     ensures entry { IfOk result (λ e. IsEntryOf (told (P.searched searcher.old)) number e) }
+    ensures kept { IfOk result (λ e. IfSome brought.entry (λ kept. e ≡ kept)) }
 {
     match brought {
         Some(entry) => Ok(entry),
@@ -89,7 +94,8 @@ pub fn complete<'r, P: PieceSearch<'r>>(
 ) -> Result<Vec<Entry<'r>>, NoMemory>
     requires len { vec_len slots ≡ length round.now.pieces.items }
     requires slots { Placed (told round.now) slots.items }
-    ensures { IfOk result (λ v. OneForEach (told round.now) v.items) }
+    ensures each { IfOk result (λ v. OneForEach (told round.now) v.items) }
+    ensures kept { IfOk result (λ v. AreKept slots.entry.items v.items) }
 {
     let mut searcher = P::over(round);
     let mut entries = Vec::with_capacity(alloc, slots.len())?;

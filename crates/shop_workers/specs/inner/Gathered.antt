@@ -3,9 +3,14 @@
 --                                   this round
 --     Placed round places           an entry that stands in a place is that of the piece of this
 --                                   number
-use Rattle.std.specs.Prelude.{ℕ, ◌<◌, List, length, All, Option, IfSome, IfOk, slice_index_or}
+--     Fills places e                the place of this entry is filled, if there is one
+--     StayFilled before after       each place that was filled still is
+--     AreKept places entries        an entry that stands in a place is kept
+use Rattle.std.specs.Prelude.{◌≡◌, ℕ, ◌<◌, List, length, All, Option, Some, None, IsSome, IfSome}
+use Rattle.std.specs.Prelude.{IfOk, slice_index_or}
 use Rattle.shop_runs.specs.Round.{Told}
 use Rattle.shop_runs.specs.Crews.{IsEntryOf}
+use Rattle.shop_runs.specs.Entries.{number_of}
 use Rattle.shop_runs.specs.declared.entries.Entry.{Entry}
 use Rattle.shop_workers.specs.Entries.{OfRound, Brought}
 
@@ -16,3 +21,16 @@ abbrev pub Placed : Told → List (Option Entry) → Type 0
 Placed r places =
     (n : ℕ) (d : Option Entry) → n < length places
     → IfSome (slice_index_or places n d) (λ e. IsEntryOf r n e)
+
+abbrev pub IsFilled : List (Option Entry) → ℕ → Type 0
+IsFilled places n = n < length places → IsSome (slice_index_or places n None)
+
+abbrev pub Fills : List (Option Entry) → Entry → Type 0
+Fills places e = IsFilled places (number_of e.kind)
+
+abbrev pub StayFilled : List (Option Entry) → List (Option Entry) → Type 0
+StayFilled before after = (n : ℕ) → IsFilled before n → IsFilled after n
+
+abbrev pub AreKept : List (Option Entry) → List Entry → Type 0
+AreKept places es = (n : ℕ) (e : Entry) → n < length places
+    → slice_index_or places n None ≡ Some e → slice_index_or es n e ≡ e

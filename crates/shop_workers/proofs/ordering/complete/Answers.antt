@@ -1,29 +1,38 @@
-use Rattle.std.proofs.Common.{rules, ◌≡◌, ◌∙◌, sym, subst, length, None, ◌+◌}
+use Rattle.std.proofs.Common.{rules, arith, ◌≡◌, ◌∙◌, length, None, subst}
 use Rattle.std.proofs.lemmas.List.{length-map}
+use Rattle.std.specs.Prelude.{IfSome}
+use Rattle.shop_runs.specs.Crews.{IsEntryOf}
 use Rattle.shop_runs.specs.Entries.{told}
-use Rattle.shop_workers.proofs.Places.{EntriesUpTo, placed_set, one_more, all_entries}
-use Rattle.shop_workers.specs.inner.Gathered.{Placed}
+use Rattle.shop_workers.proofs.Places.{IsKept, placed_set, one_taken_out, one_more}
 use Rattle.shop_workers.proofs.ordering.complete.Goals as goal
 
 pub loop-number-preserved : goal.loop-number-preserved
 loop-number-preserved g c =
     let r = told c.args.round.now in
-    let placed : Placed r c.loop-number.slots.items = c.loop-number.invariant.1 in
-    let so_far : EntriesUpTo r c.loop-number.entries.items c.loop-number.number = c.loop-number.invariant.3 in
+    let so_far = c.loop-number.invariant in
+    let places = c.args.slots.items in
+    let slots = c.loop-number.slots.items in
+    let number = c.loop-number.number in
+    let entries = c.loop-number.entries.items in
     let entry = c.in_ok-or_search.field-0 in
-    let number = c.loop-number.number in (
+    let kept : IsKept places number entry =
+    subst (λ o. IfSome o (λ x. entry ≡ x)) (c.take-brought.ensures.value ∙ so_far.5 number (omega arith))
+    c.in_ok-or_search.ensures.kept in (
       search rules,
-      subst (λ s. Placed r s) (sym c.take-brought.ensures.after)
-          (placed_set r c.loop-number.slots.items number None placed (search rules)),
+      rw c.take-brought.ensures.after (placed_set r slots number None so_far.1 (search rules)),
       search rules,
-      subst (λ es. EntriesUpTo r es (c.loop-number.number + 1)) (sym c.in_ok-push.ensures.items)
-          (one_more r c.loop-number.entries.items number entry (search rules) so_far (search rules)),
+      rw c.in_ok-push.ensures.items
+          (one_more (IsEntryOf r) entries number entry (search rules) so_far.3 (search rules)),
       search rules,
+      rw c.take-brought.ensures.after (one_taken_out places slots number so_far.5),
+      rw c.in_ok-push.ensures.items (one_more (IsKept places) entries number entry (search rules) so_far.6 kept),
     )
 
-pub returns : goal.returns
-returns g c =
-    let r = told c.args.round.now in
-    let so_far : EntriesUpTo r c.loop-number.entries.items c.loop-number.number = c.loop-number.invariant.3 in
-    let pieces : length r.pieces ≡ c.loop-number.number = length-map c.args.round.now.pieces.items _ ∙ search rules in
-    all_entries r c.loop-number.entries.items c.loop-number.number (search rules) pieces so_far
+pub returns-clause-each : goal.returns-clause-each
+returns-clause-each g c =
+    let pieces : length (told c.args.round.now).pieces ≡ c.loop-number.number =
+    length-map c.args.round.now.pieces.items _ ∙ search rules in
+    (search rules, λ n d below. c.loop-number.invariant.3 n d (omega arith))
+
+pub returns-clause-kept : goal.returns-clause-kept
+returns-clause-kept g c n e below there = rw there at (c.loop-number.invariant.6 n e (omega arith))

@@ -1,7 +1,8 @@
 use Rattle.std.proofs.Common.{◌≡◌, vec_len}
+use Rattle.shop_runs.specs.Crews.{IsEntryOf}
 use Rattle.shop_runs.specs.Entries.{told}
 use Rattle.shop_workers.specs.inner.Gathered.{Placed}
-use Rattle.shop_workers.proofs.Places.{EntriesUpTo}
+use Rattle.shop_workers.proofs.Places.{UpTo, IsKept, AreLeftFrom}
 use Rattle.shop_workers.proofs.ordering.complete.Given as goal
 
 abbrev pub invariant-loop-number : goal.invariant-loop-number
@@ -9,5 +10,7 @@ invariant-loop-number g l =
     (vec_len l.slots ≡ vec_len l.initial.slots)
     × Placed (told l.round) l.slots.items
     × (vec_len l.entries ≡ l.number)
-    × EntriesUpTo (told l.round) l.entries.items l.number
+    × UpTo (IsEntryOf (told l.round)) l.entries.items l.number
     × (g.P.PieceSearch.searched l.searcher ≡ l.round)
+    × AreLeftFrom l.number l.initial.slots.items l.slots.items
+    × UpTo (IsKept l.initial.slots.items) l.entries.items l.number
