@@ -24,7 +24,7 @@ pub(crate) struct BoundRoom {
     jackson: Jackson,
 }
 
-/// Answers the greater of `bound` and of the one-machine bound of `triples`, whose order it may change. Makes Jackson's
+/// Answers the greater of `bound` and the one-machine bound of `triples`, whose order it may change. Makes Jackson's
 /// schedule only where a few passes don't tell that `bound` is the greater one.
 fn raise(jackson: &mut Jackson, triples: &mut [Triple], bound: u64) -> u64
     requires room { length triples.old ≤ jackson.old.room }

@@ -101,8 +101,8 @@ pub fn solve_instance<R, C: Crew<R>>(
     Ok((text, answer))
 }
 
-/// Makes the report that `solve_bytes` gives, and hands over the answer of the run beside it, of which nothing is
-/// claimed. Fails as `solve_bytes` does.
+/// Makes the report of the best schedule found for the instance in a text, as `solve_bytes` does, and hands over the
+/// answer of the run beside it, of which nothing is claimed. Fails as `solve_bytes` does.
 fn solve<R, C: Crew<R>>(
     rt: &R,
     alloc: Global,
@@ -149,8 +149,9 @@ pub fn solve_bytes<R, C: Crew<R>>(
     Ok(report)
 }
 
-/// Writes the report that `solve_bytes` makes of the text of `source`. Writes nothing before the search ends. Fails as
-/// `solve_bytes` does, and with `ReadFailed` or `WriteFailed` if a device fails.
+/// Writes the report of the best schedule found for the instance in the text of `source`, as `solve_bytes` makes it.
+/// Writes nothing before the search ends. Fails as `solve_bytes` does, and with `ReadFailed` or `WriteFailed` if a
+/// device fails.
 ///
 /// The open nodes are not freed, which would take a step for each: the call is for a program that ends with its report.
 pub fn solve_text<R, S: Source, K: Sink, C: Crew<R>>(

@@ -158,11 +158,6 @@ impl<B: Block, const EACH: usize> StateLanes for BlockLanes<B, EACH> {
     }
 
     #[inline(always)]
-    fn time(fixed: &FixedBlocks<B>, position: usize) -> u64 {
-        B::widened(fixed.times[position])
-    }
-
-    #[inline(always)]
     fn head(&self, position: usize) -> u64 {
         B::widened(self.row[position])
     }

@@ -54,6 +54,7 @@ pub trait Block: Copy + Drop {
         ensures first { result ≡ first_of (numbers block) }
         ensures small { result ≤ GREATEST };
 
+    /// Moves each number one lane up; 0 comes into the first lane.
     fn up_one(block: Self) -> Self
         ensures { numbers result ≡ up_one (numbers block) };
 
@@ -63,6 +64,7 @@ pub trait Block: Copy + Drop {
     fn up_four(block: Self) -> Self
         ensures { numbers result ≡ up_four (numbers block) };
 
+    /// Moves each number one lane down; 0 comes into the last lane.
     fn down_one(block: Self) -> Self
         ensures { numbers result ≡ down_one (numbers block) };
 
@@ -72,12 +74,15 @@ pub trait Block: Copy + Drop {
     fn down_four(block: Self) -> Self
         ensures { numbers result ≡ down_four (numbers block) };
 
+    /// Swaps lanes 0 to 3 with lanes 4 to 7.
     fn halves(block: Self) -> Self
         ensures { numbers result ≡ halves (numbers block) };
 
+    /// Swaps lanes 0 and 1 with lanes 2 and 3; the other lanes stay.
     fn quarters(block: Self) -> Self
         ensures { numbers result ≡ quarters (numbers block) };
 
+    /// Swaps lanes 0 and 1; the other lanes stay.
     fn neighbours(block: Self) -> Self
         ensures { numbers result ≡ neighbours (numbers block) };
 
@@ -106,7 +111,7 @@ pub trait Block: Copy + Drop {
             ≡ waiting (first_of (numbers least)) (numbers heads) (numbers block) };
 
     /// Reads eight numbers of `row`, from number 8 * `block` on. Answers in each lane how far its number lies ahead of
-    /// `from`, where 0 follows on `GREATEST`.
+    /// `from`, where 0 follows `GREATEST`.
     fn ahead(row: &[Self::Number], block: usize, from: Self) -> Self
         requires within { 8 * (block + 1) ≤ length row.now }
         requires from { IsSplat (numbers from) }

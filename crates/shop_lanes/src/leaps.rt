@@ -11,7 +11,7 @@ use crate::folds::least_of;
 use crate::lane_rows::{HeadRange, LaneRows};
 use crate::passes::load_of;
 
-/// How far ahead of `from` the nearest of `heads` lies, where 0 follows on `greatest`.
+/// How far ahead of `from` the nearest of `heads` lies, where 0 follows `greatest`.
 #[inline(always)]
 fn nearest_of<B: Block>(count: usize, heads: &[B::Number], from: u64, greatest: u64) -> u64
     requires count { length heads.now ≡ count }

@@ -56,7 +56,8 @@ pub(crate) fn load_of<B: Block>(count: usize, rows: &LaneRows<B::Number>, least:
     greatest_of(B::sum(sums_before(clocks), most))
 }
 
-/// Does `bits_between` for the last block of `heads` if the blocks are an odd number, and else sets no bit.
+/// Sets the bits of the last block of `heads`, as `Block::bits_between` does, if the number of blocks is odd; else
+/// none.
 #[inline(always)]
 fn odd_between<B: Block>(count: usize, heads: &[B::Number], above: u64, upto: u64) -> u64
     requires count { length heads.now ≡ count }
@@ -126,7 +127,8 @@ pub(crate) fn bits_up_to<B: Block>(heads: &[B::Number], upto: u64) -> u64
     }
 }
 
-/// Does `bits_equal` for the last block of `numbers` if the blocks are an odd number, and else sets no bit.
+/// Sets the bits of the last block of `numbers`, as `Block::bits_equal` does, if the number of blocks is odd; else
+/// none.
 #[inline(always)]
 fn odd_equal<B: Block>(count: usize, numbers: &[B::Number], number: u64) -> u64
     requires count { length numbers.now ≡ count }

@@ -40,6 +40,8 @@ pub trait StateLanes: Drop {
 
     ghost ends: { Self → List ℕ };
 
+    /// Puts the time and the tail of the operation at each position into lanes. Fails with `NoMemory` if memory runs
+    /// out.
     fn fixed(alloc: Global, all_times: &[u64], all_tails: &[u64]) -> Result<Self::Fixed, NoMemory>
         requires fitting_times { All (λ t. t ≤ GREATEST) all_times.now }
         requires fitting_tails { All (λ q. q ≤ GREATEST) all_tails.now }
@@ -63,10 +65,6 @@ pub trait StateLanes: Drop {
         requires jobs { length (ends self.old) ≡ length (ends other.now) }
         ensures heads { heads self.new ≡ heads other.now }
         ensures ends { ends self.new ≡ ends other.now };
-
-    fn time(fixed: &Self::Fixed, position: usize) -> u64
-        requires { position < length (times fixed.now) }
-        ensures { result ≡ slice_index (times fixed.now) position };
 
     fn head(&self, position: usize) -> u64
         requires { position < length (heads self.now) }

@@ -195,14 +195,6 @@ impl<L: StateLanes> Grid<L> {
         self.positions.following[position]
     }
 
-    /// The number of all positions, as a `u32`. `next_behind` answers it at the end of a route.
-    #[inline(always)]
-    pub fn end(&self) -> u32
-        ensures { result ≡ length self.now.following }
-    {
-        self.positions.end
-    }
-
     /// The number of all positions.
     #[inline(always)]
     pub fn positions(&self) -> usize

@@ -180,6 +180,7 @@ pub struct Answer {
     pub open_nodes: usize,
     pub rounds: u64,
     pub nodes: u64,
+    /// kept so that a caller may forget it, where dropping each node would take time for nothing
     store: OpenNodes,
 }
 

@@ -9,7 +9,8 @@ use std::mem;
 /// How many words a full chunk holds below its top word. They take 4 KB.
 const BLOCK: usize = 256;
 
-/// For how many of them a chunk that covers another has room at first. Most stacks end in such a chunk.
+/// For how many words below its top word a chunk that covers another has room at first. Most stacks end in such a
+/// chunk.
 const FIRST_ROOM: usize = 16;
 
 /// A chunk of a stack of words: a top word, which is taken first, and the words below it.

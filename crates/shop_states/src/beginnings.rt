@@ -80,7 +80,8 @@ impl Beginning {
         self.clear(laid_out);
     }
 
-    /// Extends the beginning to all but the last `LEFT_OUT` jobs of `path`, a word that starts with the beginning.
+    /// Extends the beginning to all but the last `LEFT_OUT` jobs of `path`, a word that starts with the beginning,
+    /// unless it is longer already.
     fn go_on<L: StateLanes>(&mut self, laid_out: &LaidOut<L>, path: &[u16])
         requires is { IsBeginningOf laid_out.now.shop laid_out.now.layout self.old }
         requires begins { Begins path.now self.old }

@@ -20,8 +20,8 @@ use crate::states::State;
 use shop_lanes::{Marks, StateLanes};
 use shop_layout::Grid;
 
-/// Answers the own span in `owns[place]`: how late the operations of the machine end, tails included, if the one at
-/// `place` goes first.
+/// Answers the own span in `owns[place]`: how late the operation at `place` of the machine, and the others with their
+/// tails, end if it goes first.
 #[inline(always)]
 fn own_at<L: StateLanes>(owns: &[L::Number], place: usize) -> u64
     requires { place < length owns.now }

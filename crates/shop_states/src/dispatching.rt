@@ -181,7 +181,8 @@ pub trait Dispatching<S: Drop> {
         None
     }
 
-    /// Does what `dispatch_below` does, in fewer steps, with what `bound_children` left in `scratch`.
+    /// Dispatches the next operation of `candidate.job`, and answers as `dispatch_below` does, in fewer steps, with
+    /// what `bound_children` left in `scratch`.
     fn dispatch_child_below(
         &self,
         scratch: &mut Self::Scratch,
@@ -209,7 +210,8 @@ pub trait Dispatching<S: Drop> {
         self.dispatch_below(scratch, state, candidate, bound, limit)
     }
 
-    /// Does what `dispatch_below_in_copy` does, in fewer steps, with what `bound_children` left in `scratch`.
+    /// Dispatches the next operation of `candidate.job` in `to`, made a copy of `from`, and answers as `dispatch_below`
+    /// does, in fewer steps, with what `bound_children` left in `scratch`.
     fn dispatch_child_below_in_copy(
         &self,
         scratch: &mut Self::Scratch,
@@ -240,9 +242,9 @@ pub trait Dispatching<S: Drop> {
         self.dispatch_child_below(scratch, to, candidate, bound, limit)
     }
 
-    /// Does what `dispatch_child_below` does where the bound of the extended word is known already, in fewer steps, for
-    /// nothing need be bounded. Answers whether `state` is that of the extended word now; else it is no word's state
-    /// any more.
+    /// Dispatches the next operation of `candidate.job` after `bound_children`, where the bound of the extended word is
+    /// known already, so that nothing need be bounded. Answers whether `state` is that of the extended word now; else
+    /// it is no word's state any more.
     fn dispatch_settled(
         &self,
         scratch: &mut Self::Scratch,

@@ -11,8 +11,8 @@ ghost use Rattle.shop_layout.specs.Lanes.{rows_of};
 use shop_lanes::StateLanes;
 use shop_layout::LaidOut;
 
-/// Sets the heads of the operations on a route from leg `index` on, which its job is `ready` for. The legs up to the
-/// end of the route lie side by side, and hold all that is read of an operation.
+/// Sets the heads of the operations on a route from leg `index` on, for which its job is ready at `ready`. The legs up
+/// to the end of the route lie side by side, and hold all that is read of an operation.
 #[inline(always)]
 fn fill_route<L: StateLanes>(
     lanes: &mut L,
@@ -49,9 +49,9 @@ fn fill_route<L: StateLanes>(
     }
 }
 
-/// Sets the heads of the unplaced operations of `job`, which is `ready` for its next leg, that at `index`, and the end
-/// of the first of them. Answers the position of this one, or the number of positions if the job has none left: then
-/// its end stays as it was.
+/// Sets the heads of the unplaced operations of `job`, which is ready at `ready` for its next leg, the one at `index`,
+/// and the end of the first of them. Answers the position of this one, or the number of positions if the job has none
+/// left: then its end stays as it was.
 #[inline(always)]
 fn fill_job<L: StateLanes>(
     lanes: &mut L,

@@ -1,4 +1,4 @@
-// The raise on a machine: of the heads that rose there, the least old one and the greatest new one.
+// The raise on a machine: of the heads noted there, the least old one and the greatest new one.
 ghost use Rattle.std.specs.Prelude.{◌≡◌, ◌≤◌, ◌<◌, min, max, length, slice_set};
 ghost use Rattle.shop_states.specs.inner.HeadRaises.{nothing_raised, raise_in, raise_of};
 ghost use Rattle.shop_states.specs.inner.HeadRaises.{raises_in, widened};
@@ -8,15 +8,15 @@ use crate::machine_sets::MachineSet;
 use shop_lanes::StateLanes;
 use std::mem;
 
-/// The raise on a machine. Of the heads that rose there, `from` is the least value before and `to` the greatest after.
-/// If none rose, `from` is the greatest number of a lane and `to` is 0.
+/// The raise on a machine. Of the heads noted there, `from` is the least value before they rose and `to` the greatest
+/// after. If none was noted, `from` is the greatest number of a lane and `to` is 0.
 #[derive(Clone, Copy)]
 pub(crate) struct LaneRaise<N> {
     pub from: N,
     pub to: N,
 }
 
-/// Answers the raise of a machine on which no head rose.
+/// Answers the raise of a machine on which no head was noted.
 #[inline(always)]
 pub(crate) fn no_raise<L: StateLanes>() -> LaneRaise<L::Number>
     ensures { raise_in L.value result ≡ nothing_raised L.GREATEST }

@@ -47,7 +47,7 @@ fn span_of_rows<L: StateLanes>(
     L::bound_raised(rows, each, range, least, limit)
 }
 
-/// Does what `span_of_rows` does, with a literal number of blocks for few blocks, which unrolls the loops.
+/// Does what `span_of_rows` does, with a literal number of blocks for up to four blocks, which unrolls the loops.
 #[inline(always)]
 fn span_of_machine<L: StateLanes>(
     each: usize,
@@ -170,7 +170,7 @@ pub(crate) fn take_spans<L: StateLanes>(
     }
 }
 
-/// Answers `span`, or the greatest number if `span` reaches `limit`, since the pass may then have stopped early.
+/// Answers `span`, or `u64::MAX` if `span` reaches `limit`, since the pass may then have stopped early.
 #[inline(always)]
 fn kept_ceiling(span: u64, limit: u64) -> u64
     ensures { ((span < limit) × (result ≡ span)) ⊎ ((limit ≤ span) × (result ≡ 2 ^ 64 - 1)) }
@@ -179,8 +179,8 @@ fn kept_ceiling(span: u64, limit: u64) -> u64
 }
 
 /// Writes into `ceilings`, for each machine, the greatest of `least` and its spans from the heads within its raise, or
-/// the greatest number where that reaches `limit`. Answers the greatest of all these. Empties the raises. All numbers
-/// are one more than the bounds that they stand for, like heads in lanes.
+/// `u64::MAX` where that reaches `limit`. Answers the greatest of all these. Empties the raises. All numbers are one
+/// more than the bounds that they stand for, like heads in lanes.
 #[inline(always)]
 pub(crate) fn take_ceilings<L: StateLanes>(
     raises: &mut [LaneRaise<L::Number>],

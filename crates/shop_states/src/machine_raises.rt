@@ -25,8 +25,8 @@ use shop_layout::{Grid, Routes};
 use std::alloc::{AllocError as NoMemory, Global};
 use std::marker::Model;
 
-/// How far heads rose on each machine in a dispatch; empty between dispatches. `raise` answers the set of the machines
-/// with a raise, so that `take_bound` visits these machines alone.
+/// How far noted heads rose on each machine, in a dispatch or where children are bounded together; empty between.
+/// `raise` answers the set of the machines with a raise, so that `take_bound` visits these machines alone.
 #[derive(Drop)]
 pub struct MachineRaises<L: StateLanes> {
     /// raises[machine]: of the heads noted on that machine, the least value before they rose and the greatest after
@@ -103,8 +103,8 @@ impl<L: StateLanes> MachineRaises<L> {
 
     /// Answers the greatest of `least` and the spans of the machines in `raised` from their raised heads. The span from
     /// a head is the greatest end, tail included, of the machine's operations with no lesser head, served by rank from
-    /// that head on. May stop once the bound reaches `limit`. Empties the raises. Skips a machine whose ceiling, if it
-    /// has one, is at most one more than the bound so far.
+    /// that head on. May stop once the bound reaches `limit`. Empties the raises. Skips a machine whose entry in
+    /// `ceilings`, if it has one, is at most one more than the bound so far.
     #[inline(always)]
     pub(crate) fn take_bound(
         &mut self,
@@ -171,8 +171,8 @@ impl<L: StateLanes> MachineRaises<L> {
     }
 
     /// Writes into `ceilings`, for each machine, one more than the greatest of `least` and its spans from the heads
-    /// within its raise, or the greatest number where that reaches `limit`. Answers one less than the greatest of these
-    /// numbers. Empties the raises.
+    /// within its raise, or `u64::MAX` where that reaches `limit`. Answers one less than the greatest of these numbers.
+    /// Empties the raises.
     #[inline(always)]
     pub(crate) fn take_ceilings(
         &mut self,

@@ -1,4 +1,4 @@
-// Raises heads after an operation is dispatched.
+// Raises heads after an operation is dispatched. `delays.rt` does the same without notes.
 ghost use Rattle.std.specs.Prelude.{◌≡◌, ◌+◌, ◌≤◌, ◌<◌, ◌^◌, [], length, slice_index};
 ghost use Rattle.shop_layout.specs.Lanes.{rows_of};
 ghost use Rattle.shop_states.specs.inner.Dispatches.{AreDelayedOn};

@@ -237,6 +237,7 @@ fn positions_of<L: StateLanes>(grid: &Grid<L>, machine: usize) -> (usize, usize)
     ensures first { result.0 ≡ 8 * slice_index grid.now.blocks machine }
     ensures behind { result.1 ≡ 8 * slice_index grid.now.blocks (machine + 1) }
 {
+    // no machine ends behind the last block: nothing is cut
     let blocks = grid.positions() / 8;
     let first = grid.block(machine).min(blocks);
     let behind = grid.block(machine + 1).min(blocks);

@@ -20,10 +20,10 @@ pub struct Scratch<L: StateLanes> {
     pub(crate) free: Vec<u64>,
     /// the first jobs of the last filled word with their placement, since the next word often shares them
     pub(crate) beginning: Beginning,
-    /// how far heads rose on each machine in a dispatch; empty between dispatches
+    /// how far noted heads rose on each machine, in a dispatch or where children are bounded together; empty between
     pub(crate) raises: MachineRaises<L>,
-    /// owns[i]: how late a machine's operations end, tails included, if the one at its place `i` goes first; there is
-    /// room for the machine with the most operations
+    /// owns[i]: how late the operation at place `i` of a machine, and the others with their tails, end if it goes
+    /// first; there is room for the machine with the most operations
     pub(crate) owns: Vec<L::Number>,
     /// ceilings[machine]: one more than a bound on that machine that no child exceeds, for the word bounded last
     pub(crate) ceilings: Vec<u64>,

@@ -4,10 +4,10 @@ ghost use Rattle.shop_model.specs.Shop.{operation_count};
 
 use shop_model::{Instance, Word};
 
-/// From which product on the children of a word are bounded together: of its candidates and of the operations that it
-/// leaves for each machine, on average. To bound them together takes about as long as a trial. The more candidates
-/// there are, the more trials it spares; and near full words fewer children are settled, and more of those are walked,
-/// each in a state that is filled from its word. Measured from 10 x 10 to 200 x 15.
+/// The children of a word are bounded together from this product on: the number of its candidates times the operations
+/// that it leaves for each machine, on average. To bound them together takes about as long as a trial. The more
+/// candidates there are, the more trials it spares; and near full words fewer children are settled, and more of those
+/// are walked, each in a state that is filled from its word. Measured from 10 x 10 to 200 x 15.
 const TOGETHER: usize = 36;
 
 /// The progress of a walk: the word found last, the best makespan, and how many more nodes it may take (`budget`).

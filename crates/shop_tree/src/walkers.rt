@@ -21,7 +21,7 @@ pub(crate) struct Walker<'l, 'a, D: Dispatching<S>, S: Drop> {
     pub(crate) path: Vec<u16>,
     pub(crate) stack: Vec<Held<S>>,
     pub(crate) candidates: Vec<Candidate>,
-    /// entries of the stack below this index have given up their states
+    /// entries of the stack below this index have no states any more
     pub(crate) stripped: usize,
     pub ghost same_shop: { D.shop states.dispatcher.now ≡ progress.instance.now },
     pub ghost room: { length progress.instance.now.jobs ≤ vec_capacity candidates },

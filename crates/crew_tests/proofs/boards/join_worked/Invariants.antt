@@ -9,7 +9,8 @@ abbrev HasWorked : Board → Worked → Type 0
 HasWorked b w = HasServedOf b w.seat w.won
 
 abbrev pub invariant-loop-worked : goal.invariant-loop-worked
-invariant-loop-worked g l = HasWorked l.board l.joined × All (λ (o : Option Worked). IfSome o (HasWorked l.board)) l.all.items
+invariant-loop-worked g l =
+    HasWorked l.board l.joined × All (λ (o : Option Worked). IfSome o (HasWorked l.board)) l.all.items
 
 abbrev pub decreases-loop-worked : goal.decreases-loop-worked
 decreases-loop-worked g l = vec_len l.all
