@@ -6,8 +6,8 @@
 //!     baseline check [--format F] [--name N] FILE
 //!
 //! Prints what the program prints, but for faults: it expects words and texts to be sound. The search goes over rows of
-//! lanes: on a machine, the operations that wait are bounded eight at a time. Each open child of a walk has the state
-//! that its word leaves, so that nothing is ever taken back.
+//! lanes: on a machine, the operations that wait are bounded eight at a time. Each open child of a walk that was tried
+//! has the state that its word leaves, so that nothing is ever taken back; a settled one is filled from its word.
 
 #![feature(portable_simd)]
 
