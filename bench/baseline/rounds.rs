@@ -154,7 +154,8 @@ fn layout_for<T: Lane, const BLOCKS: usize>(instance: &Instance, words: &[Vec<u1
     Layout::new(instance, &ranks)
 }
 
-/// Searches rounds until no node is open or so many are done, with so many threads beside this one. Tells how many were.
+/// Searches rounds until no node is open or so many are done, with so many threads beside this one. Tells how many
+/// were.
 fn search<T: Lane, const BLOCKS: usize>(
     run: &mut Run<T>,
     plan: &Plan,
@@ -183,9 +184,9 @@ fn search<T: Lane, const BLOCKS: usize>(
     done
 }
 
-/// The answer of a plan on an instance, with lanes that are wide enough for it, and so many blocks of them a machine. The
-/// first round has the empty word alone: where machines are ordered, those behind it have a layout for the words of the
-/// second.
+/// The answer of a plan on an instance, with lanes that are wide enough for it, and so many blocks of them a machine.
+/// The first round has the empty word alone: where machines are ordered, those behind it have a layout for the words of
+/// the second.
 fn answer_in<T: Lane, const BLOCKS: usize>(instance: &Instance, plan: &Plan) -> Answer {
     let mut run = Run::new(instance, plan.order);
     let mut paths = Paths::default();
