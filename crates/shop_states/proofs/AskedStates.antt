@@ -42,9 +42,6 @@ module _ {greatest : ℕ} {d : LaidOutState} {w : List ℕ} {rows : Rows} {nexts
   pub bound_there : {bound : ℕ} → bound ≡ lb d.asked w → bound ≡ lb d.shop w
   bound_there is = is ∙ sym (of.alike.bounds w of.word)
 
-  pub word_there : (j : ℕ) → IsWord d.asked (w ++ j ∷ []) → IsWord d.shop (w ++ j ∷ [])
-  word_there j fits = (of.alike.words (w ++ j ∷ [])).0 fits
-
   pub bound_behind : (j : ℕ) → IsWord d.shop (w ++ j ∷ []) → lb d.shop (w ++ j ∷ []) ≡ lb d.asked (w ++ j ∷ [])
   bound_behind j fits = of.alike.bounds (w ++ j ∷ []) ((of.alike.words (w ++ j ∷ [])).1 fits)
 

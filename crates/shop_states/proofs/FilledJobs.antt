@@ -1,15 +1,14 @@
 -- The next operations that a fill finds, and their ends.
-use Rattle.std.proofs.Common.{◌≡◌, ℕ, ◌+◌, ◌≤◌, ◌<◌, max, inl, inr, List, length, get_or, set, refl, sym, ◌∙◌, ap}
+use Rattle.std.proofs.Common.{◌≡◌, ℕ, ◌+◌, ◌≤◌, ◌<◌, max, List, length, get_or, set, refl, sym, ◌∙◌, ap}
 use Rattle.std.proofs.Common.{arith, subst}
 use Rattle.std.proofs.lemmas.Bool.{cases_eq}
 use Rattle.std.proofs.lemmas.Grind.{get_or-set_at}
 use Rattle.std.proofs.lemmas.List.{get_or-set_other, length-set}
 use Rattle.shop_lanes.specs.Rows.{Rows}
 use Rattle.shop_model.specs.Placements.{PlacementState, IsPlacement}
-use Rattle.shop_model.specs.Shop.{Shop, IsOperation, machine_of, route_of}
+use Rattle.shop_model.specs.Shop.{Shop, route_of}
 use Rattle.shop_model.specs.Word.{Placing, placing}
 use Rattle.shop_model.proofs.Unders.{after_word}
-use Rattle.shop_bound.specs.Conflicts.{next_end}
 use Rattle.shop_layout.specs.declared.legs.Leg.{Leg}
 use Rattle.shop_layout.specs.Legs.{all_legs, end_of, leg_index}
 use Rattle.shop_layout.specs.Positions.{LayoutState, first_position, place_or}
@@ -47,65 +46,14 @@ module _ {greatest : ℕ} {shop : Shop} {l : LayoutState} {rows : Rows} (can : C
   pub end_set : leg.position < n → {head : ℕ} → head ≡ max ready (get_or free leg.machine 0) → {old new : List ℕ}
       → new ≡ set old j (head + leg.time + 1) → j < length old → IsNextSet shop l p j leg.position old new
   end_set below {head} greater {old} {new} wrote there =
-      let op = step_there can.limits can.laid j job (p.steps j) within same at_step is count below
-      in let found = leg_is can.limits can.laid j job (p.steps j) within same at_step is op
-      in let m = machine_of shop j (p.steps j)
-      in let begins : ready ≡ p.ready j = at.ready_is ∙ placed.ready j job
-      in let frees : get_or free leg.machine 0 ≡ p.free m =
-      ap (λ (xs : List ℕ). get_or xs leg.machine 0) at.free_is
-      ∙ (ap (λ (i : ℕ). get_or s.free i 0) found.machine ∙ placed.free m (can.limits.on_machines j (p.steps j)))
-      in let time = found.time
-      in let v = head + leg.time + 1
-      in record {
-        is = position_is;
-        long = ap length wrote ∙ length-set old j v;
-        next = λ op. ap (λ (xs : List ℕ). get_or xs j 0) wrote
-            ∙ (get_or-set_at old j j v 0 refl there ∙ omega arith);
-        none = λ past. absurd (omega arith);
-        others = λ i ne. ap (λ (xs : List ℕ). get_or xs i 0) wrote ∙ get_or-set_other old j i v 0 ne;
-      }
-
--- of no job so far
-pub nexts_begin : {shop : Shop} {l : LayoutState} {p : Placing} {nexts ends : List ℕ}
-    → AreNextsSet shop l p 0 nexts nexts ends ends
-nexts_begin = record {
-  jobs = refl;
-  long = refl;
-  are = λ j below. absurd (omega arith);
-  later = λ j above. refl;
-  next = λ j below. absurd (omega arith);
-  none = λ j past. refl;
-}
+      grind (arith, step_there, within, at_step, leg_is, position_is, length-set, get_or-set_at, get_or-set_other)
 
 -- of one more job
 module _ {shop : Shop} {l : LayoutState} {p : Placing} {n : ℕ} {old now before here : List ℕ}
     (so_far : AreNextsSet shop l p n old now before here) (known : n < length old) where
   pub nexts_more : {position : ℕ} {after : List ℕ} → IsNextSet shop l p n position here after
       → AreNextsSet shop l p (n + 1) old (set now n position) before after
-  nexts_more {position} {after} one = record {
-    jobs = length-set now n position ∙ so_far.jobs;
-    long = one.long ∙ so_far.long;
-    are = λ j below. elim (cases_eq j n) [
-      | inl f ↦ get_or-set_at now n j position 0 f (let a = so_far.jobs in omega arith)
-          ∙ (one.is ∙ ap (λ (x : ℕ). place_or (first_position l shop.machines) l.places x (p.steps x)) (sym f))
-      | inr ne ↦ get_or-set_other now n j position 0 ne ∙ so_far.are j (omega arith)
-    ];
-    later = λ j above. get_or-set_other now n j position 0 (λ f. omega arith) ∙ so_far.later j (omega arith);
-    next = λ j below op. elim (cases_eq j n) [
-      | inl f ↦ (let op_n : IsOperation shop n (p.steps n) = subst (λ (x : ℕ). IsOperation shop x (p.steps x)) f op
-          in ap (λ (x : ℕ). get_or after x 0) f
-          ∙ (one.next op_n ∙ ap (λ (x : ℕ). next_end shop p x + 1) (sym f)))
-      | inr ne ↦ one.others j ne ∙ so_far.next j (omega arith) op
-    ];
-    none = λ j past. elim (cases_eq j n) [
-      | inl f ↦ (let past_n : length (route_of shop n) ≤ p.steps n =
-          subst (λ (x : ℕ). length (route_of shop x) ≤ p.steps x) f (past (omega arith))
-          in ap (λ (x : ℕ). get_or after x 0) f
-          ∙ (one.none past_n ∙ (so_far.none n (λ less. absurd (omega arith))
-          ∙ ap (λ (x : ℕ). get_or before x 0) (sym f))))
-      | inr ne ↦ one.others j ne ∙ so_far.none j (λ below. past (omega arith))
-    ];
-  }
+  nexts_more {position} {after} one = grind (arith, length-set, cases_eq, get_or-set_at, get_or-set_other)
 
 -- by what is kept of the jobs of a word
 module _ {shop : Shop} {l : LayoutState} {old ready free : List ℕ} (is : IsWordAt shop l old ready free) where

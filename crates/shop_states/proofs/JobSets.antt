@@ -66,13 +66,14 @@ bits_in : (n at word i : ℕ) → i < n → bit_at word i ≡ 1 → IsIn (set_bi
 bits_in zero at word i lt is = absurd (omega arith)
 bits_in (suc n) at word zero lt is = grind (arith, set_bits-odd, bit_at_lowest)
 bits_in (suc n) at word (suc i) lt is =
-    let e : at + 1 + i ≡ at + suc i = omega arith
-    in let rest = subst (IsIn (set_bits n (at + 1) (word / 2))) e
-    (bits_in n (at + 1) (word / 2) i (omega arith) (sym (bit_at-suc word i) ∙ is))
-    in elim (cases_eq (word % 2) 1) [
-      | inl odd ↦ subst (λ (xs : List ℕ). IsIn xs (at + suc i)) (sym (set_bits-odd n at word odd)) (inr rest)
-      | inr other ↦ subst (λ (xs : List ℕ). IsIn xs (at + suc i)) (sym (set_bits-even n at word (omega arith))) rest
-    ]
+    grind (
+      arith,
+      bit_at-suc,
+      cases_eq,
+      set_bits-odd,
+      set_bits-even,
+      bits_in n (at + 1) (word / 2) i (omega arith) (sym (bit_at-suc word i) ∙ is),
+    )
 
 none_rise : (at word : ℕ) → Rises (set_bits zero at word)
 unfolding set_bits
@@ -108,13 +109,19 @@ no_bit a small other = omega arith
 pub bit_put : (at word k : ℕ) → k < 64
     → HasPut (at + k) (set_bits 64 at word) (set_bits 64 at (bit_or word (2 ^ k)))
 bit_put at word k lt =
-    let new = bit_or word (2 ^ k)
-    in record {
-      kept = λ q h. grind (arith, in_bits, bits_in, one_of_two, bit_at_or, bit_at-lt);
-      gathered = λ q is. grind (arith, bits_in, one_of_two, bit_at_or, bit_at-lt, bit_at-pow_same);
-      only = λ q h.
-          grind (arith, in_bits, cases_eq, bits_in, other_of_two, bit_at_or, no_bit, bit_at-lt, bit_at-pow_other);
-    }
+    grind (
+      arith,
+      in_bits,
+      bits_in,
+      one_of_two,
+      bit_at_or,
+      bit_at-lt,
+      bit_at-pow_same,
+      cases_eq,
+      other_of_two,
+      no_bit,
+      bit_at-pow_other,
+    )
 
 -- what is put into a part is put into the whole
 pub more_behind : (P : ℕ → Type 0) (old new rest : List ℕ) → HasGathered P old new → HasGathered P (old ++ rest)

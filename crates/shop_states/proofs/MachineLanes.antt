@@ -1,9 +1,9 @@
 -- The lanes of a machine's blocks are its operations that wait, by nonincreasing tail.
 use Rattle.std.proofs.Common.{◌≡◌, ℕ, zero, suc, ◌+◌, ◌-◌, ◌*◌, ◌≤◌, ◌<◌, inl, inr, true, false, List}
-use Rattle.std.proofs.Common.{[], ◌∷◌, length, get_or, drop, refl, sym, ◌∙◌, ap, subst, arith}
-use Rattle.std.proofs.lemmas.Bool.{cases_Bool, cases_eq, cases_lt, leb-true, le-leb, true≢false}
+use Rattle.std.proofs.Common.{[], ◌∷◌, length, get_or, refl, sym, ◌∙◌, ap, arith}
+use Rattle.std.proofs.lemmas.Bool.{cases_Bool, cases_eq, cases_lt, leb-true, le-leb}
 use Rattle.std.proofs.lemmas.List.{get_or-take, get_or-drop}
-use Rattle.shop_lanes.specs.Rows.{Lane, lanes, lanes_of, blocks, place_at_rank}
+use Rattle.shop_lanes.specs.Rows.{Lane, lanes, lanes_of, blocks}
 use Rattle.shop_lanes.proofs.Columns.{by_columns-at, length-by_columns}
 use Rattle.shop_lanes.proofs.LaneLists.{lane_at, length-lanes, length-blocks}
 use Rattle.shop_model.specs.Limits.{IsWithinLimits}
@@ -124,13 +124,17 @@ module _ {shop : Shop} (limits : IsWithinLimits shop) {l : LayoutState} (laid : 
         → get_or machine_lanes i d ≡ lane_at hs l.times l.tails (position_at_rank l.blocks m i)
     unfolding machine_lanes
     lane_in i d below =
-        let within = machine_within
-        in let q = place_at_rank (to - from) i
-        in let there = position_within l.blocks m i below
-        in by_columns-at (to - from) (blocks from to (lanes hs l.times l.tails)) whole_blocks i d (omega arith)
-        ∙ get_or-take (8 * to - 8 * from) (drop (8 * from) (lanes hs l.times l.tails)) q d (omega (arith, there))
-        ∙ get_or-drop (8 * from) (lanes hs l.times l.tails) q d
-        ∙ lane_here hs l.times l.tails (8 * from + q) d lanes_as_many.0 lanes_as_many.1 (omega (arith, there, within))
+        grind (
+          arith,
+          machine_within,
+          position_within,
+          by_columns-at,
+          whole_blocks,
+          get_or-take,
+          get_or-drop,
+          lane_here,
+          lanes_as_many,
+        )
 
     machine_long : length machine_lanes ≡ first_position l (m + 1) - first_position l m
     unfolding machine_lanes
@@ -144,34 +148,19 @@ module _ {shop : Shop} (limits : IsWithinLimits shop) {l : LayoutState} (laid : 
         (lanes_of hs l.times l.tails (get_or l.blocks m 0) (get_or l.blocks (m + 1) 0))
     unfolding machine_lanes
     lanes_matched R related =
-        let long = machine_long
-        in let room = (laid.each m known).room
-        in slots_matched R shop p machine_lanes (slots_of m) (omega arith)
-        (λ i d e here left.
-        let s = get_or (slots_of m) i d
-        in let op = slots_are_operations shop m (slots_of m) (laid.are.slots m known) i d here
-        in let at = (laid.each m known).at i d here
-        in let a = leb-true (p.steps s.job) s.step left
-        in let w = stored.waiting s.job s.step op.step (omega arith)
-        in let head : get_or hs (position_at_rank l.blocks m i) 0 ≡ f s.job s.step + 1 =
-        ap (λ (q : ℕ). get_or hs q 0) (sym at.place) ∙ w
-        in let lane : lane_at hs l.times l.tails (position_at_rank l.blocks m i)
-        ≡ record { head = f s.job s.step + 1; time = s.time; tail = s.tail } =
-        (let c = at.time in let g = at.tail in cc)
-        in subst (λ (x : Lane). R (triple_of shop p s) x) (sym (lane_in i e (omega arith) ∙ lane))
-        (related s op.step op.machine (omega arith)))
-        (λ i d e here placed.
-        let s = get_or (slots_of m) i d
-        in let op = slots_are_operations shop m (slots_of m) (laid.are.slots m known) i d here
-        in let at = (laid.each m known).at i d here
-        in let h = ap (λ (x : Lane). x.head) (lane_in i e (omega arith))
-        in elim (cases_lt s.step (p.steps s.job)) [
-          | inl low ↦ grind arith
-          | inr high ↦ absurd (true≢false (sym (le-leb (p.steps s.job) s.step high) ∙ placed))
-        ])
-        (λ i e behind here.
-        let h = ap (λ (x : Lane). x.head) (lane_in i e (omega arith))
-        in h ∙ stored.padding (position_at_rank l.blocks m i) (none_behind m i known behind (omega arith)))
+        grind (
+          arith,
+          machine_long,
+          slots_matched,
+          slots_are_operations,
+          leb-true,
+          lane_at,
+          triple_of,
+          lane_in,
+          cases_lt,
+          le-leb,
+          none_behind,
+        )
 
   -- the lanes of what waits for a machine
   pub left_matched : (m : ℕ) → m < shop.machines → (p : Placing) (hs : List ℕ) → AreHeadsAt shop p l hs

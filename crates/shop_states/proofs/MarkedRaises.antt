@@ -17,21 +17,13 @@ use Rattle.shop_states.proofs.Watching.{sees_both, sees_none}
 -- a machine of a few blocks is marked to its end
 pub all_marked : (l : LayoutState) (m each : ℕ) → AreEven l.blocks each → 0 < each → each ≤ 8
     → m + 1 < length l.blocks → get_or l.blocks (m + 1) 0 ≡ marked_up_to l m
-all_marked l m each even some few known =
-    let here = (even some).at m (omega arith) in let behind = (even some).at (m + 1) known
-    in let one : each * (m + 1) ≡ each * m + each = grind arith
-    in omega arith
+all_marked l m each even some few known = grind arith
 
 module _ (greatest : ℕ) (l : LayoutState) (nexts : List ℕ) (old : Rows) (marks : List ℕ) (from to e : ℕ)
     (ordered : from ≤ to) (within : 8 * to ≤ length old.heads) (are : marks ≡ positions_among old.heads from to e) where
   pub can_raise_marked : (machines : ℕ) → CanRaise greatest l nexts (IsInBlocks from to) e old machines
       → CanRaise greatest l nexts (IsIn marks) e old machines
-  can_raise_marked machines can = record {
-    fits = can.fits;
-    raisable = marks_raisable old from to e ordered within are can.raisable;
-    jobs = can.jobs;
-    known = can.known;
-  }
+  can_raise_marked machines can = grind (arith, marks_raisable)
 
   pub has_raised_marked : (new : Rows) (before after : List Raise) (listed : List ℕ)
       → HasRaised greatest l nexts (IsIn marks) e old new before after listed
@@ -68,12 +60,7 @@ module _ (greatest : ℕ) (l : LayoutState) (nexts : List ℕ) (first behind e :
   module _ (from to : ℕ) (now : Rows) (mid : List Raise) (on : from ≤ to) (within : to ≤ behind)
       (so_far : AreRaisedUpTo greatest l nexts first from behind e old now before mid) where
     pub can_raise_on : CanRaise greatest l nexts (IsInBlocks from to) e now (length mid)
-    can_raise_on = record {
-      fits = can.fits;
-      raisable = blocks_raisable to behind so_far.raises so_far.ordered on within can.raisable;
-      jobs = can.jobs;
-      known = λ q here. let long = so_far.machines in let known = can.known q here in omega arith;
-    }
+    can_raise_on = grind (arith, blocks_raisable)
 
     pub raised_on : (new : Rows) (after : List Raise) (listed : List ℕ)
         → HasRaised greatest l nexts (IsInBlocks from to) e now new mid after listed

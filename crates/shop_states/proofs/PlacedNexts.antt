@@ -62,20 +62,17 @@ module _ {shop : Shop} (limits : IsWithinLimits shop) {l : LayoutState} {p : Pla
       placed_more : {i : ℕ} → i ≡ get_or legs j 0 + 1
           → IsPlacedAt shop (place_next shop p j) l (set legs j i) (set ready j e) (set free leg.machine e)
       placed_more {i} next =
-          let n = place_next-is shop p j
-          in let known = job_known
-          in let on_machine = machine_known
-          in let end = finish
-          in let begins = n.begins_here
-          in let m = leg.machine
-          in record {
-            next_jobs = length-set legs j i ∙ at.next_jobs;
-            jobs = length-set ready j e ∙ at.jobs;
-            machines = length-set free m e ∙ at.machines;
-            next_at = λ a there. grind (arith, cases_eq, get_or-set_at, get_or-set_other);
-            ready_at = λ i there. grind (arith, cases_eq, get_or-set_at, get_or-set_other);
-            free_at = λ i there. grind (arith, cases_eq, get_or-set_at, get_or-set_other);
-          }
+          grind (
+            arith,
+            place_next-is,
+            job_known,
+            machine_known,
+            finish,
+            length-set,
+            cases_eq,
+            get_or-set_at,
+            get_or-set_other,
+          )
 
 -- what is read for the entry of a word that comes next is there, and the sum fits
 pub record CanPlaceEntry (read : LayoutState) (j : ℕ) (legs ready free : List ℕ) : Type 0 where
@@ -132,18 +129,17 @@ module _ {shop : Shop} (limits : IsWithinLimits shop) {l : LayoutState} (laid : 
 
   pub can_place_entry : CanPlaceEntry read j legs ready free
   can_place_entry =
-      let known = entry_known
-      in let jobs = at.next_jobs
-      in let readies = at.jobs
-      in let machines = at.machines
-      in record {
-        next = omega arith;
-        job = omega arith;
-        leg = index_there limits laid j entry_known (before.steps j) entry_within same (at.next_at j entry_known);
-        few = grind (arith, leg_small, entry_known, entry_within);
-        machine = λ leg is. (let a = machine_known limits at j entry_operation (entry_leg is) in omega arith);
-        small = entry_small;
-      }
+      grind (
+        arith,
+        entry_known,
+        index_there,
+        entry_within,
+        leg_small,
+        machine_known,
+        entry_operation,
+        entry_leg,
+        entry_small,
+      )
 
   pub entry_placed : {leg : Leg} → leg ≡ get_or (all_legs read) (get_or legs j 0) (end_of 0)
       → {e x : ℕ} → e ≡ max (get_or ready j 0) (get_or free leg.machine 0) → x ≡ get_or legs j 0 + 1

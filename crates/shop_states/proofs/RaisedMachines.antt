@@ -17,16 +17,13 @@ use Rattle.shop_states.proofs.LaneBoundTurns.{spans-none}
 module _ {N : Type 0} (value : N → ℕ) where
   pub raise_there : (raises : List (LaneRaise N)) (m : ℕ) (r : LaneRaise N) → m < length raises
       → r ≡ get_or raises m r → raise_in value r ≡ raise_of (raises_in value raises) m
-  raise_there raises m r here read = ap (raise_in value) read
-      ∙ sym (get_or-map (raise_in value) raises m r no_raise here)
+  raise_there raises m r here read = grind (arith, get_or-map)
 
   pub widened_in : (raises : List (LaneRaise N)) (m a b : ℕ) (r w : LaneRaise N) → m < length raises
       → r ≡ get_or raises m r → raise_in value w ≡ widened (raise_in value r) a b
       → raises_in value (set raises m w)
       ≡ set (raises_in value raises) m (widened (raise_of (raises_in value raises) m) a b)
-  widened_in raises m a b r w here read is = map-set (raise_in value) raises m w
-      ∙ ap (λ (x : Raise). set (raises_in value raises) m x)
-      (is ∙ ap (λ (x : Raise). widened x a b) (raise_there raises m r here read))
+  widened_in raises m a b r w here read is = grind (arith, map-set, raise_there)
 
   pub lengths_in : (before after : List (LaneRaise N))
       → length (raises_in value after) ≡ length (raises_in value before) → length after ≡ length before
@@ -36,20 +33,7 @@ module _ {N : Type 0} (value : N → ℕ) where
 pub listed_more : (raises : List Raise) (machines after : List ℕ) (m a b : ℕ) → AreListed raises machines
     → m < length raises → HasPut m machines after
     → AreListed (set raises m (widened (raise_of raises m) a b)) after
-listed_more raises machines after m a b are known put =
-    let long = length-set raises m (widened (raise_of raises m) a b)
-    in record {
-      few = (let f = are.few in omega arith);
-      known = λ n h. elim (put.only n h) [
-        | inl old ↦ (let k = are.known n old in omega arith)
-        | inr e ↦ omega arith
-      ];
-      listed = λ n some. elim (cases_eq n m) [
-        | inl e ↦ subst (IsIn after) (sym e) (put.gathered m refl)
-        | inr ne ↦ put.kept n (are.listed n (let f = ap (λ (r : Raise). r.to)
-            (get_or-set_other raises m n (widened (raise_of raises m) a b) no_raise ne) in omega arith))
-      ];
-    }
+listed_more raises machines after m a b are known put = grind (arith, length-set, cases_eq, get_or-set_other)
 
 -- the first of the list, whose raise is empty now
 module _ {raises : List Raise} {machines rest : List ℕ} {m : ℕ} (are : AreListed raises machines)
@@ -62,9 +46,7 @@ module _ {raises : List Raise} {machines rest : List ℕ} {m : ℕ} (are : AreLi
     raise_elsewhere n ne = get_or-set_other raises m n empty no_raise ne
 
     pub raise_emptied : (n : ℕ) → n ≡ m → (raise_of (set raises m empty) n).to ≡ 0
-    raise_emptied n e =
-        let a = ap (λ (r : Raise). r.to) (get_or-set_same raises m empty no_raise first_known)
-        in let b = ap (λ (x : ℕ). (raise_of (set raises m empty) x).to) e in omega arith
+    raise_emptied n e = grind (arith, get_or-set_same, first_known)
 
     pub listed_less : AreListed (set raises m empty) rest
     listed_less =
@@ -105,10 +87,7 @@ left_less {old} {raises} {machines} {rest} {m} left popped empty none =
 
 -- where nothing is listed, all raises are empty
 pub all_empty : (raises : List Raise) → AreListed raises [] → AreEmpty raises
-all_empty raises are m = elim (cases_lt 0 (raise_of raises m).to) [
-  | inl some ↦ absurd (are.listed m some)
-  | inr none ↦ omega arith
-]
+all_empty raises are m = grind (arith, cases_lt)
 
 -- what begins within the raises before, but for those that are left, is bounded
 pub record IsTakenSo (least limit : ℕ) (old : List Raise) (on : ℕ → List Lane) (raises : List Raise)
@@ -166,18 +145,7 @@ module _ {least limit : ℕ} {old : List Raise} {on : ℕ → List Lane} where
       → IsTakenSo least limit old on raises machines bound
       → AreEmpty raises × (bound < limit → (m : ℕ)
       → spans_between (raise_of old m).from (raise_of old m).to (on m) ≤ bound)
-  taken_all {raises} none so =
-      let empty = all_empty raises (subst (AreListed raises) none so.left.are_listed)
-      in (
-        empty,
-        λ under m. elim (so.covers under m) [
-          | inl same ↦ (let z = empty m
-              in let e = ap (λ (r : Raise). r.to) same
-              in let nothing = spans-none (raise_of old m).from (raise_of old m).to (on m) (on m) (omega arith)
-              in omega arith)
-          | inr done ↦ done
-        ],
-      )
+  taken_all {raises} none so = grind (arith, all_empty, spans-none)
 
 -- what begins within the raises before, but for those that are left, is no more than a number for each machine
 pub record IsFoundSo (least : ℕ) (old : List Raise) (on : ℕ → List Lane) (raises : List Raise)
@@ -190,16 +158,6 @@ pub record IsFoundSo (least : ℕ) (old : List Raise) (on : ℕ → List Lane) (
   pub most : (m : ℕ) → m < length cs → get_or cs m 0 ≤ greatest
 
 module _ {least : ℕ} {old : List Raise} {on : ℕ → List Lane} where
-  pub found_begins : {machines cs : List ℕ} → AreListed old machines → ((m : ℕ) → m < length cs → get_or cs m 0 ≡ least)
-      → IsFoundSo least old on old machines cs least
-  found_begins listed all = record {
-    left = record { are_listed = listed; long = refl; smaller = λ m. omega arith };
-    low = omega arith;
-    least_of = λ m here. (let a = all m here in omega arith);
-    covers = λ m here. inl refl;
-    most = λ m here. (let a = all m here in omega arith);
-  }
-
   pub found_more : {raises : List Raise} {machines rest cs cs' : List ℕ} {greatest : ℕ}
       → IsFoundSo least old on raises machines cs greatest → {m : ℕ} → machines ≡ m ∷ rest
       → (empty : Raise) → empty.to ≡ 0 → (c : ℕ) → cs' ≡ set cs m c → m < length cs
@@ -243,15 +201,4 @@ module _ {least : ℕ} {old : List Raise} {on : ℕ → List Lane} where
       → IsFoundSo least old on raises machines cs greatest
       → AreEmpty raises × ((m : ℕ) → m < length cs
       → spans_between (raise_of old m).from (raise_of old m).to (on m) ≤ get_or cs m 0)
-  found_all {raises} none so =
-      let empty = all_empty raises (subst (AreListed raises) none so.left.are_listed)
-      in (
-        empty,
-        λ m here. elim (so.covers m here) [
-          | inl same ↦ (let z = empty m
-              in let e = ap (λ (r : Raise). r.to) same
-              in let nothing = spans-none (raise_of old m).from (raise_of old m).to (on m) (on m) (omega arith)
-              in omega arith)
-          | inr done ↦ done
-        ],
-      )
+  found_all {raises} none so = grind (arith, all_empty, spans-none)

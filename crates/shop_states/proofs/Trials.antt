@@ -1,6 +1,6 @@
 -- An operation is struck out and its end raises heads: what is known of the bound then, and what is kept.
 use Rattle.std.proofs.Common.{◌≡◌, ℕ, ◌+◌, ◌≤◌, ◌<◌, max, inl, inr, List, [], ◌∷◌, ◌++◌, length}
-use Rattle.std.proofs.Common.{get_or, set, refl, sym, ◌∙◌, ap, subst, arith}
+use Rattle.std.proofs.Common.{get_or, set, refl, sym, ◌∙◌, subst, arith}
 use Rattle.std.proofs.lemmas.Bool.{cases_eq, cases_lt, eq-eqb, ne_eqb}
 use Rattle.std.proofs.lemmas.Grind.{get_or-set_at}
 use Rattle.std.proofs.lemmas.List.{get_or-set_other}
@@ -57,8 +57,7 @@ module _ {greatest : ℕ} {shop : Shop} {w : List ℕ} {l : LayoutState} {hs es 
       on_its = machine_here j kept.kept fits its_place here
 
       machine_known : m < shop.machines
-      machine_known =
-          let a = on_its in let b = kept.kept.limits.on_machines j ((placing shop w).steps j) in omega arith
+      machine_known = grind (arith, on_its)
 
       pub its_blocks : HasBlocks l (length hs) m
       its_blocks = has_blocks kept.kept.limits kept.kept.laid m kept.kept.heads.positions machine_known
@@ -82,18 +81,12 @@ module _ {greatest : ℕ} {shop : Shop} {w : List ℕ} {l : LayoutState} {hs es 
               (firsts j kept fits) (let a = kept.are_next.jobs in let b = kept.ends.jobs in omega arith))
 
           lifted_low : (q : ℕ) → get_or hs' q 0 ≤ get_or hs q 0
-          lifted_low q = elim (cases_eq q x) [
-            | inl eq ↦ (let a = ap (λ (xs : List ℕ). get_or xs q 0) struck
-                in let b = get_or-set_at hs x q 0 0 eq its_position in omega arith)
-            | inr ne ↦ (let a = ap (λ (xs : List ℕ). get_or xs q 0) struck
-                in let b = get_or-set_other hs x q 0 0 ne in omega arith)
-          ]
+          lifted_low q = grind (arith, cases_eq, get_or-set_at, its_position, get_or-set_other)
 
           module _ {new : Rows} (raising : Raises greatest l nexts (IsOnMachine l m) e (rows_of l hs' es') new) where
             raising_sum : Raises greatest l nexts (IsOnMachine l m) (get_or hs x 0 + get_or l.times x 0)
                 (rows_of l hs' es') new
-            raising_sum = subst (λ (k : ℕ). Raises greatest l nexts (IsOnMachine l m) k (rows_of l hs' es') new) end
-                raising
+            raising_sum = grind arith
 
             pub now_heads : AreHeadsInLanes greatest shop (w ++ j ∷ []) l new
             now_heads = advanced j kept.kept fits its_place refl refl wrote on_its raising_sum

@@ -1,8 +1,6 @@
-use Rattle.std.proofs.Common.{ℕ, List, ◌∙◌, ap, get_or, refl, sym, arith, length}
+use Rattle.std.proofs.Common.{ℕ, List, ◌∙◌, ap, refl, arith, length}
 use Rattle.std.proofs.lemmas.List.{length-set}
-use Rattle.shop_lanes.specs.Marks.{positions_among}
 use Rattle.shop_layout.proofs.Written.{written_vec}
-use Rattle.shop_states.specs.inner.Dispatches.{marked_up_to}
 use Rattle.shop_states.proofs.Trials.{its_end, its_job, its_position, trial_blocks, trial_keep, trial_kept}
 use Rattle.shop_states.proofs.Trials.{trial_raisable}
 use Rattle.shop_states.proofs.advances.advance.Goals as goal
@@ -17,10 +15,7 @@ delay-requires-clause-machine g c = trial_blocks c.requires.can.kept c.args.disp
     c.set_head.ensures.ends
 
 pub delay-requires-clause-delayed : goal.delay-requires-clause-delayed
-delay-requires-clause-delayed g c =
-    let l = c.args.grid.now in let m = c.args.dispatch.machine
-    in c.requires.is.delayed_are ∙ ap (λ (hs : List ℕ). positions_among hs (get_or l.blocks m 0) (marked_up_to l m)
-    c.args.dispatch.end) (sym c.set_head.ensures.heads)
+delay-requires-clause-delayed g c = grind arith
 
 pub delay-requires-clause-fits : goal.delay-requires-clause-fits
 delay-requires-clause-fits g c = its_end c.requires.can.kept c.args.dispatch.job c.requires.can.fits
@@ -32,8 +27,7 @@ delay-requires-clause-raisable g c = rw c.as_mut_slice-next.ensures.value (trial
     c.set_head.ensures.heads c.set_head.ensures.ends)
 
 pub delay-requires-clause-jobs : goal.delay-requires-clause-jobs
-delay-requires-clause-jobs g c = rw c.as_mut_slice-next.ensures.value
-    (let nexts = c.requires.can.kept.are_next.jobs in let routes = c.requires.can.kept.kept.laid.jobs in omega arith)
+delay-requires-clause-jobs g c = grind arith
 
 pub go_on-requires-clause-job : goal.go_on-requires-clause-job
 go_on-requires-clause-job g c = rw c.as_mut_slice-next.ensures.value

@@ -1,8 +1,6 @@
-use Rattle.std.proofs.Common.{ℕ, List, ◌∙◌, ap, get_or, refl, sym, arith, length}
+use Rattle.std.proofs.Common.{ℕ, List, ◌∙◌, ap, refl, arith, length}
 use Rattle.std.proofs.lemmas.List.{length-set}
-use Rattle.shop_lanes.specs.Marks.{positions_among}
 use Rattle.shop_layout.proofs.Written.{written_vec}
-use Rattle.shop_states.specs.inner.Dispatches.{marked_up_to}
 use Rattle.shop_states.proofs.Trials.{its_end, its_job, its_position, now_heads, same_machines, trial_blocks}
 use Rattle.shop_states.proofs.Trials.{trial_bound}
 use Rattle.shop_states.proofs.Trials.{trial_keep, trial_kept, trial_raisable, trial_raises_fit, trial_under}
@@ -18,10 +16,7 @@ raise-raised-requires-clause-machine g c = trial_blocks c.requires.can.is.kept c
     c.set_head.ensures.heads c.set_head.ensures.ends
 
 pub raise-raised-requires-clause-delayed : goal.raise-raised-requires-clause-delayed
-raise-raised-requires-clause-delayed g c =
-    let l = c.args.grid.now in let m = c.args.dispatch.machine
-    in c.requires.is.delayed_are ∙ ap (λ (hs : List ℕ). positions_among hs (get_or l.blocks m 0) (marked_up_to l m)
-    c.args.dispatch.end) (sym c.set_head.ensures.heads)
+raise-raised-requires-clause-delayed g c = grind arith
 
 pub raise-raised-requires-clause-can : goal.raise-raised-requires-clause-can
 raise-raised-requires-clause-can g c = rw c.as_mut_slice-next.ensures.value (record {

@@ -1,4 +1,4 @@
-use Rattle.std.proofs.Common.{◌≡◌, ℕ, ◌+◌, ◌∙◌, ap, get_or, min, refl, subst, sym, arith}
+use Rattle.std.proofs.Common.{◌≡◌, ℕ, ◌+◌, ◌∙◌, get_or, min, refl, subst, sym, arith}
 use Rattle.shop_layout.specs.Lanes.{rows_of}
 use Rattle.shop_layout.specs.Positions.{LayoutState}
 use Rattle.shop_states.specs.inner.Raises.{IsInBlocks, IsRaisable, Raises}
@@ -9,19 +9,7 @@ use Rattle.shop_states.proofs.RaiseLoops.{more_blocks, no_blocks}
 use Rattle.shop_states.proofs.delays.delay.Goals as goal
 
 pub loop-from-init : goal.loop-from-init
-loop-from-init g c =
-    let l = c.args.grid.now in let m = c.args.dispatch.machine
-    in let first = get_or l.blocks m 0 in let behind = get_or l.blocks (m + 1) 0 in let end = c.args.dispatch.end
-    in let old = rows_of l (g.L.StateLanes.heads c.args.lanes.now) (g.L.StateLanes.ends c.args.lanes.now)
-    in let read = c.block-from.ensures in let ordered = c.requires.machine.ordered
-    in record {
-      ordered = omega arith;
-      within = omega arith;
-      raises = subst (λ (f : ℕ). Raises g.L.StateLanes.GREATEST l c.args.next.now (IsInBlocks first f) end old old)
-          (sym read) (no_blocks first behind c.requires.raisable);
-      marked = c.requires.delayed ∙ among_same (g.L.StateLanes.heads c.args.lanes.now) end (sym read)
-          (ap (λ (f : ℕ). min (f + 8) behind) (sym read));
-    }
+loop-from-init g c = grind (arith, no_blocks, among_same)
 
 pub delay_marked-requires-clause-marks : goal.delay_marked-requires-clause-marks
 delay_marked-requires-clause-marks g c =

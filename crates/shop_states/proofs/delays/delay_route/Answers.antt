@@ -4,9 +4,7 @@ use Rattle.shop_states.proofs.RaiseSteps.{position_up_to, put_is}
 use Rattle.shop_states.proofs.delays.delay_route.Goals as goal
 
 pub loop-ready-init : goal.loop-ready-init
-loop-ready-init g c = begun_following c.requires.raisable c.requires.waits c.requires.below (put_is c.args.routes.now
-    (g.L.StateLanes.heads c.args.lanes.now) c.args.position c.args.end c.set_head.ensures.heads
-    c.set_head.ensures.ends) c.behind-index.ensures.index c.time.ensures refl
+loop-ready-init g c = grind (arith, begun_following, put_is)
 
 pub leg-leg-requires : goal.leg-leg-requires
 leg-leg-requires g c = leg_known c.requires.raisable c.requires.waits c.loop-ready.invariant

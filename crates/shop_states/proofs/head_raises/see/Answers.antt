@@ -6,14 +6,10 @@ use Rattle.shop_states.proofs.RaisedMachines.{listed_more, widened_in}
 use Rattle.shop_states.proofs.head_raises.see.Goals as goal
 
 pub put-requires-clause-known : goal.put-requires-clause-known
-put-requires-clause-known g c = let few = c.requires.listed.few
-    in let many = length-map c.args.raises.now (raise_in g.L.StateLanes.value) in let known = c.requires.known
-    in omega arith
+put-requires-clause-known g c = grind (arith, length-map)
 
 pub returns-clause-raises : goal.returns-clause-raises
-returns-clause-raises g c = widened_in g.L.StateLanes.value c.args.raises.now c.args.machine c.args.before
-    c.args.after
-    c.index-raises-machine.result c.with_head.result c.requires.known c.index-raises-machine.is c.with_head.ensures
+returns-clause-raises g c = grind (arith, widened_in)
 
 pub returns-clause-listed : goal.returns-clause-listed
 returns-clause-listed g c =

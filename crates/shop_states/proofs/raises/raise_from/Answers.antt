@@ -1,4 +1,4 @@
-use Rattle.std.proofs.Common.{ℕ, List, get_or, ap, subst, arith}
+use Rattle.std.proofs.Common.{ℕ, List, subst, arith}
 use Rattle.shop_states.specs.inner.HeadRaises.{raises_in}
 use Rattle.shop_states.specs.inner.Raises.{IsPosition}
 use Rattle.shop_states.specs.inner.Watchers.{Sees}
@@ -7,32 +7,10 @@ use Rattle.shop_states.proofs.Watching.{sees_long}
 use Rattle.shop_states.proofs.raises.raise_from.Goals as goal
 
 pub set_end_at-requires : goal.set_end_at-requires
-set_end_at-requires g c =
-    let can = c.requires.can.raisable
-    in let within = raised_within can c.requires.waits
-    in let jobs = can.indexed.jobs
-    in record {
-      within = (let timed = can.timed in omega arith);
-      job = omega arith;
-      known = (let job = (can.places c.args.position c.requires.waits).job in let many = c.requires.can.jobs in omega
-          arith);
-      ends = can.ends;
-      fits = raised_fits can c.requires.waits;
-      computable = can.computable;
-    }
+set_end_at-requires g c = grind (arith, raised_within, raised_fits)
 
 pub raise_route-requires : goal.raise_route-requires
-raise_route-requires g c =
-    let same = ap (λ (xs : List ℕ). get_or xs c.args.position 0) c.set_end_at.ensures.heads
-    in let some = c.requires.waits in let below = c.requires.below
-    in record {
-      waits = omega arith;
-      below = omega arith;
-      raisable = mid_raisable c.requires.can.raisable c.set_end_at.ensures;
-      known = c.requires.can.known;
-      machines_fit = c.requires.machines_fit;
-      listed = c.requires.listed;
-    }
+raise_route-requires g c = grind (arith, mid_raisable)
 
 pub returns : goal.returns
 returns g c = record {

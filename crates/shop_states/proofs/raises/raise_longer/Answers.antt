@@ -1,9 +1,8 @@
-use Rattle.std.proofs.Common.{◌≡◌, ℕ, ◌+◌, ◌∙◌, ap, get_or, length, min, refl, subst, sym, arith}
+use Rattle.std.proofs.Common.{◌≡◌, ℕ, ◌+◌, ◌∙◌, get_or, length, min, refl, subst, sym, arith}
 use Rattle.std.proofs.lemmas.List.{length-map}
 use Rattle.shop_layout.specs.Lanes.{rows_of}
 use Rattle.shop_layout.specs.Positions.{LayoutState}
 use Rattle.shop_states.specs.inner.HeadRaises.{raise_in, raises_in}
-use Rattle.shop_states.specs.inner.MachineRaises.{AreListed}
 use Rattle.shop_states.specs.inner.RaiseCalls.{CanRaise, HasRaised}
 use Rattle.shop_states.specs.inner.Raises.{IsInBlocks}
 use Rattle.shop_states.specs.inner.RisingLists.{IsIn}
@@ -14,24 +13,7 @@ use Rattle.shop_states.proofs.RaiseLoops.{marks_waiting}
 use Rattle.shop_states.proofs.raises.raise_longer.Goals as goal
 
 pub loop-from-init : goal.loop-from-init
-loop-from-init g c =
-    let l = c.args.grid.now in let m = c.args.dispatch.machine
-    in let first = get_or l.blocks m 0 in let behind = get_or l.blocks (m + 1) 0 in let end = c.args.dispatch.end
-    in let old = rows_of l (g.L.StateLanes.heads c.args.lanes.now) (g.L.StateLanes.ends c.args.lanes.now)
-    in let before = raises_in g.L.StateLanes.value c.args.raises.now
-    in let many = length-map c.args.raises.now (raise_in g.L.StateLanes.value)
-    in let can = subst (λ (n : ℕ). CanRaise g.L.StateLanes.GREATEST l c.args.next.now (IsInBlocks first behind)
-    end old n)
-    (sym many) c.requires.can
-    in record {
-      raised = subst (λ (f : ℕ). AreRaisedUpTo g.L.StateLanes.GREATEST l c.args.next.now first f behind end old old
-          before before) (sym c.block-from.ensures)
-          (raised_begins g.L.StateLanes.GREATEST l c.args.next.now first behind end old before can
-          c.requires.machine.ordered);
-      marked = c.requires.delayed ∙ among_same (g.L.StateLanes.heads c.args.lanes.now) end (sym c.block-from.ensures)
-          (ap (λ (f : ℕ). min (f + 8) behind) (sym c.block-from.ensures));
-      listed = subst (AreListed before) (sym c.replace-machines.ensures.value) c.requires.listed;
-    }
+loop-from-init g c = grind (arith, length-map, raised_begins, among_same)
 
 pub raise_marked-requires-clause-marks : goal.raise_marked-requires-clause-marks
 raise_marked-requires-clause-marks g c =

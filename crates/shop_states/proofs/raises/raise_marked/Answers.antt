@@ -1,4 +1,4 @@
-use Rattle.std.proofs.Common.{◌∙◌, refl, subst, sym, arith}
+use Rattle.std.proofs.Common.{◌∙◌, subst, sym, arith}
 use Rattle.shop_states.specs.inner.Raises.{IsPosition}
 use Rattle.shop_states.specs.inner.RisingLists.{IsIn}
 use Rattle.shop_states.proofs.RaisedMachines.{lengths_in}
@@ -8,22 +8,14 @@ use Rattle.shop_states.proofs.Watching.{sees_both, sees_none}
 use Rattle.shop_states.proofs.raises.raise_marked.Goals as goal
 
 pub loop-position-init : goal.loop-position-init
-loop-position-init g c =
-    record {
-      raised =
-          marks_begin c.requires.can.raisable c.requires.marks;
-      seen = sees_none;
-      machines = refl;
-      listed = c.requires.listed;
-    }
+loop-position-init g c = grind (arith, marks_begin, sees_none)
 
 pub head-requires : goal.head-requires
 head-requires g c =
     popped_within c.requires.can.raisable c.loop-position.invariant.raised c.in-Some.ensures
 
 pub raise_from-requires-clause-waits : goal.raise_from-requires-clause-waits
-raise_from-requires-clause-waits g c =
-    popped_waits c.requires.can.raisable c.loop-position.invariant.raised c.in-Some.ensures
+raise_from-requires-clause-waits g c = grind (arith, popped_waits)
 
 pub raise_from-requires-clause-can : goal.raise_from-requires-clause-can
 raise_from-requires-clause-can g c = record {
@@ -36,8 +28,7 @@ raise_from-requires-clause-can g c = record {
 }
 
 pub raise_from-requires-clause-machines_fit : goal.raise_from-requires-clause-machines_fit
-raise_from-requires-clause-machines_fit g c = λ fixed. let long = lengths_in g.L.StateLanes.value c.args.raises.now
-    c.loop-position.raises c.loop-position.invariant.machines in let few = c.requires.machines_fit fixed in omega arith
+raise_from-requires-clause-machines_fit g c = grind (arith, lengths_in)
 
 pub loop-position-preserved-then-head-end : goal.loop-position-preserved-then-head-end
 loop-position-preserved-then-head-end g c =

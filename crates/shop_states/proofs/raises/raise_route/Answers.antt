@@ -45,9 +45,7 @@ see-requires-clause-fits g c = (leg_fits c.requires.raisable c.requires.waits c.
     c.leg-leg.ensures c.head_or_greatest-head.ensures c.if-ready-head.false).0
 
 pub see-requires-clause-machines_fit : goal.see-requires-clause-machines_fit
-see-requires-clause-machines_fit g c = λ fixed.
-    let long = lengths_in g.L.StateLanes.value c.args.raises.now c.loop-ready.raises
-    (sees_long c.loop-ready.invariant.seen) in let few = c.requires.machines_fit fixed in omega arith
+see-requires-clause-machines_fit g c = grind (arith, lengths_in, sees_long)
 
 pub see-requires-clause-known : goal.see-requires-clause-known
 see-requires-clause-known g c =

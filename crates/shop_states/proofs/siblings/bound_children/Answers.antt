@@ -49,9 +49,7 @@ raise_late-raised-requires-clause-within g c =
     in let behind = c.positions_of-from.ensures.behind in omega arith
 
 pub raise_late-raised-requires-clause-second : goal.raise_late-raised-requires-clause-second
-raise_late-raised-requires-clause-second g c =
-    let latest = rw c.routes-routes.ensures at c.latest_of-latest.ensures
-    in second_low c.requires.can.kept c.requires.can.siblings latest
+raise_late-raised-requires-clause-second g c = grind (arith, second_low)
 
 pub raise_late-raised-requires-clause-can : goal.raise_late-raised-requires-clause-can
 raise_late-raised-requires-clause-can g c =

@@ -9,19 +9,13 @@ use Rattle.shop_states.specs.inner.Watchers.{no_floor}
 use Rattle.shop_states.proofs.siblings.raise_behind.Goals as goal
 
 pub time-requires : goal.time-requires
-time-requires g c = let within = its_within c.requires.can c.requires.waits in let timed = c.requires.can.timed
-    in omega arith
+time-requires g c = grind (arith, its_within)
 
 pub overflow_add-ready : goal.overflow_add-ready
-overflow_add-ready g c =
-    let end = its_end c.requires.can c.requires.waits in let small = c.requires.can.computable
-    in let time = c.time.ensures in omega arith
+overflow_add-ready g c = grind (arith, its_end)
 
 pub behind-requires : goal.behind-requires
-behind-requires g c =
-    let place = its_place c.requires.can c.requires.waits
-    in let within = its_within c.requires.can c.requires.waits in let jobs = c.requires.can.indexed.jobs
-    in record { job = omega arith; known = place.job; within = place.step }
+behind-requires g c = grind (arith, its_place, its_within)
 
 pub leg-leg-requires : goal.leg-leg-requires
 leg-leg-requires g c = its_leg c.requires.can c.requires.waits c.behind.ensures.index
@@ -48,8 +42,7 @@ see-requires-clause-known g c =
     in let known = c.requires.known c.leg-leg.result.position (omega arith) in omega arith
 
 pub see-requires-clause-fits : goal.see-requires-clause-fits
-see-requires-clause-fits g c =
-    let end = its_end c.requires.can c.requires.waits in let time = c.time.ensures in omega arith
+see-requires-clause-fits g c = grind (arith, its_end)
 
 pub raise_route-requires : goal.raise_route-requires
 raise_route-requires g c =

@@ -1,5 +1,4 @@
-use Rattle.std.proofs.Common.{◌∙◌, inl, inr, refl, arith}
-use Rattle.shop_layout.specs.Lanes.{rows_of}
+use Rattle.std.proofs.Common.{◌∙◌, inl, inr, arith}
 use Rattle.shop_states.specs.inner.Watchers.{no_floor}
 use Rattle.shop_states.proofs.BehindRaises.{late_begins, late_can, late_ends, late_on, late_past}
 use Rattle.shop_states.proofs.Watching.{watch_both, watch_none}
@@ -7,13 +6,7 @@ use Rattle.shop_states.proofs.siblings.raise_late.Goals.{then-is_delayed, else-i
 use Rattle.shop_states.proofs.siblings.raise_late.Goals as goal
 
 pub loop-position-init : goal.loop-position-init
-loop-position-init g c = record {
-  raises = late_begins (rows_of c.args.routes.now (g.L.StateLanes.heads c.args.lanes.now) (g.L.StateLanes.ends
-      c.args.lanes.now)) c.requires.can;
-  noted = watch_none no_floor _ _ _;
-  listed = c.requires.listed;
-  machines = refl;
-}
+loop-position-init g c = grind (arith, late_begins, watch_none)
 
 pub raise_behind-requires-clause-can : goal.raise_behind-requires-clause-can
 raise_behind-requires-clause-can g c =

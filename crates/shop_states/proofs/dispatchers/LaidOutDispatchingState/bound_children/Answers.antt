@@ -1,4 +1,4 @@
-use Rattle.std.proofs.Common.{◌≡◌, ◌∙◌, ℕ, ◌++◌, ◌∷◌, [], List, ap, get_or, length, max, refl, sym, subst, arith}
+use Rattle.std.proofs.Common.{◌≡◌, ◌∙◌, ℕ, ◌++◌, ◌∷◌, [], List, ap, get_or, max, refl, sym, subst, arith}
 use Rattle.std.proofs.lemmas.List.{get_or_default}
 use Rattle.shop_bound.specs.Bound.{lb}
 use Rattle.shop_layout.specs.Lanes.{rows_of}
@@ -66,12 +66,4 @@ returns-clause-known g c = λ w limit others of bound_is lists k d here.
     (subst (λ (j : ℕ). AreChildCeilings shop w c.grid.result.now j c.bound_children.new.ceilings) same known))
 
 pub returns-clause-room : goal.returns-clause-room
-returns-clause-room g c =
-    let heads = ap length c.copy_from.ensures.heads in let ends = ap length c.copy_from.ensures.ends
-    in let positions = c.bound_children.ensures.positions in let after = ap length c.bound_children.ensures.ends
-    in let kept = c.requires.can.is_word.kept.kept.heads.positions in let jobs = c.requires.can.is_word.kept.ends.jobs
-    in record {
-      positions = omega arith;
-      jobs_with_ends = omega arith;
-      jobs_with_nexts = c.requires.room.jobs_with_nexts;
-    }
+returns-clause-room g c = grind arith

@@ -1,4 +1,4 @@
-use Rattle.std.proofs.Common.{◌∙◌, arith, refl, sym}
+use Rattle.std.proofs.Common.{arith, refl}
 use Rattle.shop_states.proofs.CandidateDispatches.{candidate_can, candidate_kept, candidate_told}
 use Rattle.shop_states.proofs.AskedStates.{bound_there, kept_on_some, told_behind}
 use Rattle.shop_states.proofs.ReadStates.{kept_copied, kept_read}
@@ -13,13 +13,7 @@ dispatch_in_copy-dispatch-requires-clause-can g c = record {
 }
 
 pub dispatch_in_copy-dispatch-requires-clause-long : goal.dispatch_in_copy-dispatch-requires-clause-long
-dispatch_in_copy-dispatch-requires-clause-long g c =
-    let from = c.requires.can.is.0.kept in let to = c.requires.to
-    in record {
-      positions = to.positions ∙ sym from.kept.heads.positions;
-      jobs = to.jobs_with_ends ∙ sym from.ends.jobs;
-      nexts = to.jobs_with_nexts ∙ sym from.are_next.jobs;
-    }
+dispatch_in_copy-dispatch-requires-clause-long g c = grind arith
 
 pub advance_below-requires-clause-can : goal.advance_below-requires-clause-can
 advance_below-requires-clause-can g c =
