@@ -1,4 +1,5 @@
 -- One more operation in the heads by position.
+use Rattle.std.proofs.Common.{rules}
 use Rattle.std.proofs.Common.{◌≡◌, ℕ, ◌+◌, ◌≤◌, ◌<◌, ◌^◌, inl, inr, List, [], ◌∷◌, ◌++◌, length}
 use Rattle.std.proofs.Common.{get_or, set, refl, sym, ◌∙◌, ap, subst, arith}
 use Rattle.std.proofs.lemmas.Bool.{cases_eq, cases_lt, lt-ltb, le-ltb}
@@ -47,8 +48,7 @@ module _ {greatest : ℕ} {shop : Shop} {l : LayoutState} {rows : Rows} {w : Lis
       (omega arith) (omega arith))
 
   pub within : {q : ℕ} → q ≡ place l j (before.steps j) → q < length rows.heads
-  within is = let a = place_of shop kept.limits l kept.laid j (before.steps j) first_left in let b = a.within
-      in let c = kept.heads.positions in omega arith
+  within is = search (rules, place_of, first_left)
 
   -- what is read of it
   pub head_is : {q : ℕ} → q ≡ place l j (before.steps j) → get_or rows.heads q 0 ≡ head_of shop before j

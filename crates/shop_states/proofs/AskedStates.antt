@@ -1,4 +1,5 @@
 -- What is known of a word in a layout that numbers machines anew, and of the same word of the instance itself.
+use Rattle.std.proofs.Common.{arith}
 use Rattle.std.proofs.Common.{◌≡◌, ◌≤◌, ◌∙◌, ℕ, inl, inr, List, [], ◌∷◌, ◌++◌, refl, subst, sym}
 use Rattle.std.specs.Prelude.{Option, Some, None, OnSome}
 use Rattle.shop_lanes.specs.Rows.{Rows}
@@ -51,8 +52,7 @@ module _ {greatest : ℕ} {d : LaidOutState} {w : List ℕ} {rows : Rows} {nexts
   -- the bound of a child is told of the instance itself
   pub told_behind : (j limit : ℕ) (told : Option ℕ) → IsWord d.shop (w ++ j ∷ [])
       → TellsBoundBelow limit (lb d.shop (w ++ j ∷ [])) told → TellsBoundBelow limit (lb d.asked (w ++ j ∷ [])) told
-  told_behind j limit told fits tells =
-      subst (λ (b : ℕ). TellsBoundBelow limit b told) (bound_behind j fits) tells
+  told_behind j limit told fits tells = grind (arith, bound_behind)
 
   -- the state of another word follows
   pub kept_on : {v : List ℕ} {rows' : Rows} {nexts' : List ℕ}

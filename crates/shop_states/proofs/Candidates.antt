@@ -1,6 +1,7 @@
 -- The candidates of a word, and what is foreseen of the bound after one.
+use Rattle.std.proofs.Common.{rules}
 use Rattle.std.proofs.Common.{◌≡◌, ℕ, ◌+◌, ◌-◌, ◌<◌, ◌^◌, max, min, List}
-use Rattle.std.proofs.Common.{[], ◌∷◌, ◌++◌, length, get_or, ◌∙◌, ap, arith}
+use Rattle.std.proofs.Common.{[], ◌∷◌, ◌++◌, length, get_or, ap, arith}
 use Rattle.shop_lanes.specs.Rows.{Rows}
 use Rattle.shop_model.specs.Limits.{IsWithinLimits}
 use Rattle.shop_model.specs.Shop.{Shop, IsOperation, machine_of}
@@ -46,8 +47,7 @@ module _ {greatest : ℕ} {shop : Shop} {w : List ℕ} {l : LayoutState} {heads 
     its_place = next_at j kept fits x_is
 
     its_machine : get_or l.machines x 0 ≡ machine_of shop j ((placing shop w).steps j)
-    its_machine = ap (λ (q : ℕ). get_or l.machines q 0) its_place
-        ∙ machine_here kept.kept j fits kept.kept.laid.machines_at
+    its_machine = search (rules, its_place, machine_here)
 
     pub head_is : get_or heads x 0 + get_or l.times x 0
         ≡ (place_next shop (placing shop w) j).free (machine_of shop j ((placing shop w).steps j)) + 1

@@ -1,4 +1,5 @@
 -- What is known of the children of a word once heads are raised as if their machine were free late.
+use Rattle.std.proofs.Common.{rules}
 use Rattle.std.proofs.Common.{◌≡◌, ℕ, ◌+◌, ◌*◌, ◌^◌, ◌≤◌, ◌<◌, inl, inr, List, [], ◌∷◌, ◌++◌, length, get_or}
 use Rattle.std.proofs.Common.{refl, ◌∙◌, ap, arith}
 use Rattle.shop_lanes.specs.Rows.{Rows}
@@ -98,8 +99,7 @@ module _ {greatest : ℕ} {shop : Shop} {w : List ℕ} {l : LayoutState} {hs es 
         among i here = record { at = i; within = here; is = refl }
 
         pub children_known : (i : ℕ) → i < length cs → AreChildCeilings shop w l (job_at cs i) ceilings
-        children_known i here =
-            child_ceilings kept siblings latest (its_from from_is) (its_to to_is) raises ceilings ceiling (among i here)
+        children_known i here = search (rules, child_ceilings, its_from, its_to, ceiling, among)
 
         pub children_settled : length ceilings ≡ shop.machines → (i least : ℕ) → i < length cs
             → IsAdvancing greatest shop w l (rows_of l hs es) nexts (job_at cs i) least → b ≤ least + 1

@@ -1,4 +1,5 @@
 -- The conflict set gathered on the machine of the operation that can end first.
+use Rattle.std.proofs.Common.{rules}
 use Rattle.std.proofs.Common.{◌≡◌, ℕ, ◌+◌, ◌*◌, ◌^◌, ◌≤◌, ◌<◌, List, [], ◌∷◌, length, get_or, subst, arith, refl}
 use Rattle.std.specs.List.{All}
 use Rattle.shop_lanes.specs.Marks.{positions_below}
@@ -87,6 +88,4 @@ module _ {greatest : ℕ} {shop : Shop} {w : List ℕ} {l : LayoutState} {heads 
         → {limit : ℕ} {cs : List Candidate} {others : ℕ}
         → ListsGathered limit (told_at nexts (8 * from) owns) (AreGathered from behind) cs others
         → AreCandidatesOf shop w l limit cs others
-    all_told owns spans {limit} {cs} {others} are =
-        told kept (set_is are.jobs are.gathered) first.chosen chosen.has chosen.machine_is from_is behind_is owns spans
-        limit cs others are.listed
+    all_told owns spans {limit} {cs} {others} are = search (rules, told, set_is)

@@ -1,5 +1,6 @@
 -- The legs of a job's route, in the layout of its instance.
-use Rattle.std.proofs.Common.{◌≡◌, ℕ, zero, suc, ◌+◌, ◌*◌, ◌≤◌, ◌<◌, inl, inr, List, [], ◌∷◌, length, get_or, map}
+use Rattle.std.proofs.Common.{rules}
+use Rattle.std.proofs.Common.{◌≡◌, ℕ, zero, suc, ◌+◌, ◌*◌, ◌≤◌, ◌<◌, List, [], ◌∷◌, length, get_or, map}
 use Rattle.std.proofs.Common.{take, sym, ◌∙◌, ap, arith}
 use Rattle.std.specs.List.{flat_map}
 use Rattle.std.proofs.lemmas.Bool.{cases_lt}
@@ -95,9 +96,4 @@ module _ {shop : Shop} (limits : IsWithinLimits shop) {l : LayoutState} (laid : 
         step_there count below = grind (arith, cases_lt, end_there)
 
         pub step_past : {n : ℕ} → n ≡ length read.following → n ≤ leg.position → length (route_of shop j) ≤ k
-        step_past count above = elim (cases_lt k (length (route_of shop j))) [
-          | inl op ↦ absurd (let a = (leg_is op).position in let b = (place_of shop limits l laid j k op).within
-              in let c = laid.positions.following
-              in let d = ap (λ (x : LayoutState). length x.following) same in omega arith)
-          | inr past ↦ past
-        ]
+        step_past count above = search (rules, cases_lt, leg_is, place_of)

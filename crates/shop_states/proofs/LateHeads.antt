@@ -1,5 +1,6 @@
 -- The heads of a word, raised behind the operations of its candidates' machine as if that were free late: that lanes
 -- have room for them, and that no child's heads are higher, but where its own operation delays them.
+use Rattle.std.proofs.Common.{rules}
 use Rattle.std.proofs.Common.{◌≡◌, ℕ, ◌+◌, ◌*◌, ◌≤◌, ◌<◌, max, inl, inr, List, [], ◌∷◌, ◌++◌, get_or, set}
 use Rattle.std.proofs.Common.{refl, sym, ◌∙◌, ap, subst, arith, cond, ltb}
 use Rattle.std.proofs.lemmas.Bool.{cases_eq, cases_lt, eq-eqb, le-ltb, lt-ltb, ne_eqb}
@@ -164,8 +165,7 @@ module _ {greatest : ℕ} {shop : Shop} {w : List ℕ} {l : LayoutState} {hs es 
       -- what waits elsewhere than at its position
       waits_there : (q : ℕ) → (q ≡ last → ⊥)
           → get_or (set hs (place l t.job ((placing shop w).steps t.job)) 0) q 0 ≡ get_or hs q 0
-      waits_there q ne = struck_other kept.kept t.job (its_word latest.last) q (λ is.
-          ne (is ∙ sym (its_place latest.last)))
+      waits_there q ne = search (rules, struck_other, its_word, its_place)
 
       late_raised : IsRaisedBehind l (IsLateIn from to last t.end t.second) (at_in hs) late_head
       unfolding late_head

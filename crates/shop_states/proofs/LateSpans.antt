@@ -1,4 +1,5 @@
 -- Spans from heads that are raised as if their machine were free late bound those of each child, and so its bound.
+use Rattle.std.proofs.Common.{rules}
 use Rattle.std.proofs.Common.{◌≡◌, ℕ, ◌+◌, ◌*◌, ◌≤◌, ◌<◌, ◌⊎◌, inl, inr, List, [], ◌∷◌, ◌++◌, length, get_or}
 use Rattle.std.proofs.Common.{refl, sym, ◌∙◌, ap, subst, arith}
 use Rattle.std.proofs.lemmas.Bool.{cases_eq, cases_lt, eq-eqb, ne_eqb}
@@ -128,8 +129,7 @@ module _ {greatest : ℕ} {shop : Shop} {w : List ℕ} {l : LayoutState} {hs es 
   pub child_ceilings : (ceilings : List ℕ) → ((m : ℕ) → m < length ceilings → m < shop.machines
       → IsCeiling (get_or ceilings m 0) (lanes_on now l m)) → {j : ℕ} → IsAmong cs j
       → AreChildCeilings shop w l j ceilings
-  child_ceilings ceilings are {j} among rows heads times tails m here known g later =
-      child_span m known among rows heads times tails (get_or ceilings m 0) (are m here known) g later
+  child_ceilings ceilings are {j} among rows heads times tails m here known g later = search (rules, child_span)
 
 -- a child whose machines all have low enough ceilings has the bound that is foreseen
 module _ {greatest : ℕ} {shop : Shop} {w : List ℕ} {l : LayoutState} {rows : Rows} {nexts : List ℕ} {j least : ℕ}

@@ -1,4 +1,5 @@
 -- What is left for a machine, by its slots: what waits for it, so the bound of a word.
+use Rattle.std.proofs.Common.{rules}
 use Rattle.std.proofs.Common.{◌≡◌, ℕ, zero, suc, ◌+◌, ◌-◌, ◌≤◌, ◌<◌, max, inl, inr, Bool, true, false, List, [], ◌∷◌}
 use Rattle.std.proofs.Common.{length, get_or, map, refl, sym, ◌∙◌, ap, arith, eqb, leb}
 use Rattle.std.specs.List.{AllByRecursion, filter, flat_map, range_with_len}
@@ -104,13 +105,7 @@ module _ (shop : Shop) (p : Placing) (m : ℕ) where
   left_of_jobs (j ∷ js) = grind (arith, left_of_job, left_of_jobs js)
 
   left_is_waiting : left_of shop p (operations_on shop m) ≡ triples_on m (waiting shop p)
-  left_is_waiting =
-      let jobs = range_with_len 0 (length shop.jobs)
-      in flat_mapped (triple_of shop p) (is_left p) (λ j. operations_in (route_of shop j) m j) jobs
-      ∙ left_of_jobs jobs
-      ∙ sym (flat_mapped (λ (x : Waiting). x.triple) (λ x. eqb x.machine m)
-      (λ j. map (waiting_at shop p j) (steps_left shop p j)) jobs)
-      ∙ ap (triples_on m) (sym (waiting_is shop p))
+  left_is_waiting = search (rules, flat_mapped, left_of_jobs, waiting_is)
 
   -- so slots in any order have the same bound
   left_one : (slots : List Slot) → AreSlotsOf shop m slots

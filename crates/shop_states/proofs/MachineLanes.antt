@@ -1,4 +1,5 @@
 -- The lanes of a machine's blocks are its operations that wait, by nonincreasing tail.
+use Rattle.std.proofs.Common.{rules}
 use Rattle.std.proofs.Common.{◌≡◌, ℕ, zero, suc, ◌+◌, ◌-◌, ◌*◌, ◌≤◌, ◌<◌, inl, inr, true, false, List}
 use Rattle.std.proofs.Common.{[], ◌∷◌, length, get_or, refl, sym, ◌∙◌, ap, arith}
 use Rattle.std.proofs.lemmas.Bool.{cases_Bool, cases_eq, cases_lt, leb-true, le-leb}
@@ -166,6 +167,4 @@ module _ {shop : Shop} (limits : IsWithinLimits shop) {l : LayoutState} (laid : 
   pub left_matched : (m : ℕ) → m < shop.machines → (p : Placing) (hs : List ℕ) → AreHeadsAt shop p l hs
       → AreMatched IsLaneOf (left_for shop laid.slots p m)
       (lanes_of hs l.times l.tails (get_or l.blocks m 0) (get_or l.blocks (m + 1) 0))
-  left_matched m known p hs heads =
-      lanes_matched m known p heads IsLaneOf
-      (λ s op on left. record { head = refl; time = refl; tail = refl })
+  left_matched m known p hs heads = search (rules, lanes_matched)

@@ -1,4 +1,5 @@
 -- The next operations of a placing, where they stand in lanes.
+use Rattle.std.proofs.Common.{rules}
 use Rattle.std.proofs.Common.{◌≡◌, ℕ, ◌+◌, ◌≤◌, ◌<◌, List, length, get_or, sym, ◌∙◌, ap, arith}
 use Rattle.std.proofs.lemmas.Bool.{cases_lt}
 use Rattle.shop_lanes.specs.Rows.{Rows}
@@ -26,9 +27,7 @@ module _ {shop : Shop} {p : Placing} {l : LayoutState} {nexts : List ℕ} {rows 
       ∙ place_there l (first_position l shop.machines) j (p.steps j) (omega arith)
 
   pub next_within : (j : ℕ) → IsOperation shop j (p.steps j) → get_or nexts j 0 < length rows.heads
-  next_within j op =
-      let at = next_there j op in let a = (place_of shop can.limits l can.laid j (p.steps j) op).within
-      in let b = can.heads.positions in omega arith
+  next_within j op = search (rules, next_there, place_of)
 
   pub next_past : (j : ℕ) → j < length shop.jobs → length (route_of shop j) ≤ p.steps j
       → length rows.heads ≤ get_or nexts j 0

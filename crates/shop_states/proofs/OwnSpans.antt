@@ -1,4 +1,5 @@
 -- Own spans tell the bound after each candidate of a word.
+use Rattle.std.proofs.Common.{rules}
 use Rattle.std.proofs.Common.{◌≡◌, ℕ, zero, suc, ◌+◌, ◌-◌, ◌*◌, ◌≤◌, ◌<◌, max, inl, inr, true, List, [], ◌∷◌, ◌++◌}
 use Rattle.std.proofs.Common.{length, get_or, drop, refl, sym, ◌∙◌, ap, subst, arith}
 use Rattle.std.specs.List.{All}
@@ -82,8 +83,7 @@ module _ {greatest : ℕ} {shop : Shop} {w : List ℕ} {l : LayoutState} {heads 
   -- the own spans of a machine can be told
   module _ (m : ℕ) (known : m < shop.machines) where
     fit : AreSpansFit greatest (latest_end shop + 1) shop.machines l (rows_of l heads ends)
-    fit = spans_fit kept.kept.limits kept.kept.laid greatest kept.holds (rows_of l heads ends) refl refl
-        kept.kept.heads.positions
+    fit = search (rules, spans_fit)
 
     pub its_blocks : AreBlocks (rows_of l heads ends) (get_or l.blocks m 0) (get_or l.blocks (m + 1) 0)
     its_blocks = fit.blocks m known
@@ -110,8 +110,7 @@ module _ {greatest : ℕ} {shop : Shop} {w : List ℕ} {l : LayoutState} {heads 
     its_place = next_at j kept fits refl
 
     pub its_machine : get_or l.machines (get_or nexts j 0) 0 ≡ next_machine shop (placing shop w) j
-    its_machine = ap (λ (q : ℕ). get_or l.machines q 0) its_place
-        ∙ machine_here kept.kept j fits kept.kept.laid.machines_at
+    its_machine = search (rules, its_place, machine_here)
 
     -- the bound after it is no less
     own_low : max (lb shop w) (own_at l heads x - 1) ≤ lb shop (w ++ j ∷ [])
@@ -164,11 +163,7 @@ module _ {greatest : ℕ} {shop : Shop} {w : List ℕ} {l : LayoutState} {heads 
 
       pub is_told : (count : ℕ) → 8 * get_or l.blocks (m + 1) 0 ≤ 8 * get_or l.blocks m 0 + count
           → IsTold nexts (8 * get_or l.blocks m 0) count j
-      is_told count room = record {
-        job = next_known j kept fits;
-        from = its_from;
-        to = (let a = its_to in omega arith);
-      }
+      is_told count room = search (rules, next_known, its_from, its_to)
 
       told_is : (owns : List ℕ)
           → AreOwnSpans heads l.times l.tails (get_or l.blocks m 0) (get_or l.blocks (m + 1) 0) owns

@@ -1,6 +1,7 @@
 -- Next legs, and when jobs are ready and machines free, while a word is placed.
+use Rattle.std.proofs.Common.{rules}
 use Rattle.std.proofs.Common.{◌≡◌, ℕ, ◌+◌, ◌≤◌, ◌<◌, ◌^◌, max, List, [], length, map, take}
-use Rattle.std.proofs.Common.{get_or, set, sym, ◌∙◌, subst, arith}
+use Rattle.std.proofs.Common.{get_or, set, sym, subst, arith}
 use Rattle.std.proofs.lemmas.Bool.{cases_eq}
 use Rattle.std.proofs.lemmas.Grind.{get_or-set_at}
 use Rattle.std.proofs.lemmas.List.{get_or-set_other, length-set, take_more}
@@ -162,21 +163,8 @@ module _ {shop : Shop} (w : List ℕ) {l : LayoutState} {legs ready free : List 
   steps_are j known = grind (arith, get_or-map-range_with_len)
 
   pub placement_is : IsPlacement shop (placing shop w) (placement_at l legs ready free)
-  placement_is = record {
-    places = record {
-      steps = length-map-range_with_len (λ i. step_at l i (get_or legs i 0)) 0 (length legs) ∙ at.next_jobs;
-      ready = at.jobs;
-      free = at.machines;
-    };
-    steps = steps_are;
-    ready = at.ready_at;
-    free = at.free_at;
-  }
+  placement_is = search (rules, length-map-range_with_len, steps_are)
 
 pub of_word_at : {shop : Shop} {l : LayoutState} {legs ready free : List ℕ}
     → IsWordAt shop l legs ready free → IsOfWord shop (placement_at l legs ready free)
-of_word_at is = record {
-  word = is.word;
-  fits = is.fits;
-  placed = placement_is is.word is.placed;
-}
+of_word_at is = search (rules, placement_is)

@@ -1,4 +1,5 @@
 -- Raises one after another.
+use Rattle.std.proofs.Common.{rules}
 use Rattle.std.proofs.Common.{◌≡◌, ℕ, ◌*◌, ◌≤◌, ◌<◌, ◌⊎◌, inl, inr, List, [], ◌∷◌, length, get_or, refl, sym, ◌∙◌}
 use Rattle.std.proofs.Common.{subst, arith}
 use Rattle.std.proofs.lemmas.Bool.{cases_eq, cases_lt}
@@ -159,10 +160,7 @@ module _ {greatest : ℕ} {l : LayoutState} {nexts marks : List ℕ} {e : ℕ} {
 
     pub marks_on : {new : Rows} → Raises greatest l nexts (IsPosition q) e now new
         → AreMarksRaised greatest l nexts marks e rest old new
-    marks_on {new} raised = record {
-      raises = then_raises (IsDone marks rest) so_far.raises raised more_done still_done here_done;
-      to_come = popped_to_come;
-    }
+    marks_on {new} raised = search (rules, then_raises, more_done, still_done, here_done, popped_to_come)
 
     pub marks_past : e ≤ get_or now.heads q 0 → AreMarksRaised greatest l nexts marks e rest old now
     marks_past enough = marks_on

@@ -1,4 +1,5 @@
 -- The least raise of the heads by position, once an operation is placed, has the heads of what is left.
+use Rattle.std.proofs.Common.{rules}
 use Rattle.std.proofs.Common.{◌≡◌, ℕ, zero, suc, ◌+◌, ◌-◌, ◌≤◌, ◌<◌, ◌^◌, inl, inr, List, length}
 use Rattle.std.proofs.Common.{get_or, set, refl, sym, ◌∙◌, ap, subst, arith, cond, ltb}
 use Rattle.std.proofs.lemmas.Bool.{cases_eq, cases_lt, lt-ltb, le-ltb}
@@ -84,17 +85,7 @@ module _ {shop : Shop} (limits : IsWithinLimits shop) {l : LayoutState} (laid : 
     ]
 
     pub heads_in_order : AreInRouteOrder l (at_in hs)
-    heads_in_order i k two some =
-        let op = operation_in i (k + 1) two
-        in let op_k : IsOperation shop i k = omega arith
-        in elim (cases_lt k (p.steps i)) [
-          | inl before ↦ (let a = are.placed i k op_k before in absurd (omega arith))
-          | inr opened ↦ (let x = are.waiting i k op_k opened
-              in let y = are.waiting i (k + 1) op (omega arith)
-              in let z = ready_more shop p i k opened
-              in let t = (place_of shop limits l laid i k op_k).time
-              in omega arith)
-        ]
+    heads_in_order i k two some = search (rules, operation_in, cases_lt, ready_more, place_of)
 
   module _ {p : Placing} {j : ℕ} {q : Placing} (n : IsNext shop p j q) (next : IsOperation shop j (p.steps j)) where
     abbrev machine : ℕ

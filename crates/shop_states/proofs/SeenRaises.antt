@@ -1,4 +1,5 @@
 -- What was seen while heads were raised bounds what is left after one more operation.
+use Rattle.std.proofs.Common.{rules}
 use Rattle.std.proofs.Common.{◌≡◌, ℕ, ◌+◌, ◌-◌, ◌*◌, ◌≤◌, ◌<◌, inl, inr, List, [], ◌∷◌, ◌++◌}
 use Rattle.std.proofs.Common.{length, get_or, refl, sym, ◌∙◌, ap, subst, arith}
 use Rattle.std.proofs.lemmas.Bool.{cases_eq, cases_lt, eq-eqb, ne_eqb}
@@ -131,16 +132,7 @@ module _ {shop : Shop} (limits : IsWithinLimits shop) {l : LayoutState} (laid : 
       raise (floor_on own end m) (get_or was q 0) (get_or now q 0)) where
     risen : (floor : ℕ) → floor_on own end m ≤ floor → (q : ℕ) → first_position l m ≤ q
         → q < first_position l (m + 1) → IsRisen raise.from raise.to floor (get_or was q 0) (get_or now q 0)
-    risen floor foreseen q from to = record {
-      some = waited q;
-      risen = λ some. elim (covered q (machines.at m q known from to) some) [
-        | inl still ↦ elim (cases_lt (get_or was q 0) (get_or now q 0)) [
-          | inl rose ↦ inr (inr (omega arith))
-          | inr stayed ↦ inl (omega arith)
-        ]
-        | inr inside ↦ (let f = inside.0 in let t = inside.1 in inr (inl (omega arith, omega arith)))
-      ];
-    }
+    risen floor foreseen q from to = search (rules, waited, cases_lt)
 
     module _ (rows rows' : Rows) (heads : rows.heads ≡ was) (times : rows.times ≡ l.times)
         (tails : rows.tails ≡ l.tails) (heads' : rows'.heads ≡ now) (times' : rows'.times ≡ l.times)

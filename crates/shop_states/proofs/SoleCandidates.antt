@@ -1,4 +1,5 @@
 -- Where the conflict set is one job, its next operation leaves the bound as it is.
+use Rattle.std.proofs.Common.{rules}
 use Rattle.std.proofs.Common.{◌≡◌, ℕ, zero, suc, ◌+◌, ◌-◌, ◌≤◌, ◌<◌, inl, inr, List, [], ◌∷◌}
 use Rattle.std.proofs.Common.{◌++◌, refl, sym, ◌∙◌, ap, subst, arith, eqb, ltb, true}
 use Rattle.std.specs.List.{best_of}
@@ -138,5 +139,4 @@ module _ (shop : Shop) (w : List ℕ) (word : IsWord shop w) (j : ℕ) (alone : 
 
   pub sole_heads : (i k : ℕ) → IsOperation shop i k → (place_next shop (placing shop w) j).steps i ≤ k
       → head_of shop (place_next shop (placing shop w) j) i k ≡ head_of shop (placing shop w) i k
-  sole_heads = heads_stay shop (placing shop w) j its_sole (place_next shop (placing shop w) j)
-      (place_next-is shop (placing shop w) j)
+  sole_heads = search (rules, heads_stay, its_sole, place_next-is)

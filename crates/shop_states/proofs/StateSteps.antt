@@ -1,4 +1,5 @@
 -- What is kept of a word, with one operation more.
+use Rattle.std.proofs.Common.{rules}
 use Rattle.std.proofs.Common.{◌≡◌, ℕ, ◌+◌, ◌<◌, inl, inr, List, [], ◌∷◌, ◌++◌, length, get_or, set}
 use Rattle.std.proofs.Common.{refl, sym, ◌∙◌, ap, arith}
 use Rattle.std.proofs.lemmas.Bool.{cases_eq}
@@ -81,11 +82,7 @@ module _ {greatest : ℕ} {shop : Shop} {w : List ℕ} (j : ℕ) {l : LayoutStat
 
         -- another job's next operation doesn't stand there
         elsewhere : (i : ℕ) → i < length nexts → (i ≡ j → ⊥) → get_or nexts i 0 ≡ x → ⊥
-        elsewhere i known ne at =
-            let here = within
-            in let a = firsts.own i known (omega arith)
-            in let b = firsts.own j next_known (let c = x_is in omega arith)
-            in ne (sym a ∙ (ap (λ (y : ℕ). get_or l.jobs y 0) (at ∙ x_is) ∙ b))
+        elsewhere i known ne at = search (rules, within, firsts, next_known)
 
         module _ {ended : Rows} (set_end : ended ≡ with_end new j (end_at greatest after new j)) where
           same : HasEnds new new

@@ -1,6 +1,7 @@
 -- What was seen of heads is seen still, raise by raise.
+use Rattle.std.proofs.Common.{rules}
 use Rattle.std.proofs.Common.{◌≡◌, ℕ, ◌≤◌, ◌<◌, inl, inr, List, length, get_or, set, refl, sym, ◌∙◌, ap, subst, arith}
-use Rattle.std.proofs.lemmas.Bool.{cases_eq, eq-eqb}
+use Rattle.std.proofs.lemmas.Bool.{cases_eq}
 use Rattle.std.proofs.lemmas.Grind.{get_or-set_at}
 use Rattle.std.proofs.lemmas.List.{get_or-set_other, length-set}
 use Rattle.shop_states.specs.inner.HeadRaises.{Raise, raise_of, widened}
@@ -64,18 +65,6 @@ module _ (floors : ℕ → ℕ) (ms : List ℕ) where
         ap (λ (xs : List ℕ). get_or xs p 0) wrote ∙ get_or-set_at old p p v 0 refl within in omega arith) up_to;
   }
 
--- what is raised to the end on the machine itself is foreseen
-watch_first : (own end : ℕ) (ms old new : List ℕ) (raises : List Raise) (p : ℕ) → new ≡ set old p end → p < length old
-    → get_or ms p 0 ≡ own → Watches (floor_on own end) ms old new raises raises
-watch_first own end ms old new raises p wrote within on = record {
-  long = refl;
-  seen = λ was so. seen_first (floor_on own end) ms old new raises p end wrote within was
-      (let floor : floor_on own end (get_or ms p 0) ≡ end = rw (eq-eqb (get_or ms p 0) own on) refl
-      in inl (omega arith))
-      so;
-  up_to = λ top small up_to. up_to;
-}
-
 -- as a raise follows a route
 module _ {ms : List ℕ} {p end : ℕ} {old now : List ℕ} {before mid : List Raise}
     (so_far : Sees ms (IsPosition p) end old now before mid) where
@@ -101,8 +90,7 @@ module _ {ms : List ℕ} {p end : ℕ} {old now : List ℕ} {before mid : List R
 
 pub sees_first : {ms : List ℕ} {p end : ℕ} {old new : List ℕ} {raises : List Raise}
     → new ≡ set old p end → p < length old → Sees ms (IsPosition p) end old new raises raises
-sees_first {ms} {p} {end} {old} {new} {raises} wrote within =
-    record { watches = λ own on. watch_first own end ms old new raises p wrote within (on p refl) }
+sees_first {ms} {p} {end} {old} {new} {raises} wrote within = search rules
 
 -- the same where what the first head rises to is noted already
 pub notes_first : {ms : List ℕ} {p end : ℕ} {old new : List ℕ} {raises : List Raise}

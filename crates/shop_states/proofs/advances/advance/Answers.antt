@@ -1,3 +1,4 @@
+use Rattle.std.proofs.Common.{rules}
 use Rattle.std.proofs.Common.{ℕ, List, ◌∙◌, ap, refl, arith, length}
 use Rattle.std.proofs.lemmas.List.{length-set}
 use Rattle.shop_layout.proofs.Written.{written_vec}
@@ -6,20 +7,16 @@ use Rattle.shop_states.proofs.Trials.{trial_raisable}
 use Rattle.shop_states.proofs.advances.advance.Goals as goal
 
 pub set_head-requires-clause-in_range : goal.set_head-requires-clause-in_range
-set_head-requires-clause-in_range g c =
-    its_position c.requires.can.kept c.args.dispatch.job c.requires.can.fits c.requires.is.position_is
+set_head-requires-clause-in_range g c = search (rules, its_position)
 
 pub delay-requires-clause-machine : goal.delay-requires-clause-machine
-delay-requires-clause-machine g c = trial_blocks c.requires.can.kept c.args.dispatch.job c.requires.can.fits
-    c.requires.is.position_is c.requires.is.machine_is c.requires.is.end_is c.set_head.ensures.heads
-    c.set_head.ensures.ends
+delay-requires-clause-machine g c = search (rules, trial_blocks)
 
 pub delay-requires-clause-delayed : goal.delay-requires-clause-delayed
 delay-requires-clause-delayed g c = grind arith
 
 pub delay-requires-clause-fits : goal.delay-requires-clause-fits
-delay-requires-clause-fits g c = its_end c.requires.can.kept c.args.dispatch.job c.requires.can.fits
-    c.requires.is.position_is c.requires.is.machine_is c.requires.is.end_is
+delay-requires-clause-fits g c = search (rules, its_end)
 
 pub delay-requires-clause-raisable : goal.delay-requires-clause-raisable
 delay-requires-clause-raisable g c = rw c.as_mut_slice-next.ensures.value (trial_raisable c.requires.can.kept

@@ -1,3 +1,4 @@
+use Rattle.std.proofs.Common.{rules}
 use Rattle.std.proofs.Common.{ℕ, List, ◌∙◌, ap, refl, arith, length}
 use Rattle.std.proofs.lemmas.List.{length-set}
 use Rattle.shop_layout.proofs.Written.{written_vec}
@@ -7,13 +8,10 @@ use Rattle.shop_states.proofs.Trials.{trial_keep, trial_kept, trial_raisable, tr
 use Rattle.shop_states.proofs.advances.advance_below.Goals as goal
 
 pub set_head-requires-clause-in_range : goal.set_head-requires-clause-in_range
-set_head-requires-clause-in_range g c = its_position c.requires.can.is.kept c.args.dispatch.job c.requires.can.is.fits
-    c.requires.is.position_is
+set_head-requires-clause-in_range g c = search (rules, its_position)
 
 pub raise-raised-requires-clause-machine : goal.raise-raised-requires-clause-machine
-raise-raised-requires-clause-machine g c = trial_blocks c.requires.can.is.kept c.args.dispatch.job
-    c.requires.can.is.fits c.requires.is.position_is c.requires.is.machine_is c.requires.is.end_is
-    c.set_head.ensures.heads c.set_head.ensures.ends
+raise-raised-requires-clause-machine g c = search (rules, trial_blocks)
 
 pub raise-raised-requires-clause-delayed : goal.raise-raised-requires-clause-delayed
 raise-raised-requires-clause-delayed g c = grind arith

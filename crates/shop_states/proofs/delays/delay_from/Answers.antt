@@ -1,3 +1,4 @@
+use Rattle.std.proofs.Common.{rules}
 use Rattle.std.proofs.Common.{arith}
 use Rattle.shop_states.proofs.RaisedEnds.{mid_raisable, raised_with_ends, raised_within, raised_fits}
 use Rattle.shop_states.proofs.delays.delay_from.Goals as goal
@@ -9,5 +10,4 @@ pub delay_route-requires : goal.delay_route-requires
 delay_route-requires g c = grind (arith, mid_raisable)
 
 pub returns : goal.returns
-returns g c = raised_with_ends c.requires.raisable c.set_end_at.ensures c.requires.waits c.requires.below
-    c.delay_route.ensures
+returns g c = search (rules, raised_with_ends)

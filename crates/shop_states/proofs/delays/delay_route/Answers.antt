@@ -1,4 +1,5 @@
-use Rattle.std.proofs.Common.{refl, arith}
+use Rattle.std.proofs.Common.{rules}
+use Rattle.std.proofs.Common.{arith}
 use Rattle.shop_states.proofs.RaiseSteps.{begun_following, ended_at, followed, is_there, leg_fits, leg_known}
 use Rattle.shop_states.proofs.RaiseSteps.{position_up_to, put_is}
 use Rattle.shop_states.proofs.delays.delay_route.Goals as goal
@@ -14,8 +15,7 @@ head_or_greatest-head-requires g c = position_up_to c.requires.raisable c.requir
     c.leg-leg.ensures
 
 pub returns-then-ready-head : goal.returns-then-ready-head
-returns-then-ready-head g c = ended_at c.requires.raisable c.requires.waits c.loop-ready.invariant c.leg-leg.ensures
-    c.head_or_greatest-head.ensures c.if-ready-head.true
+returns-then-ready-head g c = search (rules, ended_at)
 
 pub set_head-requires-in-loop-ready-clause-in_range : goal.set_head-requires-in-loop-ready-clause-in_range
 set_head-requires-in-loop-ready-clause-in_range g c =
@@ -34,16 +34,11 @@ overflow_add-ready-in-loop-ready g c =
     in let computable = c.requires.raisable.computable in omega arith
 
 pub overflow_add-index : goal.overflow_add-index
-overflow_add-index g c =
-    let known = leg_known c.requires.raisable c.requires.waits c.loop-ready.invariant
-    in let few = c.behind-index.ensures.few in omega arith
+overflow_add-index g c = search (rules, leg_known)
 
 pub loop-ready-smaller : goal.loop-ready-smaller
 loop-ready-smaller g c =
     let known = leg_known c.requires.raisable c.requires.waits c.loop-ready.invariant in omega arith
 
 pub loop-ready-preserved : goal.loop-ready-preserved
-loop-ready-preserved g c = followed c.requires.raisable c.requires.waits c.loop-ready.invariant c.leg-leg.ensures
-    c.head_or_greatest-head.ensures c.if-ready-head.false (put_is c.args.routes.now (g.L.StateLanes.heads
-    c.loop-ready.lanes) c.leg-leg.result.position c.loop-ready.ready
-    c.set_head-in-loop-ready.ensures.heads c.set_head-in-loop-ready.ensures.ends) refl
+loop-ready-preserved g c = search (rules, followed, put_is)

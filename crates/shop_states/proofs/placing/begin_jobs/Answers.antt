@@ -1,5 +1,5 @@
-use Rattle.std.proofs.Common.{◌∙◌, ap, arith, sym}
-use Rattle.shop_model.specs.Shop.{Shop, release_of}
+use Rattle.std.proofs.Common.{rules}
+use Rattle.std.proofs.Common.{arith}
 use Rattle.shop_states.proofs.JobLegs.{first_small}
 use Rattle.shop_states.proofs.PlacedNexts.{begins_behind, begun_more}
 use Rattle.shop_states.proofs.placing.begin_jobs.Goals as goal
@@ -15,12 +15,4 @@ overflow_add-first-in-loop-job g c =
     in omega arith
 
 pub loop-job-preserved : goal.loop-job-preserved
-loop-job-preserved g c =
-    let known = c.loop-job-test.true in let jobs = c.requires.next
-    in record {
-      begun = begun_more (omega arith) c.loop-job.invariant.begun c.loop-job.invariant.first_is
-          (c.release.ensures ∙ ap (λ (x : Shop). release_of x c.loop-job.job) c.instance-instance.ensures.instance
-          ∙ sym (c.instance-instance.ensures.renumbered.releases c.loop-job.job));
-      first_is = (begins_behind c.grid-grid.ensures.ready.limits c.grid-grid.ensures.ready.laid (omega arith)
-          c.grid-grid.ensures.grid c.places.ensures c.loop-job.invariant.first_is).0;
-    }
+loop-job-preserved g c = search (rules, begun_more, begins_behind)

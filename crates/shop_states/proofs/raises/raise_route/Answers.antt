@@ -1,3 +1,4 @@
+use Rattle.std.proofs.Common.{rules}
 use Rattle.std.proofs.Common.{refl, arith}
 use Rattle.std.proofs.lemmas.List.{length-map}
 use Rattle.shop_states.specs.inner.HeadRaises.{raise_in}
@@ -27,8 +28,7 @@ head_or_greatest-head-requires g c = position_up_to c.requires.raisable c.requir
     c.loop-ready.invariant.following c.leg-leg.ensures
 
 pub returns-then-ready-head-clause-raises : goal.returns-then-ready-head-clause-raises
-returns-then-ready-head-clause-raises g c = ended_at c.requires.raisable c.requires.waits
-    c.loop-ready.invariant.following c.leg-leg.ensures c.head_or_greatest-head.ensures c.if-ready-head.true
+returns-then-ready-head-clause-raises g c = search (rules, ended_at)
 
 pub set_head-requires-in-loop-ready-clause-in_range : goal.set_head-requires-in-loop-ready-clause-in_range
 set_head-requires-in-loop-ready-clause-in_range g c =
@@ -66,9 +66,7 @@ overflow_add-ready-in-loop-ready g c =
     in let computable = c.requires.raisable.computable in omega arith
 
 pub overflow_add-index : goal.overflow_add-index
-overflow_add-index g c =
-    let known = leg_known c.requires.raisable c.requires.waits c.loop-ready.invariant.following
-    in let few = c.behind-index.ensures.few in omega arith
+overflow_add-index g c = search (rules, leg_known)
 
 pub loop-ready-smaller : goal.loop-ready-smaller
 loop-ready-smaller g c =

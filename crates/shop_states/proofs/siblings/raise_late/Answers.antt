@@ -1,3 +1,4 @@
+use Rattle.std.proofs.Common.{rules}
 use Rattle.std.proofs.Common.{◌∙◌, inl, inr, arith}
 use Rattle.shop_states.specs.inner.Watchers.{no_floor}
 use Rattle.shop_states.proofs.BehindRaises.{late_begins, late_can, late_ends, late_on, late_past}
@@ -9,9 +10,7 @@ pub loop-position-init : goal.loop-position-init
 loop-position-init g c = grind (arith, late_begins, watch_none)
 
 pub raise_behind-requires-clause-can : goal.raise_behind-requires-clause-can
-raise_behind-requires-clause-can g c =
-    late_can c.loop-position.invariant.raises c.loop-position.auto.position c.free_at-free.ensures
-    c.loop-position-test.true c.requires.can
+raise_behind-requires-clause-can g c = search (rules, late_can)
 
 pub loop-position-preserved : goal.loop-position-preserved
 loop-position-preserved g c =

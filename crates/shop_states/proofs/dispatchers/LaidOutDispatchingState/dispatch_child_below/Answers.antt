@@ -1,4 +1,5 @@
-use Rattle.std.proofs.Common.{ℕ, List, refl, subst, sym}
+use Rattle.std.proofs.Common.{rules}
+use Rattle.std.proofs.Common.{ℕ, List, subst, sym}
 use Rattle.shop_states.specs.inner.Ceilings.{AreChildCeilings}
 use Rattle.shop_states.proofs.CandidateDispatches.{candidate_can, candidate_kept, candidate_told}
 use Rattle.shop_states.proofs.AskedStates.{bound_there, kept_on_some, told_behind}
@@ -6,12 +7,7 @@ use Rattle.shop_states.proofs.ReadStates.{kept_read}
 use Rattle.shop_states.proofs.dispatchers.LaidOutDispatchingState.dispatch_child_below.Goals as goal
 
 pub of-dispatch-requires : goal.of-dispatch-requires
-of-dispatch-requires g c = record {
-  shop = c.args.self.now.shop;
-  word = c.requires.can.word;
-  kept = kept_read c.grid-grid.ensures.grid refl c.requires.can.is.0.kept;
-  fits = c.requires.can.is.1.fits;
-}
+of-dispatch-requires g c = search (rules, kept_read)
 
 pub advance_below-requires-clause-can : goal.advance_below-requires-clause-can
 advance_below-requires-clause-can g c = candidate_can c.grid-grid.ensures.grid c.of-dispatch.ensures.job

@@ -1,4 +1,6 @@
-use Rattle.std.proofs.Common.{ℕ, List, ◌∙◌, refl, subst, sym}
+use Rattle.std.proofs.Common.{rules}
+use Rattle.std.proofs.Common.{arith}
+use Rattle.std.proofs.Common.{ℕ, List, refl, subst, sym}
 use Rattle.shop_states.specs.inner.Ceilings.{AreChildCeilings}
 use Rattle.shop_states.proofs.CandidateDispatches.{candidate_can, candidate_kept, candidate_told}
 use Rattle.shop_states.proofs.AskedStates.{bound_there, kept_on_some, told_behind}
@@ -6,21 +8,10 @@ use Rattle.shop_states.proofs.ReadStates.{kept_copied, kept_read}
 use Rattle.shop_states.proofs.dispatchers.LaidOutDispatchingState.dispatch_child_below_in_copy.Goals as goal
 
 pub dispatch_in_copy-dispatch-requires-clause-can : goal.dispatch_in_copy-dispatch-requires-clause-can
-dispatch_in_copy-dispatch-requires-clause-can g c = record {
-  shop = c.args.self.now.shop;
-  word = c.requires.can.word;
-  kept = kept_read c.grid-grid.ensures.grid refl c.requires.can.is.0.kept;
-  fits = c.requires.can.is.1.fits;
-}
+dispatch_in_copy-dispatch-requires-clause-can g c = search (rules, kept_read)
 
 pub dispatch_in_copy-dispatch-requires-clause-long : goal.dispatch_in_copy-dispatch-requires-clause-long
-dispatch_in_copy-dispatch-requires-clause-long g c =
-    let from = c.requires.can.is.0.kept in let to = c.requires.to
-    in record {
-      positions = to.positions ∙ sym from.kept.heads.positions;
-      jobs = to.jobs_with_ends ∙ sym from.ends.jobs;
-      nexts = to.jobs_with_nexts ∙ sym from.are_next.jobs;
-    }
+dispatch_in_copy-dispatch-requires-clause-long g c = grind arith
 
 pub advance_below-requires-clause-can : goal.advance_below-requires-clause-can
 advance_below-requires-clause-can g c =

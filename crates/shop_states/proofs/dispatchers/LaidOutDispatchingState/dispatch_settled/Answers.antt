@@ -1,15 +1,11 @@
+use Rattle.std.proofs.Common.{rules}
 use Rattle.std.proofs.Common.{refl}
 use Rattle.shop_states.proofs.AskedStates.{kept_on}
 use Rattle.shop_states.proofs.ReadStates.{kept_read}
 use Rattle.shop_states.proofs.dispatchers.LaidOutDispatchingState.dispatch_settled.Goals as goal
 
 pub of-dispatch-requires : goal.of-dispatch-requires
-of-dispatch-requires g c = record {
-  shop = c.args.self.now.shop;
-  word = c.requires.can.word;
-  kept = kept_read c.grid-grid.ensures.grid refl c.requires.can.is.0.kept;
-  fits = c.requires.can.is.1.fits;
-}
+of-dispatch-requires g c = search (rules, kept_read)
 
 pub advance-requires-clause-can : goal.advance-requires-clause-can
 advance-requires-clause-can g c = record {

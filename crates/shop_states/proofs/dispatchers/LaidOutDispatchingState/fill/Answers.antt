@@ -1,3 +1,4 @@
+use Rattle.std.proofs.Common.{arith}
 use Rattle.std.proofs.Common.{◌∙◌, ap, length, refl, sym}
 use Rattle.shop_layout.proofs.Written.{written_vec}
 use Rattle.shop_bound.proofs.Renumbered.{numbers_alike}
@@ -6,10 +7,7 @@ use Rattle.shop_states.proofs.ReadStates.{kept_read}
 use Rattle.shop_states.proofs.dispatchers.LaidOutDispatchingState.fill.Goals as goal
 
 pub place_word-requires-clause-word : goal.place_word-requires-clause-word
-place_word-requires-clause-word g c =
-    let alike = numbers_alike c.args.self.now.asked c.args.self.now.shop c.grid.ensures.limits
-    c.grid.ensures.ready.limits c.grid.ensures.renumbered
-    in (alike.words c.args.path.now).0 c.requires.word
+place_word-requires-clause-word g c = grind (arith, numbers_alike)
 
 pub returns-clause-state : goal.returns-clause-state
 returns-clause-state g c =

@@ -1,3 +1,4 @@
+use Rattle.std.proofs.Common.{arith}
 use Rattle.std.proofs.Common.{◌≡◌, ℕ, List, refl, subst}
 use Rattle.shop_model.specs.Shop.{Shop}
 use Rattle.shop_layout.specs.Lanes.{rows_of}
@@ -20,11 +21,7 @@ gathered greatest shop l read is heads ends nexts limit cs others are w kept =
     (are shop w (kept_read is refl kept))
 
 pub list_candidates-requires-clause-can : goal.list_candidates-requires-clause-can
-list_candidates-requires-clause-can g c = record {
-  shop = c.args.self.now.shop;
-  word = c.requires.state.word;
-  kept = kept_read c.grid.ensures.grid refl c.requires.state.is.kept;
-}
+list_candidates-requires-clause-can g c = grind (arith, kept_read)
 
 pub returns-clause-listed : goal.returns-clause-listed
 returns-clause-listed g c = λ w of. listed_there of (gathered g.L.StateLanes.GREATEST c.args.self.now.shop

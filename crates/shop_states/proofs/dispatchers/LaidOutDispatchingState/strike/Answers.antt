@@ -1,3 +1,4 @@
+use Rattle.std.proofs.Common.{arith}
 use Rattle.std.proofs.Common.{◌∙◌, sym}
 use Rattle.shop_layout.proofs.Written.{written_vec}
 use Rattle.shop_states.proofs.AskedStates.{kept_on, set_there}
@@ -5,12 +6,7 @@ use Rattle.shop_states.proofs.ReadStates.{kept_read}
 use Rattle.shop_states.proofs.dispatchers.LaidOutDispatchingState.strike.Goals as goal
 
 pub strike-requires : goal.strike-requires
-strike-requires g c = record {
-  shop = c.args.self.now.shop;
-  word = c.requires.word;
-  kept = kept_read c.grid.ensures.grid c.as_mut_slice.ensures.value c.requires.is.kept;
-  sole = set_there c.requires.is ∙ c.requires.sole;
-}
+strike-requires g c = grind (arith, kept_read, set_there)
 
 pub returns : goal.returns
 returns g c = λ w of alone.

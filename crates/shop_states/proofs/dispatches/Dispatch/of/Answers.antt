@@ -1,3 +1,4 @@
+use Rattle.std.proofs.Common.{rules}
 use Rattle.std.proofs.Common.{ℕ, List, ◌∙◌, ap, arith, get_or, length}
 use Rattle.shop_lanes.proofs.Unmarking.{positions_among-set}
 use Rattle.shop_layout.specs.Positions.{LayoutState}
@@ -52,9 +53,7 @@ mark_below-delayed-requires-clause-fits g c =
     (omega arith)
 
 pub overflow_add-end : goal.overflow_add-end
-overflow_add-end g c =
-    let fits = mark_below-delayed-requires-clause-fits g c in let computable = c.requires.kept.kept.computable
-    in omega arith
+overflow_add-end g c = search (rules, mark_below-delayed-requires-clause-fits)
 
 pub returns-clause-is : goal.returns-clause-is
 returns-clause-is g c = grind (arith, positions_among-set)
