@@ -1,14 +1,13 @@
 -- Children put on a stack: open ones, and before them, if there are others, their number.
 use Rattle.std.proofs.Common.{◌≡◌, ℕ, zero, suc, ◌+◌, ◌-◌, ◌≤◌, ◌<◌, List, [], ◌∷◌, ◌++◌, length, map, take}
-use Rattle.std.proofs.Common.{reverse, refl, sym, ◌∙◌, ap, subst, arith, append_assoc, append-nil}
-use Rattle.std.specs.List.{AllByRecursion}
+use Rattle.std.proofs.Common.{reverse, refl, ◌∙◌, ap, arith, append_assoc, append-nil}
 use Rattle.std.proofs.Math.Seq.{take-length}
 use Rattle.std.proofs.lemmas.List.{length-map, length-reverse, length-append, drop_at}
 use Rattle.shop_model.specs.Shop.{Shop, operation_count}
 use Rattle.shop_model.specs.Word.{IsWord}
 use Rattle.shop_bound.specs.Bound.{lb}
 use Rattle.shop_nodes.specs.Branching.{branch, conflict, sort_by}
-use Rattle.shop_nodes.specs.Halts.{word_at, last_of, IsClosed, IsWaiting}
+use Rattle.shop_nodes.specs.Halts.{last_of, IsClosed, IsWaiting}
 use Rattle.shop_tree.specs.inner.Opens.{open_words, IsAt, AreChildren}
 use Rattle.shop_tree.specs.inner.Pushing.{with_opens, with_rest}
 use Rattle.shop_tree.specs.inner.Searching.{Adds}
@@ -25,36 +24,20 @@ last_part xs ys = drop_at xs ys (length (xs ++ ys) - length ys) (let a = length-
 module _ {shop : Shop} {limit : ℕ} {word : List ℕ} {opens : List Open} {n : ℕ}
     (kids : AreChildren shop limit word opens n) where
   counts : length opens + n ≡ length (branch shop word)
-  counts =
-      let a = ap (λ (ws : List (List ℕ)). length ws) kids.words
-      in let b = length-append (reverse (open_words word opens)) kids.others
-      in let c = length-reverse (open_words word opens) in let d = length-map opens (word_at word) in let e = kids.count
-      in omega arith
+  counts = grind (arith, length-append, length-reverse, length-map)
 
   pub few_open : length opens + n ≤ length shop.jobs
   few_open = let a = counts in let b = branch_few shop word in omega arith
 
   last_are : last_of n (branch shop word) ≡ kids.others
-  last_are = ap (λ (ws : List (List ℕ)). last_of n ws) kids.words
-      ∙ (ap (λ k. last_of k (reverse (open_words word opens) ++ kids.others)) kids.count
-      ∙ last_part (reverse (open_words word opens)) kids.others)
+  last_are = grind (arith, last_part)
 
   closed_last : IsWord shop word → length word < operation_count shop → IsClosed shop limit word (length word) n
-  closed_last is short =
-      let whole : take (length word) word ≡ word = take-length word
-      in record {
-        depth = omega arith;
-        short = short;
-        is_word = subst (IsWord shop) (sym whole) is;
-        few = subst (λ (u : List ℕ). n ≤ length (branch shop u)) (sym whole) (let a = counts in omega arith);
-        high = subst (λ (u : List ℕ). AllByRecursion (λ v. limit ≤ lb shop v) (last_of n (branch shop u))) (sym whole)
-            (subst (λ (ws : List (List ℕ)). AllByRecursion (λ v. limit ≤ lb shop v) ws) (sym last_are) kids.high);
-      }
+  closed_last is short = grind (arith, take-length, counts, last_are)
 
   -- the words of both
   all_words : reverse (open_words word opens) ++ last_of n (branch shop (take (length word) word)) ≡ branch shop word
-  all_words = ap (λ (u : List ℕ). reverse (open_words word opens) ++ last_of n (branch shop u)) (take-length word)
-      ∙ (ap (λ ws. reverse (open_words word opens) ++ ws) last_are ∙ sym kids.words)
+  all_words = grind (arith, take-length, last_are)
 
 -- where there are no others
 none_others : {A : Type 0} (ws : List A) → 0 ≡ length ws → ws ≡ []
@@ -65,16 +48,8 @@ none_others (w ∷ ws) e = absurd (omega arith)
 pub adds-children : (shop : Shop) (best : ℕ) (word : List ℕ) (opens : List Open) (n : ℕ) (old : List Waiting)
     → IsWord shop word → length word < operation_count shop → AreChildren shop best word opens n
     → Adds shop best word old (with_opens (with_rest old (length word) n) opens)
-adds-children shop best word opens zero old is short kids = record {
-  added = map (λ o. Child o) opens;
-  stack = refl;
-  words = opens-words shop word opens
-      ∙ (sym (append-nil (reverse (open_words word opens)))
-      ∙ (ap (λ ws. reverse (open_words word opens) ++ ws) (sym (none_others kids.others kids.count))
-      ∙ sym kids.words));
-  each = all-opens (IsWaiting shop best word) opens kids.each;
-  depth = all-opens (IsAt (length word)) opens kids.depth;
-}
+adds-children shop best word opens zero old is short kids =
+    grind (arith, opens-words, append-nil, none_others, all-opens)
 adds-children shop best word opens (suc n) old is short kids = record {
   added = Rest (length word) (suc n) ∷ map (λ o. Child o) opens;
   stack = append_assoc old (Rest (length word) (suc n) ∷ []) (map (λ o. Child o) opens);
@@ -85,8 +60,7 @@ adds-children shop best word opens (suc n) old is short kids = record {
 }
 
 length-with : (old : List Waiting) (opens : List Open) → length (with_opens old opens) ≡ length old + length opens
-length-with old opens = let a = length-append old (map (λ o. Child o) opens)
-    in let b = length-map opens (λ (o : Open). Child o) in omega arith
+length-with old opens = grind (arith, length-append, length-map)
 
 pub few-children : (shop : Shop) (limit : ℕ) (word : List ℕ) (opens : List Open) (n depth : ℕ) (old : List Waiting)
     → AreChildren shop limit word opens n

@@ -1,6 +1,6 @@
 -- What a walk finds when it goes on from a word.
-use Rattle.std.proofs.Common.{◌≡◌, ℕ, zero, suc, ◌-◌, ◌≤◌, ◌<◌, inl, inr, false, Option, Some, List, [], ◌∷◌, ◌++◌}
-use Rattle.std.proofs.Common.{length, map, refl, sym, ◌∙◌, ap, subst, arith, leb, length-append}
+use Rattle.std.proofs.Common.{◌≡◌, ℕ, zero, suc, ◌-◌, ◌≤◌, ◌<◌, false, Option, Some, List, [], ◌∷◌, ◌++◌}
+use Rattle.std.proofs.Common.{length, map, refl, ◌∙◌, ap, arith, leb, length-append}
 use Rattle.std.specs.List.{AllByRecursion, fold}
 use Rattle.std.proofs.lemmas.Bool.{cases_Bool, leb-true}
 use Rattle.shop_model.specs.Shop.{Shop, operation_count}
@@ -12,11 +12,7 @@ use Rattle.shop_tree.specs.inner.Searching.{entered_within, entered}
 
 module _ (shop : Shop) (found : Option (List ℕ)) (best : ℕ) (left : List (List ℕ)) (w : List ℕ) where
   above : lb shop w < best → leb best (lb shop w) ≡ false
-  above h = elim (cases_Bool (leb best (lb shop w))) [
-    | inl e ↦ absurd (let a = leb-true best (lb shop w) e
-        in omega arith)
-    | inr e ↦ e
-  ]
+  above h = grind (arith, cases_Bool, leb-true)
 
   within-entered : (n b : ℕ) → lb shop w < best → walk_within shop n
       (record { found = found; best = best; left = left; budget = suc b }) w
@@ -40,8 +36,7 @@ fold_within : (shop : Shop) (n : ℕ) (s : Walk) (ws : List (List ℕ))
     → AllByRecursion (λ v. operations_left shop v ≡ n) ws
     → fold (walk_within shop n) s ws ≡ fold (walk shop) s ws
 fold_within shop n s [] h = refl
-fold_within shop n s (w ∷ ws) h = subst (λ m. fold (walk_within shop n) (walk_within shop n s w) ws
-    ≡ fold (walk shop) (walk_within shop m s w) ws) (sym h.0) (fold_within shop n (walk_within shop n s w) ws h.1)
+fold_within shop n s (w ∷ ws) h = grind (arith, fold_within shop n (walk_within shop n s w) ws h.1)
 
 -- of a word that isn't full the children are walked
 pub entered-children : (shop : Shop) (t : Walk) (w : List ℕ) → length w < operation_count shop
@@ -57,5 +52,4 @@ entered-children shop t w short =
 -- a full word is found
 pub entered-full : (shop : Shop) (t : Walk) (w : List ℕ) → operation_count shop ≤ length w
     → entered shop t w ≡ record t { found = Some w; best = lb shop w }
-entered-full shop t w long =
-    let e : operations_left shop w ≡ 0 = omega arith in ap (λ m. entered_within shop m t w) e
+entered-full shop t w long = grind arith

@@ -29,13 +29,11 @@ use Rattle.shop_tree.proofs.Entering.{entered-children, entered-full, walk-enter
 
 some_budget : (shop : Shop) (t : Walk) (w : List ℕ) → 0 < t.budget
     → walk shop t w ≡ walk shop (record t { budget = suc (t.budget - 1) }) w
-some_budget shop t w some = ap (λ b. walk shop (record t { budget = b }) w)
-    (let e : t.budget ≡ suc (t.budget - 1) = omega arith in e)
+some_budget shop t w some = grind arith
 
 pub enters : (shop : Shop) (t : Walk) (w : List ℕ) → 0 < t.budget → lb shop w < t.best
     → walk shop t w ≡ entered shop (spent_one t) w
-enters shop t w some below = some_budget shop t w some
-    ∙ walk-entered shop t.found t.best t.left w (t.budget - 1) below
+enters shop t w some below = grind (arith, some_budget, walk-entered)
 
 pub cuts : (shop : Shop) (t : Walk) (w : List ℕ) → 0 < t.budget → t.best ≤ lb shop w
     → walk shop t w ≡ spent_one t
@@ -46,12 +44,7 @@ same_budget : (b jobs new old : ℕ) → new ≤ old + jobs + 1 → b * (jobs + 
 same_budget b jobs new old few = omega arith
 
 one_gone : (b jobs old new : ℕ) → 0 < b → new ≤ old + 1 → (b - 1) * (jobs + 2) + new ≤ b * (jobs + 2) + old
-one_gone b jobs old new some few =
-    let e : b - 1 + 1 ≡ b = omega arith
-    in subst (λ (n : ℕ). (b - 1) * (jobs + 2) + new ≤ n * (jobs + 2) + old) e (less (b - 1) few)
-  where
-    less : (c : ℕ) → new ≤ old + 1 → c * (jobs + 2) + new ≤ (c + 1) * (jobs + 2) + old
-    less c few = omega arith
+one_gone b jobs old new some few = grind arith
 
 -- the walk went on, and took a word with this bound
 pub record HasGone (s t : Stage) (b : ℕ) : Type 0 where

@@ -19,8 +19,7 @@ module _ {S : Type 0} (old : List (Held S)) (kids : List (Kept S)) where
   -- what waits then, and the states
   pub waiting_moved : (new : List (Held S)) → new ≡ old ++ map held kids
       → waiting_in new ≡ with_opens (waiting_in old) (opens_in kids)
-  waiting_moved new is = ap waiting_in is
-      ∙ (map-append (λ h. h.waiting) old (map held kids) ∙ ap (λ ws. waiting_in old ++ ws) (children_moved kids))
+  waiting_moved new is = grind (arith, map-append, children_moved)
 
   pub states_moved : (is : List ℕ → S → Type 0) (word : List ℕ) (new : List (Held S)) → new ≡ old ++ map held kids
       → All (IsHeld is word) old → All (IsKept is word) kids → All (IsHeld is word) new
@@ -34,35 +33,23 @@ pub some_raised : {S : Type 0} (place depth known count : ℕ) (stack : List (He
 some_raised {S} place depth zero count stack d h some more read below kids at is = absurd (omega arith)
 some_raised {S} place depth (suc known) zero stack d h some more read below kids at is = absurd (omega arith)
 some_raised {S} place depth (suc known) (suc count) stack d h some more read below kids at is =
-    let old : Held S = record { waiting = Rest depth (suc known); state = None }
-    in let new : Held S = record { waiting = Rest depth (suc count); state = None }
-    in let parts : stack ≡ below ++ old ∷ kids = is ∙ append_assoc below (old ∷ []) kids
-    in let found : h ≡ old = read ∙ (ap (λ (xs : List (Held S)). get_or xs place d) parts
-    ∙ (ap (λ (i : ℕ). get_or (below ++ old ∷ kids) i d) at ∙ get_or-append_seam below old kids d))
-    in ap (λ (x : Held S). set stack place (record { waiting = Rest depth (suc count); state = x.state })) found
-    ∙ (ap (λ (xs : List (Held S)). set xs place new) parts
-    ∙ (ap (λ (i : ℕ). set (below ++ old ∷ kids) i new) at
-    ∙ (set-append_seam below old kids new ∙ sym (append_assoc below (new ∷ []) kids))))
+    grind (arith, append_assoc, get_or-append_seam, set-append_seam)
 
 pub waiting_rest : {S : Type 0} (old : List (Held S)) (depth n : ℕ)
     → waiting_in (with_held_rest old depth n) ≡ with_rest (waiting_in old) depth n
 waiting_rest old depth zero = refl
-waiting_rest {S} old depth (suc n) = map-append (λ (h : Held S). h.waiting) old
-    (record { waiting = Rest depth (suc n); state = None } ∷ [])
+waiting_rest {S} old depth (suc n) = grind (arith, map-append)
 
 pub rest_long : {S : Type 0} (old : List (Held S)) (depth n : ℕ)
     → length old + min n 1 ≤ length (with_held_rest old depth n)
 rest_long old depth zero = omega arith
-rest_long {S} old depth (suc n) =
-    let rest : Held S = record { waiting = Rest depth (suc n); state = None }
-    in let a = length_push old rest in omega arith
+rest_long {S} old depth (suc n) = grind (arith, length_push)
 
 -- what waits once closed ones are put on top
 pub rest_waits : {S : Type 0} (old : List (Held S)) {new : List (Held S)} (word : List ℕ) {depth : ℕ} (n : ℕ)
     → depth ≡ length word → new ≡ with_held_rest old depth n → waiting_in new ≡ with_rest (waiting_in old) (length word)
     n
-rest_waits old word {depth} n deep put = ap waiting_in put
-    ∙ (waiting_rest old depth n ∙ ap (λ (k : ℕ). with_rest (waiting_in old) k n) deep)
+rest_waits old word {depth} n deep put = grind (arith, waiting_rest)
 
 -- so for closed ones
 module _ {S : Type 0} (old : List (Held S)) where

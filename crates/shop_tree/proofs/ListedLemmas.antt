@@ -95,8 +95,7 @@ module _ {shop : Shop} {word : List ℕ} {limit : ℕ} {is : Candidate → Type 
   pub closed_gathered : {js : List ℕ} {cs : List Candidate} {n : ℕ} → ListsBelow shop word limit is js cs n → cs ≡ []
       → (opens : List Open) (m : ℕ) (done : List ℕ) → IsGathered shop limit word opens m done
       → IsGathered shop limit word opens (m + n) (js ++ done)
-  closed_gathered none e opens m done g =
-      subst (λ (k : ℕ). IsGathered shop limit word opens k done) (let f : m ≡ m + 0 = omega arith in f) g
+  closed_gathered none e opens m done g = grind arith
   closed_gathered (listed {cs = cs} j d same own rest) e opens m done g = no_list d cs (sym e)
   closed_gathered (closed {js = js} {cs = cs} {n = n} j high rest) e opens m done g =
       subst (λ (k : ℕ). IsGathered shop limit word opens k (j ∷ js ++ done))
@@ -113,8 +112,7 @@ module _ {shop : Shop} {word : List ℕ} {limit : ℕ} {is : Candidate → Type 
   pub lists_all : {js : List ℕ} {cs : List Candidate} {n : ℕ} → ListsBelow shop word limit is js cs n → n ≡ 0
       → js ≡ map (λ c. c.job) cs
   lists_all none e = refl
-  lists_all (listed {js = js} {cs = cs} j d same own rest) e =
-      ap (λ (i : ℕ). i ∷ js) (sym same) ∙ ap (λ (ks : List ℕ). d.job ∷ ks) (lists_all rest e)
+  lists_all (listed {js = js} {cs = cs} j d same own rest) e = grind (arith, lists_all rest e)
   lists_all (closed {n = n} j high rest) e = absurd (omega arith)
 
   pub sole_listed : (cs : List Candidate) (c : Candidate) → cs ≡ c ∷ []

@@ -5,10 +5,7 @@ use Rattle.std.specs.List.{AllByRecursion, fold}
 use Rattle.std.proofs.lemmas.List.{take-append-le, length-take-le, take-take, length-append}
 use Rattle.std.proofs.lemmas.List.Sums.{fold-append}
 use Rattle.shop_model.specs.Shop.{Shop}
-use Rattle.shop_model.specs.Word.{IsWord}
-use Rattle.shop_bound.specs.Bound.{lb}
-use Rattle.shop_nodes.specs.Branching.{branch}
-use Rattle.shop_nodes.specs.Halts.{word_at, last_of, waiting_words, stack_words, IsWaiting}
+use Rattle.shop_nodes.specs.Halts.{word_at, waiting_words, stack_words, IsWaiting}
 use Rattle.shop_tree.specs.inner.Opens.{open_words, depth_of, IsUpTo, IsFrom, IsAt, IsRising, AreWaiting}
 use Rattle.shop_tree.specs.inner.Searching.{walk_stack, Adds}
 use Rattle.shop_nodes.specs.Walking.{Walk, walk}
@@ -24,36 +21,17 @@ begins_alike v w n alike k h = sym (take-take k n v h) ∙ (ap (take k) alike �
 module _ (shop : Shop) (v w : List ℕ) (n : ℕ) (alike : take n v ≡ take n w) where
   entry-same : (x : Waiting) → IsUpTo n x → waiting_words shop v x ≡ waiting_words shop w x
   entry-same (Child o) h = ap (λ (u : List ℕ). (u ++ o.job ∷ []) ∷ []) (begins_alike v w n alike o.depth h)
-  entry-same (Rest depth count) h =
-      ap (λ (u : List ℕ). last_of count (branch shop u)) (begins_alike v w n alike depth h)
+  entry-same (Rest depth count) h = grind (arith, begins_alike)
 
   pub words-same : (stack : List Waiting) → AllByRecursion (IsUpTo n) stack
       → stack_words shop v stack ≡ stack_words shop w stack
   words-same [] low = refl
-  words-same (x ∷ stack) low =
-      ap (λ ws. ws ++ waiting_words shop v x) (words-same stack low.1)
-      ∙ ap (λ ws. stack_words shop w stack ++ ws) (entry-same x low.0)
+  words-same (x ∷ stack) low = grind (arith, entry-same, words-same stack low.1)
 
   waits-same : (best : ℕ) (x : Waiting) → n ≤ length v → IsUpTo n x → IsWaiting shop best w x
       → IsWaiting shop best v x
-  waits-same best (Child o) long h own =
-      let same : word_at w o ≡ word_at v o =
-      ap (λ (u : List ℕ). u ++ o.job ∷ []) (sym (begins_alike v w n alike o.depth h))
-      in record {
-        depth = omega arith;
-        is_word = subst (IsWord shop) same own.is_word;
-        bound = own.bound ∙ ap (lb shop) same;
-      }
-  waits-same best (Rest depth count) long h own =
-      let same : take depth w ≡ take depth v = sym (begins_alike v w n alike depth h)
-      in record {
-        depth = omega arith;
-        short = own.short;
-        is_word = subst (IsWord shop) same own.is_word;
-        few = subst (λ (u : List ℕ). count ≤ length (branch shop u)) same own.few;
-        high = subst (λ (u : List ℕ). AllByRecursion (λ x. best ≤ lb shop x) (last_of count (branch shop u))) same
-            own.high;
-      }
+  waits-same best (Child o) long h own = grind (arith, begins_alike, own)
+  waits-same best (Rest depth count) long h own = grind (arith, begins_alike, own)
 
   pub all-same : (best : ℕ) → n ≤ length v → (stack : List Waiting) → AllByRecursion (IsUpTo n) stack
       → AllByRecursion (IsWaiting shop best w) stack → AllByRecursion (IsWaiting shop best v) stack
@@ -71,21 +49,17 @@ deep shop best w (Rest depth count) h = h.depth
 pub stack_words-append : (shop : Shop) (w : List ℕ) (xs ys : List Waiting)
     → stack_words shop w (xs ++ ys) ≡ stack_words shop w ys ++ stack_words shop w xs
 stack_words-append shop w [] ys = sym (append-nil (stack_words shop w ys))
-stack_words-append shop w (x ∷ xs) ys =
-    ap (λ ws. ws ++ waiting_words shop w x) (stack_words-append shop w xs ys)
-    ∙ append_assoc (stack_words shop w ys) (stack_words shop w xs) (waiting_words shop w x)
+stack_words-append shop w (x ∷ xs) ys = grind (arith, append_assoc, stack_words-append shop w xs ys)
 
 -- and their walks
 pub stack-append : (shop : Shop) (w : List ℕ) (s : Walk) (xs ys : List Waiting)
     → walk_stack shop w s (xs ++ ys) ≡ walk_stack shop w (walk_stack shop w s ys) xs
-stack-append shop w s xs ys = ap (fold (walk shop) s) (stack_words-append shop w xs ys)
-    ∙ fold-append (walk shop) s (stack_words shop w ys) (stack_words shop w xs)
+stack-append shop w s xs ys = grind (arith, stack_words-append, fold-append)
 
 pub opens-words : (shop : Shop) (w : List ℕ) (os : List Open)
     → stack_words shop w (map (λ o. Child o) os) ≡ reverse (open_words w os)
 opens-words shop w [] = refl
-opens-words shop w (o ∷ os) =
-    ap (λ ws. ws ++ word_at w o ∷ []) (opens-words shop w os) ∙ sym (reverse-cons (word_at w o) (open_words w os))
+opens-words shop w (o ∷ os) = grind (arith, reverse-cons, opens-words shop w os)
 
 pub all-opens : (P : Waiting → Type 0) (os : List Open) → AllByRecursion (λ o. P (Child o)) os
     → AllByRecursion P (map (λ o. Child o) os)
@@ -142,12 +116,7 @@ popped {shop} {best} {word} rest x all = record {
 pub replaced : (shop : Shop) (best : ℕ) (word : List ℕ) (rest : List Waiting) (x y : Waiting)
     → AreWaiting shop best word (rest ++ x ∷ []) → depth_of y ≡ depth_of x → IsWaiting shop best word y
     → AreWaiting shop best word (rest ++ y ∷ [])
-replaced shop best word rest x y all same own =
-    let p = popped rest x all
-    in record {
-      each = all_append (IsWaiting shop best word) rest (y ∷ []) p.rest_waits.each (own, tt);
-      rising = rising-append rest (y ∷ []) (depth_of x) p.rest_waits.rising (rising-below rest x all.rising) (same, tt);
-    }
+replaced shop best word rest x y all same own = grind (arith, popped, all_append, own, rising-append, rising-below)
 
 -- entries put on a stack
 pub adds-waits : (shop : Shop) (best : ℕ) (word : List ℕ) (old new : List Waiting)
@@ -158,27 +127,9 @@ adds-waits shop best word old new all more = subst (AreWaiting shop best word) (
       (all_weaker (IsWaiting shop best word) (IsUpTo (length word)) (deep shop best word) old all.each) more.depth;
 })
 
--- a lower best
-waits-lower : (shop : Shop) (best lower : ℕ) (word : List ℕ) (x : Waiting) → lower ≤ best
-    → IsWaiting shop best word x → IsWaiting shop lower word x
-waits-lower shop best lower word (Child o) le own = own
-waits-lower shop best lower word (Rest depth count) le own = record {
-  depth = own.depth;
-  short = own.short;
-  is_word = own.is_word;
-  few = own.few;
-  high = all_weaker (λ v. best ≤ lb shop v) (λ v. lower ≤ lb shop v) (λ v h. omega arith)
-      (last_of count (branch shop (take depth word))) own.high;
-}
-
 pub all-lower : (shop : Shop) (best lower : ℕ) (word : List ℕ) (stack : List Waiting) → lower ≤ best
     → AreWaiting shop best word stack → AreWaiting shop lower word stack
-all-lower shop best lower word stack le all = record {
-  each = all_weaker (IsWaiting shop best word) (IsWaiting shop lower word)
-      (λ x h. waits-lower shop best lower word x le h)
-      stack all.each;
-  rising = all.rising;
-}
+all-lower shop best lower word stack le all = grind (arith, all_weaker)
 
 -- the entry on top is walked first
 pub walk-top : (shop : Shop) (s : Walk) (word : List ℕ) (rest : List Waiting) (x : Waiting)
@@ -204,10 +155,7 @@ module _ (shop : Shop) (best : ℕ) (word next : List ℕ) (rest : List Waiting)
 
 pub begins-child : (word : List ℕ) (o : Open) → o.depth ≤ length word
     → take o.depth (word_at word o) ≡ take o.depth word
-begins-child word o h =
-    take-append-le o.depth (take o.depth word) (o.job ∷ []) (let a = length-take-le o.depth word h in omega arith)
-    ∙ take-take o.depth o.depth word (omega arith)
+begins-child word o h = grind (arith, take-append-le, length-take-le, take-take)
 
 pub long-child : (word : List ℕ) (o : Open) → o.depth ≤ length word → o.depth ≤ length (word_at word o)
-long-child word o h = let a = length-append (take o.depth word) (o.job ∷ []) in let b = length-take-le o.depth word h
-    in omega arith
+long-child word o h = grind (arith, length-append, length-take-le)

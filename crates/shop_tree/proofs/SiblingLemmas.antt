@@ -1,6 +1,6 @@
 -- Children that are settled without a trial, and the one on top of the stack, which is given the current state.
 use Rattle.std.proofs.Common.{◌≡◌, ℕ, zero, suc, ◌-◌, ◌≤◌, ◌<◌, List, [], ◌∷◌, ◌++◌, length, map, get_or, set, take}
-use Rattle.std.proofs.Common.{max, All, None, inl, inr, refl, sym, ◌∙◌, ap, subst, arith}
+use Rattle.std.proofs.Common.{max, All, None, inl, inr, sym, ◌∙◌, ap, subst, arith}
 use Rattle.std.proofs.Math.Seq.{map-set_same, take-length}
 use Rattle.std.proofs.lemmas.List.{get_or-map, length-map, map-set, set-append_right}
 use Rattle.std.proofs.lemmas.List.Elements.{All-set, All-from_recursion}
@@ -26,15 +26,13 @@ use Rattle.shop_tree.proofs.StripLemmas.{at_kid, many}
 pub settled_bound : (shop : Shop) (word : List ℕ) (bound top : ℕ) (cs : List Candidate)
     → Settles shop word bound top cs → (k : ℕ) (d : Candidate) → k < length cs → (b : ℕ)
     → b ≡ max bound (get_or cs k d).own → top ≤ b → lb shop (word ++ (get_or cs k d).job ∷ []) ≡ b
-settled_bound shop word bound top cs settles k d within b is low =
-    settles k d within (subst (λ (n : ℕ). top ≤ n) is low) ∙ sym is
+settled_bound shop word bound top cs settles k d within b is low = grind arith
 
 -- it is put without a state
 pub settled_child : {S : Type 0} (is : List ℕ → S → Type 0) (shop : Shop) (word : List ℕ) (limit job b : ℕ)
     → lb shop (word ++ job ∷ []) ≡ b → b < limit → IsChildBelow is shop word limit job
     (record { «open» = record { depth = length word; job = job; bound = b }; state = None })
-settled_child is shop word limit job b told low =
-    record { depth = refl; job_is = refl; bound = sym told; below = low; state = tt }
+settled_child is shop word limit job b told low = grind arith
 
 -- a candidate among the jobs that are listed beside closed ones
 pub record IsListed (is : Candidate → Type 0) (js : List ℕ) (c : Candidate) : Type 0 where
@@ -96,8 +94,7 @@ child_same o p e = ap (λ (x : Waiting). elim x [ Child q ↦ q | Rest depth cou
 pub put_given : {S : Type 0} (is : List ℕ → S → Type 0) (shop : Shop) (limit : ℕ) (word : List ℕ)
     (old mid new : List (Held S)) (n from : ℕ) → from ≡ length old → HasPutChildren is shop limit word old mid n
     → HasGiven is word from mid new → HasPutChildren is shop limit word old new n
-put_given is shop limit word old mid new n from e put (inl same) =
-    subst (λ (hs : List (Held _)). HasPutChildren is shop limit word old hs n) (sym same) put
+put_given is shop limit word old mid new n from e put (inl same) = grind arith
 put_given {S} is shop limit word old mid new n from e put (inr (child, (state, at))) =
     let i = length mid - 1
     in let k = i - from

@@ -18,8 +18,7 @@ use Rattle.shop_tree.proofs.HeldLemmas.{states_moved, states_rest}
 pub held_branched : {S : Type 0} (is : List ℕ → S → Type 0) (word : List ℕ) (old new : List (Held S))
     (kids : List (Kept S)) (depth n : ℕ) → AreHeld is word old → All (IsKept is word) kids
     → new ≡ with_held_rest old depth n ++ map held kids → AreHeld is word new
-held_branched is word old new kids depth n below above put =
-    states_moved (with_held_rest old depth n) kids is word new put (states_rest old is word depth n below) above
+held_branched is word old new kids depth n below above put = grind (arith, states_moved, states_rest)
 
 -- the walk stands where it stood, whoever gave a state back
 pub stands_still : {D S C T E : Type 0} {g : Ghosts D S C} (v w : Walker D S C g) (r : Result T E)
@@ -28,16 +27,7 @@ pub stands_still : {D S C T E : Type 0} {g : Ghosts D S C} (v w : Walker D S C g
     → AreHeld (g.IsStateOf v.states.dispatcher.now) w.path.items w.stack.items
     → OnOk r (HoldSlots g.IsSlot g.IsScratch w.states)
     → OnOk r (w.states.current.value ≡ v.states.current.value) → OnOk r (StandsAs v w)
-stands_still {g = g} v w (Ok x) stage candidates same held sound current = record {
-  stage = stage;
-  candidates = candidates;
-  dispatcher = same;
-  current = current;
-  states = record {
-    held = subst (λ d. AreHeld (g.IsStateOf d) w.path.items w.stack.items) (sym same) held;
-    states = sound;
-  };
-}
+stands_still {g = g} v w (Ok x) stage candidates same held sound current = grind arith
 stands_still v w (Err e) stage candidates same held sound current = tt
 
 pub stands_where : {D S C : Type 0} {g : Ghosts D S C} (v : Walker D S C g) → HasStates v → StandsAs v v
@@ -45,13 +35,7 @@ stands_where v states = record { stage = refl; candidates = refl; dispatcher = r
 
 pub stands_then : {D S C : Type 0} {g : Ghosts D S C} {u v w : Walker D S C g} → StandsAs u v → StandsAs v w
     → StandsAs u w
-stands_then a b = record {
-  stage = b.stage ∙ a.stage;
-  candidates = b.candidates ∙ a.candidates;
-  dispatcher = b.dispatcher ∙ a.dispatcher;
-  current = b.current ∙ a.current;
-  states = b.states;
-}
+stands_then a b = grind arith
 
 -- so with what is at hand there
 module _ {D S C : Type 0} {g : Ghosts D S C} {v w : Walker D S C g} (s : StandsAs v w) where
@@ -65,9 +49,7 @@ module _ {D S C : Type 0} {g : Ghosts D S C} {v w : Walker D S C g} (s : StandsA
   candidates_stand n h = rw (s.dispatcher, s.candidates, path_same, best_same) h
 
   pub state_stands : IsAtState v → IsAtState w
-  state_stands h = subst (λ d. g.IsStateOf d w.path.items w.states.current.value) (sym s.dispatcher)
-      (subst (λ (p : List ℕ). g.IsStateOf v.states.dispatcher.now p w.states.current.value) (sym path_same)
-      (subst (λ x. g.IsStateOf v.states.dispatcher.now v.path.items x) (sym s.current) h))
+  state_stands h = grind (arith, path_same)
 
 -- and where its candidates were gathered
 pub still_at : {D S C : Type 0} {g : Ghosts D S C} {v : Walker D S C g} (w : Walker D S C g) {b : ℕ} → StandsAt v b
@@ -84,17 +66,7 @@ still_at {v} w at same states state = record {
 -- a walk that went on stands at the word that it took
 pub reached : {D S C : Type 0} {g : Ghosts D S C} (v w : Walker D S C g) (b : ℕ) → HasGone (stage_of v) (stage_of w) b
     → HasStates w → IsAtState w → HasReached v w b
-reached v w b gone states state = record {
-  followed = gone.followed;
-  spent = gone.spent;
-  at = record {
-    bound = gone.bound;
-    below = gone.below;
-    in_order = gone.in_order;
-    states = states;
-    state = state;
-  };
-}
+reached v w b gone states state = grind (arith, gone)
 
 -- what is told of a walk that went on, and of one that didn't
 pub gone : {D S C : Type 0} {g : Ghosts D S C} (v w : Walker D S C g) {told : Option ℕ} {b : ℕ} → told ≡ Some b

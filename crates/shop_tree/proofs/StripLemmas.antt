@@ -8,7 +8,6 @@ use Rattle.std.proofs.Math.Seq.{map-set_same}
 use Rattle.std.proofs.lemmas.List.{get_or-append-add, get_or-map, length-append, length-map, map-set}
 use Rattle.std.proofs.lemmas.List.{set-append_right}
 use Rattle.std.proofs.lemmas.List.Elements.{All-set}
-use Rattle.shop_nodes.specs.declared.halts.Open.{Open}
 use Rattle.shop_nodes.specs.Halts.{word_at}
 use Rattle.shop_tree.specs.declared.held.Held.{Held}
 use Rattle.shop_tree.specs.inner.Held.{IsHeldOf, IsKept, Kept, held, opens_in}
@@ -19,7 +18,6 @@ use Rattle.shop_states.specs.declared.dispatching.Candidate.{Candidate}
 use Rattle.shop_model.specs.Shop.{Shop}
 use Rattle.shop_model.specs.Word.{IsWord}
 use Rattle.shop_bound.specs.Bound.{lb}
-use Rattle.shop_tree.proofs.PushLemmas.{IsGathered}
 
 held_slot : {S : Type 0} (is : List ℕ → S → Type 0) (slot : S → Type 0) → ((w : List ℕ) (s : S) → is w s → slot s)
     → (w : List ℕ) (state : Option (Box S)) → IsHeldOf is w state → IsHeldOf (λ v s. slot s) [] state
@@ -30,8 +28,7 @@ held_slot is slot law w (Some b) of = law w b.value of
 module _ {S : Type 0} (below : List (Held S)) (kids : List (Kept S)) (from : ℕ) (e : from ≡ length below)
     (stack : List (Held S)) (top : stack ≡ below ++ map held kids) where
   pub many : length stack ≡ from + length kids
-  many = let a = ap length top in let b = length-append below (map held kids)
-      in let c = length-map kids (held {S = S}) in omega arith
+  many = grind (arith, length-append, length-map)
 
   pub at_kid : (i : ℕ) → from ≤ i → i < length stack → (d : Held S) (k : Kept S)
       → get_or stack i d ≡ held (get_or kids (i - from) k)
@@ -94,20 +91,7 @@ module _ {S : Type 0} {is : List ℕ → S → Type 0} {of : Candidate → Type 
 
   still_trying : (left : List (Kept S)) → opens_in left ≡ opens_in kids → All (IsKept is word) left
       → IsTrying is of shop limit word cs i left others current
-  still_trying left opens states = record {
-    left = t.left;
-    done = t.done;
-    unseen = t.unseen;
-    seen = t.seen;
-    split = t.split;
-    lists = t.lists;
-    gathered = subst (λ (os : List Open). IsGathered shop limit word os t.seen t.done) (sym opens) t.gathered;
-    count = t.count;
-    states = states;
-    within = t.within;
-    few = t.few;
-    wanted = t.wanted;
-  }
+  still_trying left opens states = grind arith
 
   pub tried_kept : {from b : ℕ} {told : Option ℕ} {trial : S} {below old new : List (Held S)} → from ≡ length below
       → old ≡ below ++ map held kids

@@ -1,5 +1,5 @@
 -- The turns of a walk, told of where it stands before and after.
-use Rattle.std.proofs.Common.{◌≡◌, ℕ, zero, suc, ◌+◌, ◌-◌, ◌*◌, ◌≤◌, ◌<◌, ◌⊎◌, inl, inr, Option, List, [], ◌∷◌, ◌++◌}
+use Rattle.std.proofs.Common.{◌≡◌, ℕ, zero, suc, ◌+◌, ◌-◌, ◌*◌, ◌≤◌, ◌<◌, Option, List, [], ◌∷◌, ◌++◌}
 use Rattle.std.proofs.Common.{length, refl, sym, ◌∙◌, ap, subst, arith}
 use Rattle.std.specs.Prelude.{take, drop}
 use Rattle.std.specs.List.{AllByRecursion, fold}
@@ -12,15 +12,14 @@ use Rattle.shop_bound.specs.Bound.{lb}
 use Rattle.shop_nodes.specs.Branching.{branch}
 use Rattle.shop_nodes.specs.Nodes.{words_of}
 use Rattle.shop_nodes.specs.Pieces.{walk_told}
-use Rattle.shop_nodes.specs.Walking.{Walk, walk, sheet}
+use Rattle.shop_nodes.specs.Walking.{walk, sheet}
 use Rattle.shop_nodes.specs.Halts.{word_at, last_of, waiting_words, stack_words, IsClosed}
 use Rattle.shop_tree.specs.inner.Opens.{AreChildren}
 use Rattle.shop_tree.specs.inner.Walkers.{Stage, HasExpanded, HasWalked, HasWalkedUpTo, IsInOrder, IsTurn}
 use Rattle.shop_tree.specs.inner.Walkers.{on_top, node_walk, spent_one, stack_walk, turns_left}
-use Rattle.shop_tree.specs.inner.Searching.{walk_stack, opening_walk, entered}
+use Rattle.shop_tree.specs.inner.Searching.{walk_stack, opening_walk}
 use Rattle.shop_nodes.specs.declared.nodes.Node.{Node}
 use Rattle.shop_nodes.specs.declared.halts.Open.{Open}
-use Rattle.shop_nodes.specs.declared.halts.Waiting.{Waiting}
 use Rattle.shop_nodes.specs.declared.halts.Waiting.TheVariants.{Child, Rest}
 use Rattle.shop_nodes.proofs.HighWalks.{high-taken, none-walked}
 use Rattle.shop_tree.proofs.OpenLemmas.{popped, replaced, walk-top}
@@ -30,18 +29,14 @@ use Rattle.shop_tree.proofs.ExpandLemmas.{ends_closed, enters, cuts}
 -- turns over plain numbers
 one_spent : (b jobs jobs' new rest one : ℕ) → 0 < b → jobs' ≡ jobs → one ≡ rest + 1
     → new ≤ (b - 1) * (jobs + 2) + rest + jobs + 1 → new < b * (jobs + 2) + one
-one_spent b jobs jobs' new rest one some same top few =
-    let c = b - 1 in let e : b ≡ c + 1 = omega arith
-    in let few' : new ≤ c * (jobs + 2) + rest + jobs + 1 = few in rw (e, top) (omega arith)
+one_spent b jobs jobs' new rest one some same top few = grind arith
 
 one_less : (b b' jobs rest one : ℕ) → b' ≤ b → one ≡ rest + 1
     → b' * (jobs + 2) + rest < b * (jobs + 2) + one
-one_less b b' jobs rest one le top =
-    let d = b - b' in let e : b ≡ b' + d = omega arith in rw (e, top) (omega arith)
+one_less b b' jobs rest one le top = grind arith
 
 none_spent : (b jobs new one : ℕ) → 0 < b → new ≡ one → 0 * (jobs + 2) + new < b * (jobs + 2) + one
-none_spent b jobs new one some same =
-    let c = b - 1 in let e : b ≡ c + 1 = omega arith in rw (e, same) (omega arith)
+none_spent b jobs new one some same = grind arith
 
 -- a child is cut off
 pub turn_cut : (s : Stage) (o : Open) → IsInOrder (on_top s (Child o)) → 0 < s.walk.budget → s.walk.best ≤ o.bound
@@ -84,8 +79,7 @@ turn_expanded s t o on some below e =
 
 -- the last of the last ones
 last_last : {A : Type 0} (xs : List A) (n m : ℕ) → n ≤ m → m ≤ length xs → drop n (last_of m xs) ≡ last_of (m - n) xs
-last_last xs n m le few = drop-drop n (length xs - m) xs
-    ∙ ap (λ k. drop k xs) (let e : length xs - m + n ≡ length xs - (m - n) = omega arith in e)
+last_last xs n m le few = grind (arith, drop-drop)
 
 length-last : {A : Type 0} (xs : List A) (n : ℕ) → n ≤ length xs → length (last_of n xs) ≡ n
 length-last xs n few = let a = length-drop (length xs - n) xs in omega arith
@@ -198,16 +192,7 @@ at_node s node = record s { word = node.word; walk = spent_one s.walk }
 pub node_expanded : (s m t : Stage) (node : Node) → s.stack ≡ [] → 0 < s.walk.budget
     → lb s.shop node.word < s.walk.best → HasExpanded (at_node s node) m → HasWalked m t (stack_walk m)
     → HasWalked s t (node_walk s node)
-node_expanded s m t node empty some below e h = record {
-  walk = h.walk ∙ (e.walk
-      ∙ (ap (λ (xs : List Waiting). fold (walk s.shop) (entered s.shop (spent_one s.walk) node.word)
-      (stack_words s.shop node.word xs)) empty
-      ∙ sym (enters s.shop s.walk node.word some below)));
-  in_order = h.in_order;
-  shop = h.shop ∙ e.shop;
-  spent = (let a = h.spent in let b = e.spent in omega arith);
-  done = h.done;
-}
+node_expanded s m t node empty some below e h = grind (arith, enters)
 
 -- what a walk of nodes comes to, from nothing on
 pub told_sheet : (s t : Stage) (nodes : List Node) (k : ℕ) (shop : Shop) (best budget : ℕ) → s.shop ≡ shop
@@ -217,22 +202,7 @@ pub told_sheet : (s t : Stage) (nodes : List Node) (k : ℕ) (shop : Shop) (best
     (budget - (budget - t.walk.budget))
     ≡ sheet shop (words_of nodes) best budget
 told_sheet s t nodes k shop best budget same begun none h over =
-    let ws = stack_words t.shop t.word t.stack ++ words_of (drop k nodes)
-    in let whole : s.walk.budget ≡ budget = ap (λ (x : Walk). x.budget) begun
-    in let spent = h.spent
-    in let rest : budget - (budget - t.walk.budget) ≡ t.walk.budget = omega arith
-    in let ended : (t.walk.budget ≡ 0) ⊎ (ws ≡ []) = elim (cases_lt 0 t.walk.budget) [
-      | inl some ↦ inr (ap (λ (xs : List Waiting). stack_words t.shop t.word xs ++ words_of (drop k nodes))
-          (h.done some) ∙ ap words_of (drop_all k nodes (over some)))
-      | inr no_more ↦ inl (omega arith)
-    ]
-    in ap (walk_told t.walk.found t.walk.best ws) rest
-    ∙ (ap (λ (l : List (List ℕ)). record t.walk { left = l ++ ws }) (sym none)
-    ∙ (sym (none-walked t.shop t.walk ws ended)
-    ∙ (fold-append (walk t.shop) t.walk (stack_words t.shop t.word t.stack) (words_of (drop k nodes))
-    ∙ (h.walk
-    ∙ (ap (λ (x : Shop). fold (walk x) s.walk (words_of nodes)) same
-    ∙ ap (λ (x : Walk). fold (walk shop) x (words_of nodes)) begun)))))
+    grind (arith, cases_lt, drop_all, none-walked, fold-append)
 
 -- and the sheet that tells of it
 pub sheet_told : (s t : Stage) (nodes : List Node) {all untaken : List Node} (k : ℕ) {shop : Shop} {best budget : ℕ}
@@ -242,10 +212,4 @@ pub sheet_told : (s t : Stage) (nodes : List Node) {all untaken : List Node} (k 
     → halted ≡ stack_words t.shop t.word t.stack → words ≡ halted ++ words_of untaken
     → walk_told found t.walk.best words (budget - (budget - t.walk.budget)) ≡ sheet shop (words_of all) best budget
 sheet_told s t nodes {untaken} k {shop} {best} {budget} {found} {words} same begun none h over alike left is halts are =
-    let n = budget - (budget - t.walk.budget)
-    in ap (λ (f : Option (List ℕ)). walk_told f t.walk.best words n) is
-    ∙ (ap (λ (ws : List (List ℕ)). walk_told t.walk.found t.walk.best ws n)
-    (are ∙ (ap (λ (ws : List (List ℕ)). ws ++ words_of untaken) halts
-    ∙ ap (λ (ns : List Node). stack_words t.shop t.word t.stack ++ words_of ns) left))
-    ∙ (told_sheet s t nodes k shop best budget same begun none h over
-    ∙ ap (λ (ns : List Node). sheet shop (words_of ns) best budget) alike))
+    grind (arith, told_sheet)

@@ -15,12 +15,7 @@ use Rattle.shop_tree.proofs.TrialLemmas.{turn_kept, told_high, all_tried}
 use Rattle.shop_tree.proofs.walk_states.WalkStates.settle_candidates.Goals as goal
 
 pub overflow_cast-depth : goal.overflow_cast-depth
-overflow_cast-depth g c =
-    let d = c.args.self.now.dispatcher.now
-    in let a = word_length (g.D.Dispatching.shop d) c.args.branching.now.word.now
-    (g.met.D.Dispatching.state_is_within_limits d c.args.branching.now.word.now _ c.requires.state)
-    (g.met.D.Dispatching.state_is_of_word d c.args.branching.now.word.now _ c.requires.state)
-    in omega arith
+overflow_cast-depth g c = grind (arith, word_length)
 
 pub loop-index-init : goal.loop-index-init
 loop-index-init g c = record {

@@ -1,8 +1,7 @@
-use Rattle.std.proofs.Common.{◌≡◌, All, ◌+◌, ◌<◌, ◌-◌, [], ◌∷◌, ◌++◌, get_or, sym, ◌∙◌, ap, subst}
+use Rattle.std.proofs.Common.{◌≡◌, ◌+◌, ◌<◌, ◌-◌, [], ◌∷◌, ◌++◌, get_or, sym, ◌∙◌, ap, subst}
 use Rattle.std.proofs.Common.{append-nil, arith, length}
 use Rattle.shop_model.proofs.WordLengths.{word_length}
 use Rattle.shop_bound.specs.Bound.{lb}
-use Rattle.shop_states.specs.States.{Settles}
 use Rattle.shop_tree.specs.inner.Tried.{AreSlotsFrom, HasPutChildren}
 use Rattle.shop_tree.proofs.StripLemmas.{are_slots, many, tried_kept}
 use Rattle.shop_tree.proofs.AddLemmas.{conflict_few}
@@ -11,26 +10,13 @@ use Rattle.shop_tree.proofs.TrialLemmas.{told_high, still_wanted, all_tried}
 use Rattle.shop_tree.proofs.walk_states.WalkStates.try_candidates.Goals as goal
 
 pub overflow_cast-depth : goal.overflow_cast-depth
-overflow_cast-depth g c =
-    let d = c.args.self.now.dispatcher.now
-    in let a = word_length (g.D.Dispatching.shop d) c.args.branching.now.word.now
-    (g.met.D.Dispatching.state_is_within_limits d c.args.branching.now.word.now _ c.requires.state)
-    (g.met.D.Dispatching.state_is_of_word d c.args.branching.now.word.now _ c.requires.state)
-    in omega arith
+overflow_cast-depth g c = grind (arith, word_length)
 
 pub settle_candidates-requires-clause-settled : goal.settle_candidates-requires-clause-settled
-settle_candidates-requires-clause-settled g c =
-    let at = c.args.branching.now
-    in subst (λ x. Settles (g.D.Dispatching.shop x) at.word.now at.bound c.in-Some.top at.candidates.now)
-    (sym c.bound_children.ensures.dispatcher)
-    (c.in-Some.ensures.settled at.word.now at.limit at.closed c.requires.state c.requires.bound c.requires.listed)
+settle_candidates-requires-clause-settled g c = grind arith
 
 pub settle_candidates-requires-clause-known : goal.settle_candidates-requires-clause-known
-settle_candidates-requires-clause-known g c =
-    let at = c.args.branching.now
-    in subst (λ x. All (λ k. g.D.Dispatching.KnowsChild x c.bound_children.new.self.scratch at.word.now k.job)
-    at.candidates.now) (sym c.bound_children.ensures.dispatcher)
-    (c.in-Some.ensures.known at.word.now at.limit at.closed c.requires.state c.requires.bound c.requires.listed)
+settle_candidates-requires-clause-known g c = grind arith
 
 pub loop-index-init : goal.loop-index-init
 loop-index-init g c =

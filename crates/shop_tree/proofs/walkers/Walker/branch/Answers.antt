@@ -1,8 +1,5 @@
-use Rattle.std.proofs.Common.{◌≡◌, ◌<◌, ◌∙◌, [], length, sym, ap, subst, arith, rules}
-use Rattle.shop_model.specs.Limits.{IsWithinLimits}
+use Rattle.std.proofs.Common.{◌≡◌, ◌<◌, [], length, subst, arith, rules}
 use Rattle.shop_model.specs.Shop.{Shop, operation_count}
-use Rattle.shop_model.specs.Word.{IsWord}
-use Rattle.shop_bound.specs.Bound.{lb}
 use Rattle.shop_tree.specs.inner.Opens.{AreChildren}
 use Rattle.shop_tree.specs.inner.StateWalkers.{stage_of}
 use Rattle.shop_tree.specs.inner.Walkers.{Stage, HasBranched, HasExpanded}
@@ -13,18 +10,10 @@ use Rattle.shop_tree.proofs.StateSteps.{candidates_stand, state_stands}
 use Rattle.shop_tree.proofs.walkers.Walker.branch.Goals as goal
 
 pub close-requires-clause-word : goal.close-requires-clause-word
-close-requires-clause-word g c =
-    let self = c.args.self.now
-    in subst (λ (x : Shop). IsWord x self.path.items) self.same_shop
-    (g.met.D.Dispatching.state_is_of_word self.states.dispatcher.now self.path.items self.states.current.value
-    c.requires.at.state)
+close-requires-clause-word g c = grind arith
 
 pub close-requires-clause-limits : goal.close-requires-clause-limits
-close-requires-clause-limits g c =
-    let self = c.args.self.now
-    in subst IsWithinLimits self.same_shop
-    (g.met.D.Dispatching.state_is_within_limits self.states.dispatcher.now self.path.items self.states.current.value
-    c.requires.at.state)
+close-requires-clause-limits g c = grind arith
 
 pub close-requires-clause-closed : goal.close-requires-clause-closed
 close-requires-clause-closed g c =
@@ -36,26 +25,16 @@ close-requires-clause-closed g c =
     (none_kept self.candidates.items c.args.closed none c.requires.candidates)
 
 pub push_children-requires-clause-bound : goal.push_children-requires-clause-bound
-push_children-requires-clause-bound g c = c.requires.at.bound
-    ∙ sym (ap (λ (t : Stage). lb t.shop t.word) c.in_ok-reclaim.ensures.stands.stage)
+push_children-requires-clause-bound g c = grind arith
 
 pub push_children-requires-clause-short : goal.push_children-requires-clause-short
-push_children-requires-clause-short g c =
-    let self = c.args.self.now
-    in let at = c.reclaim.new.self
-    in let same = c.in_ok-reclaim.ensures.stands.stage
-    in let word : length at.path.items ≡ length self.path.items = ap (λ (t : Stage). length t.word) same
-    in let operations : operation_count at.progress.instance.now ≡ operation_count self.progress.instance.now =
-    ap (λ (t : Stage). operation_count t.shop) same
-    in let a = c.requires.short in let e = self.progress.counted in let f = at.progress.counted in omega arith
+push_children-requires-clause-short g c = grind arith
 
 pub push_children-requires-clause-candidates : goal.push_children-requires-clause-candidates
-push_children-requires-clause-candidates g c =
-    candidates_stand c.in_ok-reclaim.ensures.stands c.args.closed c.requires.candidates
+push_children-requires-clause-candidates g c = grind (arith, candidates_stand)
 
 pub push_children-requires-clause-state : goal.push_children-requires-clause-state
-push_children-requires-clause-state g c =
-    state_stands c.in_ok-reclaim.ensures.stands c.requires.at.state
+push_children-requires-clause-state g c = grind (arith, state_stands)
 
 pub returns-clause-expanded : goal.returns-clause-expanded
 returns-clause-expanded g c =

@@ -1,8 +1,8 @@
-use Rattle.std.proofs.Common.{◌≡◌, ◌<◌, length, sym, subst, arith}
+use Rattle.std.proofs.Common.{◌≡◌, ◌<◌, length, arith}
 use Rattle.shop_model.specs.Shop.{operation_count}
 use Rattle.shop_model.proofs.WordLengths.{word_length}
 use Rattle.shop_tree.specs.inner.Held.{waiting_in}
-use Rattle.shop_tree.specs.inner.StateWalkers.{stage_of, AreHeld, KeepsStates}
+use Rattle.shop_tree.specs.inner.StateWalkers.{stage_of}
 use Rattle.shop_tree.specs.inner.Walkers.{HasExpanded}
 use Rattle.shop_tree.proofs.AddLemmas.{few_open}
 use Rattle.shop_tree.proofs.ExpandLemmas.{ends_closed}
@@ -20,10 +20,7 @@ returns-then-self-count-clause-expanded g c =
     c.if-self-count.true
 
 pub put_rest-requires-clause-depth : goal.put_rest-requires-clause-depth
-put_rest-requires-clause-depth g c =
-    let self = c.args.self.now
-    in let a = word_length self.progress.instance.now self.path.items c.requires.limits c.requires.word
-    in let b = c.len.ensures in let e = self.path.ok.0 in omega arith
+put_rest-requires-clause-depth g c = grind (arith, word_length)
 
 pub put_rest-requires-clause-count : goal.put_rest-requires-clause-count
 put_rest-requires-clause-count g c =
@@ -44,11 +41,4 @@ returns-clause-expanded g c =
     c.put_rest.result c.put_rest.ensures
 
 pub returns-clause-states : goal.returns-clause-states
-returns-clause-states g c =
-    let self = c.args.self.now
-    in let is = g.D.Dispatching.IsStateOf self.states.dispatcher.now
-    in on_ok _ (KeepsStates g.D.Dispatching self.path.items c.put_rest.new.stack.items self.states) (λ e. record {
-      held = subst (λ hs. AreHeld is self.path.items hs) (sym e)
-          (states_rest self.stack.items is self.path.items c.len.result c.args.count c.requires.states.held);
-      states = c.requires.states.states;
-    }) c.put_rest.result c.put_rest.ensures
+returns-clause-states g c = grind (arith, on_ok, states_rest)

@@ -8,14 +8,7 @@ use Rattle.shop_tree.proofs.ExpandLemmas.{expands_found, found_at}
 use Rattle.shop_tree.proofs.walkers.Walker.find.Goals as goal
 
 pub of_path-requires : goal.of_path-requires
-of_path-requires g c =
-    let self = c.args.self.now
-    in let d = self.states.dispatcher.now
-    in let path = self.path.items
-    in let few = word_length (g.D.Dispatching.shop d) path
-    (g.met.D.Dispatching.state_is_within_limits d path self.states.current.value c.requires.at.state)
-    (g.met.D.Dispatching.state_is_of_word d path self.states.current.value c.requires.at.state)
-    in let same = c.as_slice.ensures in omega arith
+of_path-requires g c = grind (arith, word_length)
 
 pub returns-clause-expanded : goal.returns-clause-expanded
 returns-clause-expanded g c =

@@ -1,12 +1,12 @@
-use Rattle.std.proofs.Common.{◌≡◌, ◌<◌, ◌++◌, ◌∙◌, ℕ, List, All, ap, length, map, sym, subst, arith}
+use Rattle.std.proofs.Common.{◌≡◌, ◌<◌, ◌++◌, ◌∙◌, ℕ, List, ap, length, map, subst, arith}
 use Rattle.std.proofs.lemmas.List.{length-append}
 use Rattle.shop_model.specs.Shop.{Shop, operation_count}
 use Rattle.shop_model.specs.Word.{IsWord}
 use Rattle.shop_model.proofs.WordLengths.{word_length}
 use Rattle.shop_tree.specs.declared.held.Held.{Held}
-use Rattle.shop_tree.specs.inner.Held.{held, opens_in, waiting_in, IsKept}
+use Rattle.shop_tree.specs.inner.Held.{held, opens_in, waiting_in}
 use Rattle.shop_tree.specs.inner.Opens.{AreChildren}
-use Rattle.shop_tree.specs.inner.StateWalkers.{stage_of, AreHeld, KeepsStates}
+use Rattle.shop_tree.specs.inner.StateWalkers.{stage_of}
 use Rattle.shop_tree.specs.inner.Walkers.{HasBranched}
 use Rattle.shop_tree.proofs.ListLemmas.{on_ok}
 use Rattle.shop_tree.proofs.AddLemmas.{few_open}
@@ -83,23 +83,4 @@ returns-clause-branched g c =
     c.set_rest_below.result c.set_rest_below.ensures
 
 pub returns-clause-states : goal.returns-clause-states
-returns-clause-states g c =
-    let self = c.args.self.now
-    in let d = self.states.dispatcher.now
-    in let word = self.path.items
-    in let put = c.in_ok-all.ensures.children
-    in let is = g.D.Dispatching.IsStateOf d
-    in let n = c.in_ok-all.all
-    in let place : c.len-below.result ≡ length self.stack.items = (let a = c.len-below.ensures
-    in let b = self.stack.ok.0 in omega arith)
-    in let before = put.stack ∙ ap (λ (hs : List (Held g.row.S.Denot)). hs ++ map held put.kids)
-    c.in_ok-put_rest.ensures
-    in let stack = c.set_rest_below.new.stack.items
-    in on_ok _ (KeepsStates g.D.Dispatching word stack c.try_candidates.new.self) (λ e. record {
-      held = subst (λ x. AreHeld (g.D.Dispatching.IsStateOf x) word stack)
-          (sym c.in_ok-all.ensures.dispatcher)
-          (held_branched is word self.stack.items stack put.kids c.len-depth.result n c.requires.states.held
-          (subst (λ (w : List ℕ). All (IsKept is w) put.kids) c.as_slice.ensures.value put.states)
-          (e self.stack.items (map held put.kids) place before));
-      states = c.in_ok-all.ensures.sound;
-    }) c.set_rest_below.result c.set_rest_below.ensures
+returns-clause-states g c = grind (arith, on_ok, held_branched)

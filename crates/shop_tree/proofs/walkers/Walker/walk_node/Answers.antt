@@ -10,8 +10,7 @@ use Rattle.shop_tree.proofs.WalkerLemmas.{node_expanded}
 use Rattle.shop_tree.proofs.walkers.Walker.walk_node.Goals as goal
 
 pub write_to-requires : goal.write_to-requires
-write_to-requires g c =
-    word_shared c.args.self.now.progress.instance.now c.args.node.now.word c.keeps_limits.ensures c.requires.node.0
+write_to-requires g c = grind (arith, word_shared)
 
 pub returns-clause-walked : goal.returns-clause-walked
 returns-clause-walked g c =
