@@ -1,4 +1,5 @@
 -- Children put on a stack: open ones, and before them, if there are others, their number.
+use Rattle.std.proofs.Common.{rules}
 use Rattle.std.proofs.Common.{◌≡◌, ℕ, zero, suc, ◌+◌, ◌-◌, ◌≤◌, ◌<◌, List, [], ◌∷◌, ◌++◌, length, map, take}
 use Rattle.std.proofs.Common.{reverse, refl, ◌∙◌, ap, arith, append_assoc, append-nil}
 use Rattle.std.proofs.Math.Seq.{take-length}
@@ -65,8 +66,7 @@ length-with old opens = grind (arith, length-append, length-map)
 pub few-children : (shop : Shop) (limit : ℕ) (word : List ℕ) (opens : List Open) (n depth : ℕ) (old : List Waiting)
     → AreChildren shop limit word opens n
     → length (with_opens (with_rest old depth n) opens) ≤ length old + length shop.jobs + 1
-few-children shop limit word opens zero depth old kids =
-    let a = length-with old opens in let b = few_open kids in omega arith
+few-children shop limit word opens zero depth old kids = search (rules, length-with, few_open)
 few-children shop limit word opens (suc n) depth old kids =
     let a = length-with (old ++ Rest depth (suc n) ∷ []) opens in let b = length-append old (Rest depth (suc n) ∷ [])
     in let c = few_open kids in omega arith

@@ -1,5 +1,6 @@
 -- Lists reversed, what holds of all of their elements, and of calls that succeed.
-use Rattle.std.proofs.Common.{◌≡◌, List, [], ◌∷◌, ◌++◌, reverse, sym, subst, Result, Ok, Err, OnOk}
+use Rattle.std.proofs.Common.{arith}
+use Rattle.std.proofs.Common.{◌≡◌, List, [], ◌∷◌, ◌++◌, reverse, Result, Ok, Err, OnOk}
 use Rattle.std.specs.List.{AllByRecursion}
 use Rattle.std.proofs.lemmas.List.{reverse-append}
 
@@ -21,8 +22,7 @@ module _ {A : Type 0} (P : A → Type 0) where
 
   pub all_reverse : (xs : List A) → AllByRecursion P xs → AllByRecursion P (reverse xs)
   all_reverse [] a = tt
-  all_reverse (x ∷ xs) a = subst (λ (ys : List A). AllByRecursion P ys) (sym (reverse-cons x xs))
-      (all_append (reverse xs) (x ∷ []) (all_reverse xs a.1) (a.0, tt))
+  all_reverse (x ∷ xs) a = grind (arith, reverse-cons, all_append, all_reverse xs a.1)
 
   pub all_weaker : (Q : A → Type 0) → ((x : A) → P x → Q x) → (xs : List A) → AllByRecursion P xs → AllByRecursion Q xs
   all_weaker Q f [] a = tt

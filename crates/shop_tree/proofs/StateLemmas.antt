@@ -1,18 +1,20 @@
 -- States that wait, as a walk goes on to another word.
+use Rattle.std.proofs.Common.{rules}
+use Rattle.std.proofs.Common.{arith}
 use Rattle.std.proofs.Common.{◌≡◌, ℕ, Option, None, List, [], ◌∷◌, ◌++◌, length, take}
 use Rattle.std.proofs.Common.{get_or, set, refl, sym, ◌∙◌, ap, subst}
 use Rattle.std.specs.Global.{Box}
 use Rattle.std.specs.List.{AllByRecursion}
 use Rattle.std.proofs.Math.Seq.{map-set_same, take-append_seam, take-length}
 use Rattle.std.proofs.lemmas.List.{map-append}
-use Rattle.std.proofs.lemmas.List.Elements.{All-set, All-from_recursion, recursion_from_All}
+use Rattle.std.proofs.lemmas.List.Elements.{All-from_recursion, recursion_from_All}
 use Rattle.shop_model.specs.Shop.{Shop}
 use Rattle.shop_states.specs.declared.dispatching.Dispatching.{Ghosts}
 use Rattle.shop_tree.specs.declared.held.Held.{Held}
 use Rattle.shop_nodes.specs.declared.halts.Open.{Open}
 use Rattle.shop_nodes.specs.declared.halts.Waiting.{Waiting}
 use Rattle.shop_nodes.specs.declared.halts.Waiting.TheVariants.{Child, Rest}
-use Rattle.shop_tree.specs.inner.Held.{IsHeld, IsHeldAs, IsHeldOf, waiting_in}
+use Rattle.shop_tree.specs.inner.Held.{IsHeld, IsHeldAs, waiting_in}
 use Rattle.shop_nodes.specs.Halts.{word_at, IsWaiting}
 use Rattle.shop_tree.specs.inner.Opens.{AreWaiting, IsUpTo}
 use Rattle.shop_tree.specs.inner.StateWalkers.{AreHeld}
@@ -23,8 +25,7 @@ module _ {S : Type 0} (is : List ℕ → S → Type 0) where
   -- Words that begin alike up to n: what begins with n entries at most waits with the same states.
   module _ (v w : List ℕ) (n : ℕ) (alike : take n v ≡ take n w) where
     entry_held : (x : Waiting) (state : Option (Box S)) → IsUpTo n x → IsHeldAs is w x state → IsHeldAs is v x state
-    entry_held (Child o) state low h = subst (λ (u : List ℕ). IsHeldOf is (u ++ o.job ∷ []) state)
-        (sym (begins_alike v w n alike o.depth low)) h
+    entry_held (Child o) state low h = grind (arith, begins_alike)
     entry_held (Rest depth count) state low h = h
 
     entries_held : (hs : List (Held S)) → AllByRecursion (IsUpTo n) (waiting_in hs)
@@ -60,9 +61,7 @@ module _ {S : Type 0} (is : List ℕ → S → Type 0) where
 
   pub held_stripped : (word : List ℕ) (hs : List (Held S)) (i : ℕ) (x : Waiting) (state : Option (Box S))
       → state ≡ None → AreHeld is word hs → AreHeld is word (set hs i (record { waiting = x; state = state }))
-  held_stripped word hs i x state none all =
-      All-set (IsHeld is word) hs i (record { waiting = x; state = state })
-      (subst (λ (o : Option (Box S)). IsHeldAs is word x o) (sym none) (entry_none word x)) all
+  held_stripped word hs i x state none all = search (rules, entry_none)
 
 -- what waits, without states, once there is one more
 pub waiting_pushed : {S : Type 0} (hs new : List (Held S)) (h : Held S) → new ≡ hs ++ h ∷ []
@@ -78,5 +77,4 @@ module _ {D S C : Type 0} (g : Ghosts D S C) (d e : D) (word : List ℕ) (now ne
 -- what waits, without states, once an entry lost its own
 pub waiting_stripped : {S : Type 0} (hs : List (Held S)) (i : ℕ) (d h : Held S) (state : Option (Box S))
     → h ≡ get_or hs i d → waiting_in (set hs i (record { waiting = h.waiting; state = state })) ≡ waiting_in hs
-waiting_stripped hs i d h state is =
-    map-set_same (λ x. x.waiting) hs i (record { waiting = h.waiting; state = state }) d (ap (λ x. x.waiting) is)
+waiting_stripped hs i d h state is = grind (arith, map-set_same)

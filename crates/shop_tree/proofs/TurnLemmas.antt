@@ -1,4 +1,5 @@
 -- One turn of the walk of a stack: where the walk goes.
+use Rattle.std.proofs.Common.{arith}
 use Rattle.std.proofs.Common.{◌≡◌, ℕ, ◌<◌, List, [], ◌∷◌, ◌++◌, length, sym, ◌∙◌, ap}
 use Rattle.std.specs.List.{fold}
 use Rattle.shop_model.specs.Shop.{Shop, operation_count}
@@ -37,8 +38,4 @@ module _ (shop : Shop) (best : ℕ) (word : List ℕ) (rest : List Waiting) (o :
 pub children_walk : (shop : Shop) (w : List ℕ) (old new : List Waiting) (t : Walk) (best : ℕ)
     → length w < operation_count shop → Adds shop best w old new
     → walk_stack shop w t new ≡ walk_stack shop w (entered shop t w) old
-children_walk shop w old new t best short more =
-    ap (λ (xs : List Waiting). walk_stack shop w t xs) more.stack
-    ∙ (stack-append shop w t old more.added
-    ∙ ap (λ s. walk_stack shop w s old)
-    (ap (fold (walk shop) t) more.words ∙ sym (entered-children shop t w short)))
+children_walk shop w old new t best short more = grind (arith, stack-append, entered-children)

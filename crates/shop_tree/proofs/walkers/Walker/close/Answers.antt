@@ -1,3 +1,4 @@
+use Rattle.std.proofs.Common.{rules}
 use Rattle.std.proofs.Common.{◌≡◌, ◌<◌, length, arith}
 use Rattle.shop_model.specs.Shop.{operation_count}
 use Rattle.shop_model.proofs.WordLengths.{word_length}
@@ -23,9 +24,7 @@ pub put_rest-requires-clause-depth : goal.put_rest-requires-clause-depth
 put_rest-requires-clause-depth g c = grind (arith, word_length)
 
 pub put_rest-requires-clause-count : goal.put_rest-requires-clause-count
-put_rest-requires-clause-count g c =
-    let a = few_open c.requires.closed
-    in let b = c.requires.limits.jobs in omega arith
+put_rest-requires-clause-count g c = search (rules, few_open)
 
 pub returns-clause-expanded : goal.returns-clause-expanded
 returns-clause-expanded g c =

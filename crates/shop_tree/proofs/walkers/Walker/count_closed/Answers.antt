@@ -1,3 +1,4 @@
+use Rattle.std.proofs.Common.{rules}
 use Rattle.std.proofs.Common.{◌-◌, ◌≤◌, None, List, sym, subst, arith}
 use Rattle.shop_tree.specs.inner.StateWalkers.{stage_of}
 use Rattle.shop_tree.specs.inner.Walkers.{IsTurn, Stage}
@@ -8,8 +9,7 @@ use Rattle.shop_tree.proofs.WalkerLemmas.{turn_counted, turn_halted}
 use Rattle.shop_tree.proofs.walkers.Walker.count_closed.Goals as goal
 
 pub returns-then-self-count-clause-turn : goal.returns-then-self-count-clause-turn
-returns-then-self-count-clause-turn g c =
-    turn_counted (stage_of c.args.self.now) c.args.depth c.args.count c.requires.on c.if-self-count.true
+returns-then-self-count-clause-turn g c = search (rules, turn_counted)
 
 pub returns-clause-turn : goal.returns-clause-turn
 returns-clause-turn g c =

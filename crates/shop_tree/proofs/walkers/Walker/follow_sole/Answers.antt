@@ -1,3 +1,4 @@
+use Rattle.std.proofs.Common.{rules}
 use Rattle.std.proofs.Common.{◌<◌, ◌++◌, ◌∷◌, ◌∙◌, [], ℕ, length, sym, ap, subst, arith}
 use Rattle.shop_model.specs.Shop.{Shop, operation_count}
 use Rattle.shop_bound.specs.Conflicts.{SoleCandidateKeepsBound}
@@ -11,15 +12,7 @@ use Rattle.shop_tree.proofs.StateSteps.{reached}
 use Rattle.shop_tree.proofs.walkers.Walker.follow_sole.Goals as goal
 
 pub strike-requires-clause-sole : goal.strike-requires-clause-sole
-strike-requires-clause-sole g c =
-    let self = c.args.self.now
-    in let word = self.path.items
-    in record {
-      word = word;
-      is = c.requires.at.state;
-      sole = sole_listed self.candidates.items c.index.result.now (one_listed self.candidates.items c.index.result.now _
-          c.requires.one c.index.ensures) c.requires.candidates;
-    }
+strike-requires-clause-sole g c = search (rules, sole_listed, one_listed)
 
 pub take_job-requires-clause-held : goal.take_job-requires-clause-held
 take_job-requires-clause-held g c =

@@ -1,3 +1,4 @@
+use Rattle.std.proofs.Common.{arith}
 use Rattle.shop_tree.proofs.StateSteps.{stands_then, stands_where}
 use Rattle.shop_tree.proofs.walkers.Walker.strip_lowest.Goals as goal
 
@@ -5,5 +6,4 @@ pub loop-self-init : goal.loop-self-init
 loop-self-init g c = stands_where c.args.self.now c.requires.states
 
 pub loop-self-preserved : goal.loop-self-preserved
-loop-self-preserved g c =
-    stands_then c.loop-self.invariant c.in_ok-strip_next.ensures.stands
+loop-self-preserved g c = grind (arith, stands_then)
