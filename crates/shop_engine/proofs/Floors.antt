@@ -1,6 +1,6 @@
 -- What waits at the beginning of a search, counted by hand.
 use Rattle.std.proofs.Common.{◌≡◌, ℕ, zero, suc, ◌+◌, ◌≤◌, ◌<◌, max, inl, inr, List, [], ◌∷◌, ◌++◌, length}
-use Rattle.std.proofs.Common.{get_or, take, drop, map, refl, sym, ap, ◌∙◌, subst, arith, add-one, eqb, ltb}
+use Rattle.std.proofs.Common.{get_or, take, drop, refl, sym, ap, subst, arith, add-one, eqb, ltb}
 use Rattle.std.specs.List.{AllByRecursion, filter, flat_map, sum_by, range_with_len}
 use Rattle.std.proofs.lemmas.Bool.{cases_Bool, eq-eqb, eqb-true}
 use Rattle.std.proofs.lemmas.List.{map-append, length-append}
@@ -47,9 +47,7 @@ single x (y ∷ ys) h = elim h [
 
 module _ (m : ℕ) where
   on_append : (xs ys : List Waiting) → triples_on m (xs ++ ys) ≡ triples_on m xs ++ triples_on m ys
-  on_append xs ys = ap (map (λ (x : Waiting). x.triple)) (filter-append (λ (x : Waiting). eqb x.machine m) xs ys)
-      ∙ map-append (λ (x : Waiting). x.triple) (filter (λ (x : Waiting). eqb x.machine m) xs)
-      (filter (λ (x : Waiting). eqb x.machine m) ys)
+  on_append xs ys = grind (arith, filter-append, map-append)
 
   work_from : (j k r : ℕ) (os : List Op)
       → sum_by (λ t. t.time) (triples_on m (waiting_from (λ i. 0) j k r os)) ≡ work_in m os

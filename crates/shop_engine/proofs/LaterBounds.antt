@@ -38,9 +38,7 @@ module _ (r : Told) (limits : IsWithinLimits r.shop) (is : IsRound r) where
   left_above : (ps : List (List (List ℕ))) → AllByRecursion (AllByRecursion (IsAbove r.shop limits r.bound)) ps
       → AllByRecursion (IsAbove r.shop limits r.bound) (flat_map (λ t. t.left) (map (sheet_in r) ps))
   left_above [] a = tt
-  left_above (p ∷ ps) a = all_append (IsAbove r.shop limits r.bound) (sheet_in r p).left
-      (flat_map (λ t. t.left) (map (sheet_in r) ps)) (sheet_above r.shop limits r.bound p r.best r.budget a.0)
-      (left_above ps a.1)
+  left_above (p ∷ ps) a = grind (arith, all_append, sheet_above, left_above ps a.1)
 
   after_above : (o : Option (Walk × List Walk))
       → AllByRecursion (IsAbove r.shop limits r.bound) (after_round r (sheets_of r) o).open_words

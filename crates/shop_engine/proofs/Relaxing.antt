@@ -39,9 +39,7 @@ module _ (easy hard : Shop) (r : IsRelaxation easy hard) where
 
   part_ends : (starts : Starts) → end_of easy (part_of starts) ≤ end_of hard starts
   unfolding part_of
-  part_ends starts = end_of-le easy (part_of starts) (end_of hard starts)
-      (λ i l op. let a = le-end_of hard starts (r.job i) (r.step i l) (r.operations i l op) in let b = r.times i l op
-      in omega arith)
+  part_ends starts = grind (arith, end_of-le, le-end_of)
 
   pub relaxed : AsksNoMore easy hard
   relaxed c h = record {

@@ -43,8 +43,7 @@ module _ (f : ℕ → ℕ) where
 
   machine_is : (shop : Shop) (j k : ℕ) → IsOperation shop j k
       → machine_of (renamed_machines f shop) j k ≡ f (machine_of shop j k)
-  machine_is shop j k op = ap (λ (os : List Op). (get_or os k no_op).machine) (route_at shop.jobs j)
-      ∙ machine_at (route_of shop j) k op
+  machine_is shop j k op = grind (arith, route_at, machine_at)
 
   length_is : (shop : Shop) (j : ℕ) → length (route_of (renamed_machines f shop) j) ≡ length (route_of shop j)
   length_is shop j = ap length (route_at shop.jobs j) ∙ length-map (route_of shop j) (renamed_op f)

@@ -1,10 +1,11 @@
 -- A table of an instance, from its end to its beginning.
+use Rattle.std.proofs.Common.{rules}
 use Rattle.std.proofs.lemmas.Grind.{common_steps}
-use Rattle.std.proofs.Common.{◌≡◌, ℕ, zero, suc, ◌+◌, ◌-◌, ◌≤◌, ◌<◌, inl, inr, List, [], ◌∷◌, length, get_or, map, refl}
-use Rattle.std.proofs.Common.{sym, ap, ◌∙◌, subst, arith, reverse}
+use Rattle.std.proofs.Common.{◌≡◌, ℕ, zero, suc, ◌+◌, ◌-◌, ◌≤◌, ◌<◌, List, [], ◌∷◌, length, get_or, map, refl}
+use Rattle.std.proofs.Common.{ap, ◌∙◌, subst, arith, reverse}
 use Rattle.std.proofs.lemmas.List.{get_or-reverse, length-reverse, reverse-reverse}
 use Rattle.shop_model.specs.declared.ops.Op.{Op}
-use Rattle.shop_model.specs.Shop.{Shop, ShopJob, Starts, no_job, no_op, release_of, route_of, op_of, machine_of}
+use Rattle.shop_model.specs.Shop.{Shop, ShopJob, Starts, no_job, release_of, route_of, op_of, machine_of}
 use Rattle.shop_model.specs.Shop.{time_of, IsOperation, IsFeasible, finish_of}
 use Rattle.shop_model.proofs.Ends.{AreDifferent, le-end_of, end_of-le}
 use Rattle.shop_engine.specs.Easier.{EndsBy}
@@ -39,8 +40,7 @@ module _ (shop : Shop) where
 
   op_is : (j k : ℕ) → IsOperation (reversed shop) j k → op_of (reversed shop) j k ≡ op_of shop j (other j k)
   unfolding other
-  op_is j k op = ap (λ (os : List Op). get_or os k no_op) (route_at shop.jobs j)
-      ∙ get_or-reverse (route_of shop j) k no_op (here j k op)
+  op_is j k op = search (rules, route_at, get_or-reverse, here)
 
   time_is : (j k : ℕ) → IsOperation (reversed shop) j k → time_of (reversed shop) j k ≡ time_of shop j (other j k)
   time_is j k op = ap (λ (o : Op). o.time) (op_is j k op)
@@ -60,10 +60,7 @@ module _ (shop : Shop) where
 
   differ : (j k i l : ℕ) → IsOperation (reversed shop) j k → IsOperation (reversed shop) i l → AreDifferent j k i l
       → AreDifferent j (other j k) i (other i l)
-  differ j k i l op next different both =
-      let same : IsOperation (reversed shop) j l = subst (λ (n : ℕ). IsOperation (reversed shop) n l) (sym both.0) next
-      in let e : other j k ≡ other j l = both.1 ∙ ap (λ (n : ℕ). other n l) (sym both.0)
-      in different (both.0, other_one j k l op same e)
+  differ j k i l op next different both = grind (arith, other_one)
 
   module _ (none : (j : ℕ) → release_of shop j ≡ 0) (c : ℕ) (h : EndsBy shop c) where
     mirrored : Starts
@@ -75,8 +72,7 @@ module _ (shop : Shop) where
     mirrored_ends : (j k : ℕ) → IsOperation (reversed shop) j k
         → finish_of (reversed shop) mirrored j k ≡ c - h.table j (other j k)
     unfolding mirrored
-    mirrored_ends j k op =
-        let e = time_is j k op in let a = in_time j (other j k) (there j k op) in omega arith
+    mirrored_ends j k op = grind (arith, time_is, in_time, there)
 
     -- what ends before another begins begins after it ends
     after : (j k i l : ℕ) → IsOperation (reversed shop) j k → IsOperation (reversed shop) i l
@@ -87,23 +83,10 @@ module _ (shop : Shop) where
 
     in_turn : (j k : ℕ) → IsOperation (reversed shop) j (k + 1)
         → finish_of (reversed shop) mirrored j k ≤ mirrored j (k + 1)
-    in_turn j k op =
-        let e = next_is j k op
-        in let kept = h.feasible.in_order j (other j (k + 1))
-        (subst (λ (n : ℕ). IsOperation shop j n) e (there j k (omega arith)))
-        in after j k j (k + 1) (omega arith) op
-        (subst (λ (n : ℕ). finish_of shop h.table j (other j (k + 1)) ≤ h.table j n) (sym e) kept)
+    in_turn j k op = grind (arith, next_is, there, after)
 
     mirrored_feasible : IsFeasible (reversed shop) mirrored
-    mirrored_feasible = record {
-      released = λ j op. let a = release_at shop.jobs j in let b = none j in omega arith;
-      in_order = in_turn;
-      apart = λ j k i l op next same different. elim (h.feasible.apart j (other j k) i (other i l) (there j k op)
-          (there i l next) (sym (machine_is j k op) ∙ same ∙ machine_is i l next) (differ j k i l op next different)) [
-            | inl before ↦ inr (after i l j k next op before)
-            | inr behind ↦ inl (after j k i l op next behind)
-          ];
-    }
+    mirrored_feasible = grind (arith, release_at, in_turn, there, machine_is, differ, after)
 
     turned : EndsBy (reversed shop) c
     turned = record {

@@ -143,10 +143,8 @@ abbrev first_job : Shop
 first_job = record { machines = 2; jobs = job (op 0 3 ∷ op 1 2 ∷ []) ∷ [] }
 
 pub first_job_no_later : (c : ℕ) → IsLeast first_job c → c ≤ 7
-first_job_no_later c least = easier_instances_end_no_later.least first_job shop_a
-    (relaxations_ask_no_more.relaxed first_job shop_a
-    (relaxations_ask_no_more.job_left_out 2 (job (op 0 3 ∷ op 1 2 ∷ []) ∷ []) [] (job (op 1 2 ∷ op 0 4 ∷ []))))
-    c 7 least least_7
+first_job_no_later c least =
+    grind (arith, easier_instances_end_no_later, shop_a, relaxations_ask_no_more, job, op, least_7)
 
 abbrev shorter : Shop
 shorter = record { machines = 2; jobs = job (op 0 3 ∷ op 1 2 ∷ []) ∷ job (op 0 4 ∷ []) ∷ [] }

@@ -40,12 +40,10 @@ module _ (k : ℕ) (shop : Shop) where
   scaled_release j = release_at k shop.jobs j
 
   scaled_time : (j l : ℕ) → time_of (scaled k shop) j l ≡ k * time_of shop j l
-  scaled_time j l = ap (λ (os : List Op). (get_or os l no_op).time) (route_at k shop.jobs j)
-      ∙ time_at k (route_of shop j) l
+  scaled_time j l = grind (arith, route_at, time_at)
 
   scaled_machine : (j l : ℕ) → machine_of (scaled k shop) j l ≡ machine_of shop j l
-  scaled_machine j l = ap (λ (os : List Op). (get_or os l no_op).machine) (route_at k shop.jobs j)
-      ∙ machine_at k (route_of shop j) l
+  scaled_machine j l = grind (arith, route_at, machine_at)
 
   scaled_length : (j : ℕ) → length (route_of (scaled k shop) j) ≡ length (route_of shop j)
   scaled_length j = ap length (route_at k shop.jobs j) ∙ length-map (route_of shop j) (scaled_op k)
@@ -123,10 +121,7 @@ module _ (k : ℕ) (shop : Shop) where
         in omega arith
 
     mul_le_back : (a b : ℕ) → k * a ≤ k * b → a ≤ b
-    mul_le_back a b h = elim (cases_lt b a) [
-      | inl less ↦ absurd (let m = mul-lt-mul_of_pos_left less some in omega arith)
-      | inr most ↦ most
-    ]
+    mul_le_back a b h = grind (arith, cases_lt, mul-lt-mul_of_pos_left)
 
     bound_there : (b : ℕ) → IsBound shop b → IsBound (scaled k shop) (k * b)
     bound_there b bound starts f =

@@ -1,16 +1,16 @@
 -- The instances of a good text are within the limits.
 use Rattle.std.proofs.lemmas.Grind.{common_steps}
-use Rattle.std.proofs.Common.{◌≡◌, ℕ, zero, suc, ◌+◌, ◌*◌, ◌≤◌, ◌<◌, List, [], ◌∷◌, ◌++◌, length}
-use Rattle.std.proofs.Common.{get_or, take, drop, map, Option, refl, sym, ◌∙◌, subst, arith}
+use Rattle.std.proofs.Common.{◌≡◌, ℕ, zero, suc, ◌+◌, ◌*◌, ◌≤◌, ◌<◌, List, [], ◌∷◌, length}
+use Rattle.std.proofs.Common.{get_or, map, Option, refl, sym, subst, arith}
 use Rattle.std.specs.List.{AllByRecursion, zip}
 use Rattle.std.proofs.lemmas.List.{length-map, map-append}
 use Rattle.std.proofs.lemmas.Slice.Zip.{length-zip}
 use Rattle.std.proofs.Math.Seq.{take-append_seam, drop-append_seam}
 use Rattle.shop_model.specs.declared.ops.Op.{Op}
-use Rattle.shop_model.specs.Shop.{ShopJob, no_job, no_op}
+use Rattle.shop_model.specs.Shop.{ShopJob, no_job}
 use Rattle.shop_model.specs.Limits.{IsWithinLimits}
 use Rattle.shop_text.specs.Grammar.{Row, Entry, Part, entry_rows, IsPart}
-use Rattle.shop_text.specs.Formats.{jobs_in, machines_in, pairs_of, orlib_job, routes_job, shop_by_rows, taillard_op}
+use Rattle.shop_text.specs.Formats.{pairs_of, orlib_job, routes_job, shop_by_rows, taillard_op}
 use Rattle.shop_text.specs.Formats.{taillard_job, taillard_shop, grammar_of}
 use Rattle.shop_text.specs.Shapes.{IsSize, ArePairs, IsOrlibRow, IsRoutesRow, IsRowLine, IsPartOfRows, IsRowOf, IsTime}
 use Rattle.shop_text.specs.Shapes.{IsMachineNumber, IsMatrix, IsTaillardPart}
@@ -34,11 +34,6 @@ record IsSmallJob (machines : ℕ) (job : ShopJob) : Type 0 where
   ops : AllByRecursion (IsSmallOp machines) job.route
 
 module _ (machines : ℕ) (some : 1 ≤ machines) where
-  op_at : (os : List Op) (k : ℕ) → AllByRecursion (IsSmallOp machines) os → IsSmallOp machines (get_or os k no_op)
-  op_at [] k all = (omega arith, omega arith)
-  op_at (o ∷ os) zero all = all.0
-  op_at (o ∷ os) (suc k) all = op_at os k all.1
-
   job_at : (jobs : List ShopJob) (j : ℕ) → AllByRecursion (IsSmallJob machines) jobs
       → IsSmallJob machines (get_or jobs j no_job)
   job_at [] j all = record { release = omega arith; steps = omega arith; ops = tt }
@@ -83,14 +78,7 @@ module _ (IsRow : ℕ → Row → Type 0) (job_of : Row → ShopJob) (small : (m
   )
 
   part_within : (part : Part) → IsPartOfRows IsRow part → IsWithinLimits (shop_by_rows job_of (entry_rows part))
-  part_within part p =
-      let machines = machines_in p.first.row
-      in let count : length (map job_of (entry_rows p.rows)) ≡ jobs_in p.first.row =
-      length-map (entry_rows p.rows) job_of ∙ length-map p.rows (λ e. e.row) ∙ p.count
-      in subst (λ (x : Part). IsWithinLimits (shop_by_rows job_of (entry_rows x))) (sym p.cut)
-      (within machines (map job_of (entry_rows p.rows))
-      (subst (λ (n : ℕ). IsSize n machines) (sym count) p.size)
-      (rows_small machines p.size.few_machines p.rows p.each))
+  part_within part p = grind (arith, length-map, within, rows_small)
 
 -- ---- `taillard`
 
@@ -128,31 +116,17 @@ zipped_small machines few (t ∷ times) (row ∷ rows) a b =
 
 matrices_within : (part : Part) → IsTaillardPart part → IsWithinLimits (taillard_shop (entry_rows part))
 matrices_within part p =
-    let machines = machines_in p.first.row
-    in let times = entry_rows p.times
-    in let rows = entry_rows p.machines
-    in let jobs = map taillard_job (zip times rows)
-    in let n : length times ≡ jobs_in p.first.row = length-map p.times (λ e. e.row) ∙ p.times_count
-    in let m : length rows ≡ jobs_in p.first.row = length-map p.machines (λ e. e.row) ∙ p.machines_count
-    in let count : length jobs ≡ jobs_in p.first.row =
-    (let e = length-map (zip times rows) taillard_job ∙ length-zip times rows in omega arith)
-    in let joined : entry_rows (p.times ++ p.machines) ≡ times ++ rows = map-append (λ e. e.row) p.times p.machines
-    in let is : IsWithinLimits (record { machines = machines; jobs = jobs }) = within machines jobs
-    (subst (λ (k : ℕ). IsSize k machines) (sym count) p.size)
-    (zipped_small machines p.size.few_machines times rows
-    (matrix_rows (IsRowOf IsTime machines) p.times p.are_times)
-    (matrix_rows (IsRowOf (IsMachineNumber machines) machines) p.machines p.are_machines))
-    in let front : take (jobs_in p.first.row) (times ++ rows) ≡ times =
-    subst (λ (k : ℕ). take k (times ++ rows) ≡ times) n (take-append_seam times rows)
-    in let back : drop (jobs_in p.first.row) (times ++ rows) ≡ rows =
-    subst (λ (k : ℕ). drop k (times ++ rows) ≡ rows) n (drop-append_seam times rows)
-    in let cut : IsWithinLimits (record {
-      machines = machines;
-      jobs = map taillard_job (zip (take (jobs_in p.first.row) (times ++ rows))
-          (drop (jobs_in p.first.row) (times ++ rows)));
-    }) = rw (front, back) is
-    in subst (λ (x : Part). IsWithinLimits (taillard_shop (entry_rows x))) (sym p.cut)
-    (subst (λ (rs : List Row). IsWithinLimits (taillard_shop (p.first.row ∷ rs))) (sym joined) cut)
+    grind (
+      arith,
+      length-map,
+      length-zip,
+      map-append,
+      within,
+      zipped_small,
+      matrix_rows,
+      take-append_seam,
+      drop-append_seam,
+    )
 
 -- ---- whole texts
 

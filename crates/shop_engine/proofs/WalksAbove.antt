@@ -55,8 +55,7 @@ module _ (shop : Shop) (limits : IsWithinLimits shop) (b : ℕ) where
 
   walk_above : (n : ℕ) (s : Walk) (w : List ℕ) → IsAbove w → LeavesAbove s → LeavesAbove (walk_within shop n s w)
   unfolding LeavesAbove
-  walk_above zero s w a i =
-      taking_above s.budget s w _ a i (λ t k. cut_above (leb t.best (lb shop w)) t _ k k)
+  walk_above zero s w a i = grind (arith, taking_above)
   walk_above (suc n) s w a i =
       taking_above s.budget s w _ a i (λ t k. cut_above (leb t.best (lb shop w)) t _ k
       (fold_above (walk_within shop n) (λ u c above j. walk_above n u c above j) t (branch shop w)

@@ -1,3 +1,4 @@
+use Rattle.std.proofs.Common.{arith}
 use Rattle.shop_text.specs.Names.{shop_of_named}
 use Rattle.shop_engine.specs.Asking.{name_in}
 use Rattle.shop_engine.proofs.Picks.{is_asked}
@@ -5,14 +6,7 @@ use Rattle.shop_engine.proofs.SolvedSchedules.{passes_check}
 use Rattle.shop_engine.proofs.solving.solve.Goals as goal
 
 pub returns-clause-right : goal.returns-clause-right
-returns-clause-right g c =
-    let args = c.args.args.now
-    in record {
-      asked = shop_of_named c.in_ok-asked.asked.now;
-      is_asked = is_asked args.format (name_in args.name) c.in_ok-named.ensures.0 c.as_slice.ensures.value
-          c.in_ok-asked.ensures;
-      says = c.in_ok-solve_instance.ensures.right;
-    }
+returns-clause-right g c = grind (arith, is_asked)
 
 pub returns-clause-determined : goal.returns-clause-determined
 returns-clause-determined g c =

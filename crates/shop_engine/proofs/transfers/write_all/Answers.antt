@@ -1,14 +1,13 @@
+use Rattle.std.proofs.Common.{arith}
 use Rattle.std.proofs.Common.{◌≡◌, List, ℕ, ◌++◌, ◌-◌, length, take, drop, rules}
-use Rattle.std.proofs.Common.{take-append-drop, append_assoc, sym, ◌∙◌, ap}
+use Rattle.std.proofs.Common.{take-append-drop, append_assoc}
 use Rattle.std.proofs.lemmas.List.{take_rest}
 use Rattle.std.proofs.KnownBytes.{Appends-trans}
 use Rattle.shop_engine.proofs.transfers.write_all.Goals as goal
 
 cut_more : (text gone rest : List ℕ) (n : ℕ) → text ≡ gone ++ rest
     → text ≡ gone ++ take n rest ++ take (length rest - n) (drop n rest)
-cut_more text gone rest n cut =
-    rw (take_rest rest n)
-    (cut ∙ ap (λ xs. gone ++ xs) (sym (take-append-drop n rest)) ∙ sym (append_assoc gone (take n rest) (drop n rest)))
+cut_more text gone rest n cut = grind (arith, take_rest, take-append-drop, append_assoc)
 
 -- what went out so far, and what the sink took now
 pub loop-rest-preserved : goal.loop-rest-preserved
