@@ -1,4 +1,5 @@
 -- The front that is cut off a run's open nodes.
+use Rattle.std.proofs.Common.{rules}
 use Rattle.std.proofs.Common.{◌≡◌, ℕ, ◌*◌, ◌<◌, ◌≤◌, List, [], length, take, drop, sym, ◌∙◌, ap, subst, arith}
 use Rattle.std.proofs.lemmas.List.{drop-map, length-map}
 use Rattle.std.proofs.lemmas.List.Elements.{All-take}
@@ -71,8 +72,7 @@ module _ (shop : Shop) (plan : Planned) (t : OpenRun) (bound : ℕ) (front : Lis
         })
 
     pub made_round : IsRound (told_of shop t.word t.makespan bound plan.budget ps rest t.rounds t.nodes)
-    made_round = subst IsRound (sym made_told) (front_is_round (cut_of shop plan (stand_of t))
-        (cut_is_round shop plan (stand_of t) of.standing))
+    made_round = search (rules, made_told, front_is_round, cut_is_round)
 
     pub made_pieces : ArePieces shop ps
     made_pieces = cut_nodes shop ps 256 plan.piece front pieces front_nodes

@@ -1,4 +1,5 @@
 -- Entries gathered in turn.
+use Rattle.std.proofs.Common.{rules}
 use Rattle.std.proofs.Common.{◌≡◌, ℕ, zero, suc, ◌+◌, ◌*◌, ◌≤◌, ◌<◌, Bool, true, false, cond}
 use Rattle.std.proofs.Common.{List, [], ◌∷◌, ◌++◌, map, length, get_or, take, refl, sym, ◌∙◌, ap, subst, arith, eqb}
 use Rattle.std.proofs.Common.{ltb}
@@ -8,7 +9,6 @@ use Rattle.std.proofs.lemmas.Bool.{cases_lt}
 use Rattle.std.proofs.lemmas.List.{take_more, length-map, flat_map_more, map-append}
 use Rattle.std.proofs.lemmas.List.Sums.{sum_by-append, fold-append}
 use Rattle.std.proofs.lemmas.List.Elements.{All-append}
-use Rattle.shop_nodes.specs.declared.nodes.Node.{Node}
 use Rattle.shop_nodes.specs.declared.sheets.Sheet.{Sheet}
 use Rattle.shop_nodes.specs.Nodes.{words_of, IsNode, AreNodes}
 use Rattle.shop_model.specs.Shop.{Shop}
@@ -104,11 +104,7 @@ module _ (r : Told) (i : ℕ) (s : Sheet) (at : IsSheetAt r i s) where
 
     left_here : words_of (left_open o.left.items ++ open_of s.left)
         ≡ flat_map (below_best r.shop) (first_sheets r (i + 1))
-    left_here =
-        map-append (λ (n : Node). n.word) (left_open o.left.items) (open_of s.left)
-        ∙ ((λ j. was.left_is j ++ left_below j)
-        ∙ (flat_map_more (below_best r.shop) [] (first_sheets r i) (whole_of r i s)
-        ∙ sym (ap (flat_map (below_best r.shop)) next_sheets)))
+    left_here = search (rules, map-append, left_below, flat_map_more, next_sheets)
 
     nodes_left_here : AreNodes r.shop (left_open o.left.items ++ open_of s.left)
     nodes_left_here = All-append (IsNode r.shop) (left_open o.left.items) (open_of s.left) was.nodes_left

@@ -1,5 +1,6 @@
 -- What stands after a round.
-use Rattle.std.proofs.Common.{◌≡◌, ◌+◌, ◌++◌, refl, sym, ◌∙◌, ap, subst}
+use Rattle.std.proofs.Common.{arith}
+use Rattle.std.proofs.Common.{◌≡◌, ◌+◌, ◌++◌, sym, ◌∙◌, ap, subst}
 use Rattle.std.specs.Prelude.{unwrap_or}
 use Rattle.std.proofs.lemmas.List.{map-append}
 use Rattle.std.proofs.lemmas.List.Elements.{All-append, All-filter}
@@ -11,7 +12,7 @@ use Rattle.shop_nodes.specs.Nodes.{words_of, IsNode, AreNodes}
 use Rattle.shop_runs.specs.declared.outcomes.RoundResult.{RoundResult}
 use Rattle.shop_runs.specs.declared.rounds.Round.{Round}
 use Rattle.shop_runs.specs.declared.standings.Standing.{Standing}
-use Rattle.shop_runs.specs.Round.{Stand, gathered, words_below, makespan_of}
+use Rattle.shop_runs.specs.Round.{Stand, gathered, words_below}
 use Rattle.shop_nodes.specs.inner.HeldNodes.{nodes_below}
 use Rattle.shop_runs.specs.Laws.{IsStanding, StandsCovering, CoversInRound}
 use Rattle.shop_runs.specs.Entries.{told}
@@ -22,12 +23,7 @@ use Rattle.shop_runs.proofs.StandingLemmas.{gathered_is_standing}
 use Rattle.shop_runs.proofs.Covering.{gather_covers}
 
 at_own : (shop : Shop) (s : Stand) (t : Standing) → StandsAt shop s t → StandsAt shop (stands t) t
-at_own shop s t a = record {
-  stands_at = refl;
-  makespan = a.makespan
-      ∙ ap (makespan_of shop) (sym a.stands_at);
-  bounds = a.bounds;
-}
+at_own shop s t a = grind arith
 
 -- what the sheets left open and the rest, below the makespan of their outcome, come to what is gathered
 pub stands_gathered : (r : Round) (o : RoundResult) (t : Standing) → IsOutcome (told r) o

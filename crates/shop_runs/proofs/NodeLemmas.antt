@@ -1,4 +1,5 @@
 -- Nodes against their words: bounds, places by bound, and what is below a makespan.
+use Rattle.std.proofs.Common.{arith}
 use Rattle.std.proofs.Common.{◌≡◌, ℕ, min, inl, inr, List, [], ◌∷◌, refl, ◌∙◌, ap, leb, ltb}
 use Rattle.std.specs.List.{AllByRecursion}
 use Rattle.std.proofs.lemmas.Bool.{cases_Bool}
@@ -16,8 +17,7 @@ module _ (shop : Shop) where
   least_by_recursion : (c : ℕ) (ns : List Node) → AllByRecursion (IsNode shop) ns
       → least_of_bounds c ns ≡ least_bound shop c (words_of ns)
   least_by_recursion c [] a = refl
-  least_by_recursion c (n ∷ ns) a = ap (λ b. least_of_bounds (min c b) ns) a.0.1
-      ∙ least_by_recursion (min c (lb shop n.word)) ns a.1
+  least_by_recursion c (n ∷ ns) a = grind (arith, least_by_recursion (min c (lb shop n.word)) ns a.1)
 
   pub least_is : (c : ℕ) (ns : List Node) → AreNodes shop ns → least_of_bounds c ns ≡ least_bound shop c (words_of ns)
   least_is c ns a = least_by_recursion c ns (recursion_from_All (IsNode shop) ns a)

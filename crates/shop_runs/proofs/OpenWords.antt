@@ -1,11 +1,11 @@
 -- Words left, as open nodes.
-use Rattle.std.proofs.Common.{◌≡◌, ℕ, List, [], ◌∷◌, refl, ap, inl, inr, ltb}
+use Rattle.std.proofs.Common.{arith}
+use Rattle.std.proofs.Common.{◌≡◌, ℕ, List, [], ◌∷◌, refl}
 use Rattle.std.specs.List.{AllByRecursion}
 use Rattle.std.proofs.lemmas.Bool.{cases_Bool}
 use Rattle.std.proofs.lemmas.List.Elements.{All-from_recursion}
 use Rattle.shop_model.specs.Shop.{Shop}
 use Rattle.shop_model.specs.Word.{IsWord}
-use Rattle.shop_bound.specs.Bound.{lb}
 use Rattle.shop_nodes.specs.Laws.{AreWords}
 use Rattle.shop_nodes.specs.Left.{open_nodes}
 use Rattle.shop_nodes.specs.Nodes.{words_of, IsNode, AreNodes}
@@ -14,18 +14,12 @@ use Rattle.shop_nodes.proofs.Members.{all_contains}
 
 pub words_open : (shop : Shop) (c : ℕ) (ws : List (List ℕ)) → words_of (open_nodes shop c ws) ≡ words_below shop c ws
 words_open shop c [] = refl
-words_open shop c (w ∷ ws) = elim (cases_Bool (ltb (lb shop w) c)) [
-  | inl e ↦ rw e (ap (λ vs. w ∷ vs) (words_open shop c ws))
-  | inr e ↦ rw e (words_open shop c ws)
-]
+words_open shop c (w ∷ ws) = grind (arith, cases_Bool, words_open shop c ws)
 
 each_open : (shop : Shop) (c : ℕ) (ws : List (List ℕ)) → AllByRecursion (IsWord shop) ws
     → AllByRecursion (IsNode shop) (open_nodes shop c ws)
 each_open shop c [] are = tt
-each_open shop c (w ∷ ws) are = elim (cases_Bool (ltb (lb shop w) c)) [
-  | inl e ↦ rw e ((are.0, refl), each_open shop c ws are.1)
-  | inr e ↦ rw e (each_open shop c ws are.1)
-]
+each_open shop c (w ∷ ws) are = grind (arith, cases_Bool, each_open shop c ws are.1)
 
 pub nodes_open : (shop : Shop) (c : ℕ) (ws : List (List ℕ)) → AreWords shop ws → AreNodes shop (open_nodes shop c ws)
 nodes_open shop c ws are = All-from_recursion (IsNode shop) (open_nodes shop c ws)

@@ -1,12 +1,12 @@
 -- A word that is that of no order in the list of all.
-use Rattle.std.proofs.Common.{◌≡◌, ℕ, ◌<◌, List, [], ◌∷◌, false, true, get_or, lit<, refl, subst, sym}
+use Rattle.std.proofs.Common.{arith}
+use Rattle.std.proofs.Common.{◌≡◌, ℕ, ◌<◌, List, [], ◌∷◌, false, true, get_or, lit<, refl}
 use Rattle.std.specs.Str.{bytes_eq}
 use Rattle.shop_runs.specs.Orders.{order_word, IsNoOrderWord}
 use Rattle.shop_runs.specs.declared.plans.Order.TheVariants.{Kept, Bound}
 
 not_the_same : (word other : List ℕ) → bytes_eq word word ≡ true → bytes_eq word other ≡ false → word ≡ other → ⊥
-not_the_same word other same differ e =
-    let on_itself : bytes_eq word word ≡ false = subst (λ w. bytes_eq word w ≡ false) (sym e) differ in cc
+not_the_same word other same differ e = grind arith
 
 pub no_word : (word : List ℕ)
     → ((k : ℕ) → k < 2 → bytes_eq (order_word (get_or (Kept ∷ Bound ∷ []) k Kept)) word ≡ false)

@@ -1,6 +1,6 @@
 -- What the entries of a round come to: at the first sheet that ends at the opening bound, or at the end.
 use Rattle.std.proofs.Common.{◌≡◌, ℕ, zero, suc, ◌+◌, ◌≤◌, ◌<◌, Bool, true, false, Some, None}
-use Rattle.std.proofs.Common.{List, [], ◌∷◌, ◌++◌, length, get_or, take, refl, sym, ◌∙◌, ap, subst, arith}
+use Rattle.std.proofs.Common.{List, [], ◌∷◌, ◌++◌, length, get_or, take, refl, sym, ◌∙◌, ap, arith}
 use Rattle.std.proofs.Common.{eqb, ltb, eqb-true}
 use Rattle.std.specs.Prelude.{unwrap_or}
 use Rattle.std.specs.List.{AllByRecursion, flat_map, sum_by}
@@ -10,7 +10,7 @@ use Rattle.shop_model.specs.Shop.{Shop}
 use Rattle.shop_bound.specs.Bound.{lb}
 use Rattle.shop_nodes.proofs.HighWalks.{below-below}
 use Rattle.shop_nodes.specs.declared.sheets.Sheet.{Sheet}
-use Rattle.shop_nodes.specs.Nodes.{words_of, AreNodes}
+use Rattle.shop_nodes.specs.Nodes.{words_of}
 use Rattle.shop_nodes.specs.Walking.{Walk}
 use Rattle.shop_nodes.proofs.Members.{in_all, all_in}
 use Rattle.shop_runs.specs.Round.{Told, taken_of, hit_or, up_to_hit, best_word, sheet_in, sheets_of}
@@ -72,18 +72,19 @@ module _ (r : Told) (is : IsRound r) (i : ℕ) (o : RoundResult) (was : Gathered
     pub closed_outcome : (t : RoundResult) → t.found ≡ s.found → t.makespan ≡ s.makespan → t.left.items ≡ []
         → t.nodes ≡ o.nodes + s.taken → IsOutcome r t
     closed_outcome t found makespan left nodes =
-        let bound : t.makespan ≡ r.bound = makespan ∙ eqb-true s.makespan r.bound hit
-        in let none : words_below r.shop t.makespan (words_of (left_open t.left.items) ++ r.rest) ≡ [] =
-        (λ j. words_below r.shop (bound j) (words_of (left_open (left j)) ++ r.rest)) ∙ rest_closed r is
-        in let count : r.nodes + sum_by (taken_of r.budget) (first_sheets r i ++ whole_of r i s ∷ []) ≡ t.nodes =
-        (let a = next_taken r i s at in let b = was.nodes_is
-        in let d = ap (sum_by (taken_of r.budget)) (next_sheets r i s at) in omega arith)
-        in record {
-          stands = grind (arith, first_hit);
-          makespan = bound ∙ (closed_bound ∙ ap (λ f. lb r.shop (unwrap_or f r.word)) (sym found));
-          nodes_left = subst (λ ls. AreNodes r.shop (left_open ls)) (sym left) (λ k d h. absurd (omega arith));
-          counted = grind (arith, few_here, many_sheets);
-        }
+        grind (
+          arith,
+          eqb-true,
+          rest_closed,
+          first_sheets,
+          whole_of,
+          next_taken,
+          next_sheets,
+          first_hit,
+          closed_bound,
+          few_here,
+          many_sheets,
+        )
 
   module _ (all : i ≡ length r.pieces) where
     all_sheets : first_sheets r i ≡ sheets_of r

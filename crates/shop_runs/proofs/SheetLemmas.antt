@@ -1,4 +1,5 @@
 -- The sheets of a round: the best word of them, and the first that ends at a bound.
+use Rattle.std.proofs.Common.{rules}
 use Rattle.std.proofs.Common.{◌≡◌, ℕ, ◌≤◌, ◌<◌, inl, inr, false, cond, Option, Some, None, List, [], ◌∷◌, map, refl}
 use Rattle.std.proofs.Common.{sym, ◌∙◌, ap, subst, arith, ltb, eqb}
 use Rattle.std.specs.Prelude.{unwrap_or}
@@ -89,9 +90,7 @@ first_of c word = record { found = Some word; best = c; left = []; budget = 0 }
 held_of : (shop : Shop) (c : ℕ) (word : List ℕ) (ss : List Walk) → c ≡ lb shop word → IsFull shop word
     → AllByRecursion (IsOfRound shop c) ss
     → IsLeastHeld shop c (first_of c word) ss (fold better_of (first_of c word) ss)
-held_of shop c word ss e full a =
-    least_held shop c (first_of c word) ss
-    (record { word = word; found = refl; full = full; best = e; below = omega arith }) a
+held_of shop c word ss e full a = search (rules, least_held)
 
 pub best_is : (shop : Shop) (c : ℕ) (word : List ℕ) (ss : List Walk) → c ≡ lb shop word → IsFull shop word
     → AllByRecursion (IsOfRound shop c) ss → IsBestWord shop c ss (best_word c word ss)

@@ -1,4 +1,5 @@
-use Rattle.std.proofs.Common.{◌≤◌, length, refl, sym, ◌∙◌, subst, arith}
+use Rattle.std.proofs.Common.{rules}
+use Rattle.std.proofs.Common.{◌≤◌, length, sym, ◌∙◌, subst, arith}
 use Rattle.std.proofs.lemmas.Bool.{eq-eqb, ne_eqb}
 use Rattle.std.proofs.lemmas.List.{length_push, length-map}
 use Rattle.shop_runs.specs.Entries.{told}
@@ -23,20 +24,7 @@ unreachable-requires c =
     c.in_default.field-0 c.in_default.field-1 c.in_default.is c.loop-entry.invariant.so_far.none_hits
 
 pub returns-then-sheet-round : goal.returns-then-sheet-round
-returns-then-sheet-round c =
-    let gives = c.into_iter-entry-iterator.ensures.into_iter_gives
-    in let at : IsEntryAt c.args.entries.items (length c.loop-entry.yielded) c.in-Some.entry =
-    entry_turn c.into_iter-entry-iterator.result c.loop-entry.entry-iterator c.next.new.self c.args.entries gives.0
-    gives.1 c.loop-entry.yielded c.loop-entry.yielded_by c.next.result c.next.ensures.steps
-    c.in-Some.entry c.in-Some.is
-    in let r = told c.args.round.now
-    in let s = c.in-Done.sheet
-    in let is = entry_done r c.args.entries.items
-    (length c.loop-entry.yielded) c.in-Some.entry c.requires at s c.in-Done.is
-    in closed_outcome r c.args.round.now.is_round
-    (length c.loop-entry.yielded) c.loop-entry.outcome c.loop-entry.invariant.so_far c.args.round.now.small_budget
-    (length_pieces c.args.round.now) s is (eq-eqb s.makespan r.bound c.if-sheet-round.true) _
-    refl refl c.new.ensures.items refl
+returns-then-sheet-round c = search (rules, entry_turn, entry_done, closed_outcome, length_pieces, eq-eqb)
 
 pub loop-entry-preserved : goal.loop-entry-preserved
 loop-entry-preserved c =

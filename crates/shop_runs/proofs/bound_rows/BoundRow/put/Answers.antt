@@ -1,26 +1,14 @@
-use Rattle.std.proofs.Common.{rules, arith, ◌+◌, ◌≡◌, ◌≤◌, ◌∷◌, ◌∙◌, ap, sym}
+use Rattle.std.proofs.Common.{rules, arith, ◌+◌, ◌≡◌, ◌∷◌, ◌∙◌, ap, sym}
 use Rattle.std.specs.Prelude.{slice_index_or}
 use Rattle.std.proofs.lemmas.Result.{on_ok_weaker}
 use Rattle.shop_nodes.specs.Branching.{insert_by}
 use Rattle.shop_nodes.specs.declared.nodes.Node.{Node}
-use Rattle.shop_runs.specs.inner.BoundRows.{AreEmptyBelow}
 use Rattle.shop_runs.specs.inner.Stacks.{words_at, nodes_in_row}
 use Rattle.shop_runs.proofs.BoundRowLemmas.{lower_empty, still_empty, put_at}
 use Rattle.shop_runs.proofs.bound_rows.BoundRow.put.Goals as goal
 
 pub invariant_of-self-2 : goal.invariant_of-self-2
-invariant_of-self-2 c =
-    let first = c.self.inside.first
-    in let low = c.min-self-inside.result
-    in let os = c.reach.new.stacks.items
-    in let bound = c.into_parts-word.result.1
-    in let at : AreEmptyBelow first os = c.in_ok-reach.ensures.empty first c.self.invariant
-    in let less : low ≤ first = search rules
-    in let before : low ≤ bound = search rules
-    in (
-      search rules,
-      still_empty 0 low bound os c.push_at.new.place before (lower_empty 0 first low os less at.1),
-    )
+invariant_of-self-2 c = search (rules, still_empty, lower_empty)
 
 pub returns : goal.returns
 returns c =

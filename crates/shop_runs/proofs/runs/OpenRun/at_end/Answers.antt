@@ -1,3 +1,4 @@
+use Rattle.std.proofs.Common.{rules}
 use Rattle.std.proofs.Common.{length, arith, refl, sym, eqb-true}
 use Rattle.shop_runs.specs.Plans.{planned}
 use Rattle.shop_runs.proofs.PieceLemmas.{some_open}
@@ -14,8 +15,7 @@ returns-then-is_empty g c = way_closed c.args.instance.now
     (eqb-true (length (open_list c.loop-done.search.open)) 0 (sym c.if-is_empty.ensures))
 
 pub next-requires-clause-search : goal.next-requires-clause-search
-next-requires-clause-search g c = way_search c.args.instance.now
-    (planned c.args.plan.now) c.loop-done.done c.loop-done.search c.loop-done.invariant.way
+next-requires-clause-search g c = search (rules, way_search)
 
 pub loop-done-preserved : goal.loop-done-preserved
 loop-done-preserved g c = record {
