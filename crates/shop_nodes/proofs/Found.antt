@@ -1,7 +1,8 @@
 -- The words of a search: children are words, what is left are words, and what is found is full.
+use Rattle.std.proofs.Common.{rules}
 use Rattle.std.proofs.Common.{◌≡◌, ℕ, zero, suc, ◌+◌, ◌<◌, inl, inr, Bool, true, false, None, List, [], ◌∷◌, ◌++◌}
 use Rattle.std.proofs.Common.{length, map, refl, arith, ltb, leb}
-use Rattle.std.specs.List.{AllByRecursion, filter, fold, range_with_len}
+use Rattle.std.specs.List.{AllByRecursion, filter, fold}
 use Rattle.std.proofs.lemmas.Bool.{cases_Bool, ltb-true}
 use Rattle.std.proofs.lemmas.List.{length-append}
 use Rattle.shop_model.specs.Shop.{Shop, route_of}
@@ -10,7 +11,7 @@ use Rattle.shop_model.proofs.Unders.{after_word}
 use Rattle.shop_bound.specs.Bound.{lb}
 use Rattle.shop_bound.proofs.Entries.{IsWord-snoc}
 use Rattle.shop_bound.proofs.Lists.{all_append, all_filter}
-use Rattle.shop_nodes.specs.Branching.{open_jobs, chosen_of, conflicts_with, conflict_among, conflict, branch}
+use Rattle.shop_nodes.specs.Branching.{conflict_among, conflict, branch}
 use Rattle.shop_nodes.specs.Walking.{Walk, walk, walk_within, operations_left, taking, unless_cut, sheet}
 use Rattle.shop_nodes.specs.Laws.{IsBestOf, SearchesLoseNoTable}
 use Rattle.shop_nodes.proofs.Members.{in_contains, contains_in, all_contains, contains_all, all_sort}
@@ -35,10 +36,7 @@ module _ (shop : Shop) (w : List ℕ) (word : IsWord shop w) where
     in_conflict : (js : List ℕ) → AllByRecursion (λ j. steps_of j < length (route_of shop j)) js
         → AllByRecursion (λ j. steps_of j < length (route_of shop j)) (conflict_among shop (placing shop w) js)
     in_conflict [] a = tt
-    in_conflict (j ∷ js) a =
-        all_filter (conflicts_with shop (placing shop w) (chosen_of shop (placing shop w) j js))
-        (λ j. steps_of j < length (route_of shop j)) (λ j. steps_of j < length (route_of shop j)) (λ i p e. p)
-        (j ∷ js) a
+    in_conflict (j ∷ js) a = search (rules, all_filter)
 
     longer : (js : List ℕ) → AllByRecursion (λ j. steps_of j < length (route_of shop j)) js
         → AllByRecursion (IsLonger shop w) (map (λ j. w ++ j ∷ []) js)
@@ -54,9 +52,7 @@ module _ (shop : Shop) (w : List ℕ) (word : IsWord shop w) where
     )
 
     pub children_longer : AllByRecursion (IsLonger shop w) (branch shop w)
-    children_longer = all_sort (lb shop) (IsLonger shop w) (map (λ j. w ++ j ∷ []) (conflict shop w))
-        (longer (conflict shop w) (in_conflict (open_jobs shop (placing shop w))
-        (with_steps (range_with_len 0 (length shop.jobs)))))
+    children_longer = search (rules, all_sort, longer, in_conflict, with_steps)
 
     extended : (js : List ℕ) → AllByRecursion (λ j. steps_of j < length (route_of shop j)) js
         → AllByRecursion (λ j. IsWord shop (w ++ j ∷ [])) js
@@ -69,9 +65,7 @@ module _ (shop : Shop) (w : List ℕ) (word : IsWord shop w) where
 
     -- each job of the conflict set makes a longer word
     pub conflict_words : AllByRecursion (λ j. IsWord shop (w ++ j ∷ [])) (conflict shop w)
-    conflict_words =
-        extended (conflict shop w)
-        (in_conflict (open_jobs shop (placing shop w)) (with_steps (range_with_len 0 (length shop.jobs))))
+    conflict_words = search (rules, extended, in_conflict, with_steps)
 
 -- what a walk that began at `opening` has found and left
 pub record IsSound (shop : Shop) (opening : ℕ) (s : Walk) : Type 0 where

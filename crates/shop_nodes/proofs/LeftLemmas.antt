@@ -1,5 +1,6 @@
 -- What is left, told entry by entry.
-use Rattle.std.proofs.Common.{◌≡◌, ℕ, ◌+◌, ◌-◌, ◌≤◌, ◌<◌, List, [], ◌∷◌, ◌++◌, length, map, take, drop, get_or}
+use Rattle.std.proofs.Common.{arith}
+use Rattle.std.proofs.Common.{◌≡◌, ℕ, ◌+◌, ◌-◌, ◌≤◌, ◌<◌, List, [], ◌∷◌, ◌++◌, length, drop, get_or}
 use Rattle.std.proofs.Common.{sym, ◌∙◌, ap, subst, append-nil, Global, Vec, Result, Ok, Err, true, false, ltb, refl}
 use Rattle.std.proofs.Common.{Option, Some, None, inl, inr}
 use Rattle.std.specs.Prelude.{IfOk}
@@ -14,11 +15,9 @@ use Rattle.shop_model.specs.SharedWords.{CanBeShared}
 use Rattle.shop_model.specs.Shop.{Shop}
 use Rattle.shop_model.proofs.WordLengths.{word_shared}
 use Rattle.shop_bound.specs.Bound.{lb}
-use Rattle.shop_nodes.specs.Branching.{branch}
 use Rattle.shop_nodes.specs.Left.{left_words, open_nodes, AreLeft}
 use Rattle.shop_nodes.specs.Nodes.{words_of, IsNode, AreNodes}
-use Rattle.shop_nodes.specs.Pieces.{words_below}
-use Rattle.shop_nodes.specs.Halts.{last_of, word_at, waiting_words, stack_words, halted_words, IsWaiting, AreHalted}
+use Rattle.shop_nodes.specs.Halts.{last_of, waiting_words, stack_words, halted_words, IsWaiting, AreHalted}
 use Rattle.shop_nodes.specs.inner.HeldNodes.{nodes_below, child_nodes, stack_nodes, halted_nodes}
 use Rattle.shop_nodes.specs.inner.HeldNodes.{AreSharable, AreWithin, IsHaltWithin}
 use Rattle.shop_nodes.specs.declared.nodes.Node.{Node}
@@ -29,9 +28,7 @@ use Rattle.shop_nodes.proofs.HighWalks.{none_below}
 
 closed_all : (shop : Shop) (c : ℕ) (ws : List (List ℕ)) → AllByRecursion (λ w. c ≤ lb shop w) ws
     → open_nodes shop c ws ≡ []
-closed_all shop c ws high =
-    ap (λ (vs : List (List ℕ)). map (λ w. let n : Node = record { word = w; bound = lb shop w } in n) vs)
-    (none_below shop c ws high)
+closed_all shop c ws high = grind (arith, none_below)
 
 -- all nodes of what waits from entry k on
 pub all_more : (shop : Shop) (path : List ℕ) (waiting : List Waiting) (k : ℕ) (d : Waiting)
@@ -39,18 +36,11 @@ pub all_more : (shop : Shop) (path : List ℕ) (waiting : List Waiting) (k : ℕ
     → words_of nodes ≡ stack_words shop path (drop (k + 1) waiting)
     → words_of added ≡ waiting_words shop path (get_or waiting k d) → new ≡ nodes ++ added
     → words_of new ≡ stack_words shop path (drop k waiting)
-all_more shop path waiting k d nodes new added within so_far more put =
-    ap words_of put ∙ (map-append (λ (n : Node). n.word) nodes added
-    ∙ (ap (λ ws. ws ++ words_of added) so_far
-    ∙ (ap (λ ws. stack_words shop path (drop (k + 1) waiting) ++ ws) more
-    ∙ sym (ap (stack_words shop path) (drop_more waiting k d within)))))
+all_more shop path waiting k d nodes new added within so_far more put = grind (arith, map-append, drop_more)
 
 open_append : (shop : Shop) (c : ℕ) (vs ws : List (List ℕ))
     → open_nodes shop c (vs ++ ws) ≡ open_nodes shop c vs ++ open_nodes shop c ws
-open_append shop c vs ws =
-    let node : List ℕ → Node = λ w. record { word = w; bound = lb shop w }
-    in ap (map node) (filter-append (λ w. ltb (lb shop w) c) vs ws)
-    ∙ map-append node (words_below shop c vs) (words_below shop c ws)
+open_append shop c vs ws = grind (arith, filter-append, map-append)
 
 -- open nodes are those that hold bounds below the makespan
 held_nodes : (shop : Shop) (c : ℕ) (ns : List Node) → AllByRecursion (IsNode shop) ns
@@ -68,10 +58,8 @@ held_nodes shop c (n ∷ ns) are =
 
 held_waiting : (shop : Shop) (c : ℕ) (path : List ℕ) (x : Waiting) → IsWaiting shop c path x
     → open_nodes shop c (waiting_words shop path x) ≡ nodes_below c (child_nodes path x)
-held_waiting shop c path (Child o) own =
-    held_nodes shop c (record { word = word_at path o; bound = o.bound } ∷ []) ((own.is_word, own.bound), tt)
-held_waiting shop c path (Rest depth count) own =
-    closed_all shop c (last_of count (branch shop (take depth path))) own.high
+held_waiting shop c path (Child o) own = grind (arith, held_nodes)
+held_waiting shop c path (Rest depth count) own = grind (arith, closed_all)
 
 held_stack : (shop : Shop) (c : ℕ) (path : List ℕ) (stack : List Waiting)
     → AllByRecursion (IsWaiting shop c path) stack
@@ -91,11 +79,7 @@ held_halt shop c (Some h) own = held_stack shop c (arc_slice_items h.path) h.wai
 
 pub held_left : (shop : Shop) (c : ℕ) (h : Option Halt) (ns : List Node) → AreLeft shop c h ns
     → open_nodes shop c (left_words shop h ns) ≡ nodes_below c (halted_nodes h ++ ns)
-held_left shop c h ns own =
-    let first = held_halt shop c h own.0
-    in let later = held_nodes shop c ns (recursion_from_All (IsNode shop) ns own.1)
-    in open_append shop c (halted_words shop h) (words_of ns)
-    ∙ ((λ i. first i ++ later i) ∙ sym (filter-append (λ (n : Node). ltb n.bound c) (halted_nodes h) ns))
+held_left shop c h ns own = grind (arith, held_halt, held_nodes, recursion_from_All, open_append, filter-append)
 
 -- the words of what waits go no further than the path and a job
 within_stack : (shop : Shop) (c : ℕ) (path : List ℕ) (stack : List Waiting)
@@ -116,21 +100,12 @@ can_be_shared shop limits ns own = All-weaker (IsNode shop) (λ n. CanBeShared n
 -- closed children add no open node
 pub none_open : (shop : Shop) (c : ℕ) (path : List ℕ) (x : Waiting) (depth count : ℕ) (nodes : List Node)
     → x ≡ Rest depth count → IsWaiting shop c path x → nodes ≡ nodes ++ open_nodes shop c (waiting_words shop path x)
-none_open shop c path x depth count nodes is own =
-    let closed : IsWaiting shop c path (Rest depth count) = subst (IsWaiting shop c path) is own
-    in sym (append-nil nodes)
-    ∙ ap (λ (ns : List Node). nodes ++ ns)
-    (sym (ap (λ (y : Waiting). open_nodes shop c (waiting_words shop path y)) is
-    ∙ closed_all shop c (last_of count (branch shop (take depth path))) closed.high))
+none_open shop c path x depth count nodes is own = grind (arith, append-nil, closed_all)
 
 -- the last ones of all children
 pub last_words : (words : List (List ℕ)) (all tail : List Node) (n : ℕ) → words_of all ≡ words
     → tail ≡ drop (length all - n) all → words_of tail ≡ last_of n words
-last_words words all tail n are is =
-    let long = length-map all (λ (m : Node). m.word)
-    in ap words_of is
-    ∙ (sym (drop-map (λ (m : Node). m.word) (length all - n) all)
-    ∙ (ap (λ k. drop (k - n) (words_of all)) (sym long) ∙ ap (last_of n) are))
+last_words words all tail n are is = grind (arith, length-map, drop-map)
 
 pub nodes_dropped : (shop : Shop) (all : List Node) (n : ℕ) (r : Result (Vec Node Global) AllocError)
     → AreNodes shop all → IfOk r (λ v. v.items ≡ drop n all) → IfOk r (λ v. AreNodes shop v.items)

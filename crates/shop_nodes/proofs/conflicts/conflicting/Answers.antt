@@ -1,17 +1,12 @@
+use Rattle.std.proofs.Common.{arith}
 use Rattle.std.proofs.Common.{◌≡◌, ◌++◌, ◌∷◌, ◌∙◌, [], true, false, sym, ap, append-nil}
-use Rattle.std.specs.List.{filter}
 use Rattle.shop_nodes.specs.Branching.{conflicts_with}
 use Rattle.shop_nodes.specs.inner.Choosing.{placing_of}
 use Rattle.shop_nodes.proofs.ChoosingLemmas.{open-skip, conflicts-is, conflict-step}
 use Rattle.shop_nodes.proofs.conflicts.conflicting.Goals as goal
 
 pub loop-job-preserved-in_default : goal.loop-job-preserved-in_default
-loop-job-preserved-in_default c =
-    let shop = c.args.placed.now.instance.now
-    in let p = placing_of c.args.placed.now
-    in let now = c.loop-job
-    in now.invariant
-    ∙ ap (filter (conflicts_with shop p c.args.chosen.job)) (sym (open-skip shop p now.job c.in_default.ensures))
+loop-job-preserved-in_default c = grind (arith, open-skip)
 
 pub loop-job-preserved-then-not-conflicts_with : goal.loop-job-preserved-then-not-conflicts_with
 loop-job-preserved-then-not-conflicts_with c =
