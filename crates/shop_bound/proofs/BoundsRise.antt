@@ -58,9 +58,7 @@ late_walk f j k r (o ∷ os) = (omega arith, late_walk f j (k + 1) (max r (f o.m
 late_jobs : (shop : Shop) (p : Placing) (js : List ℕ)
     → AllByRecursion (λ x. p.free x.machine ≤ x.triple.head) (flat_map (λ j. waiting_of shop p j) js)
 late_jobs shop p [] = tt
-late_jobs shop p (j ∷ js) =
-    all_append (λ x. p.free x.machine ≤ x.triple.head) (waiting_of shop p j) (flat_map (λ j. waiting_of shop p j) js)
-    (late_walk p.free j (p.steps j) (p.ready j) (drop (p.steps j) (route_of shop j))) (late_jobs shop p js)
+late_jobs shop p (j ∷ js) = grind (arith, all_append, late_walk, late_jobs shop p js)
 
 triples_next : (m : ℕ) (x : Waiting) (xs : List Waiting) → x.machine ≡ m
     → triples_on m (x ∷ xs) ≡ x.triple ∷ triples_on m xs

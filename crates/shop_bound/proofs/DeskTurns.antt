@@ -1,4 +1,5 @@
 -- What a desk's trail says after one more dispatch, and without the last one.
+use Rattle.std.proofs.Common.{rules}
 use Rattle.std.proofs.Common.{◌≡◌, ℕ, ◌≤◌, List, [], ◌∷◌, ◌++◌, length, get_or, refl, arith, vec_capacity}
 use Rattle.std.specs.List.{fold}
 use Rattle.shop_model.specs.declared.ops.Op.{Op}
@@ -43,8 +44,7 @@ replaced_many shop p (i ∷ js) (s ∷ rs) are = grind (arith, replaced_many sho
 -- what is dispatched, and the next step of a job that can be
 pub can_dispatch : (d : Inside) (j : ℕ) → IsDesk d → IsWord d.instance.now (d.jobs.items ++ j ∷ [])
     → IsAboutToPlace d.instance.now j d.placement
-can_dispatch d j is fits = about_to_place d.instance.now j d.placement is.limits
-    (record { word = d.jobs.items; fits = fits; placed = is.placed })
+can_dispatch d j is fits = search (rules, about_to_place)
 
 -- when its job and its machine are ready
 pub replaced_is : (d : Inside) (j : ℕ) → IsDesk d → IsWord d.instance.now (d.jobs.items ++ j ∷ [])

@@ -6,7 +6,7 @@ use Rattle.std.proofs.lemmas.List.{length-drop}
 use Rattle.shop_model.specs.declared.ops.Op.{Op}
 use Rattle.shop_model.specs.Shop.{Shop, no_op, route_of}
 use Rattle.shop_model.specs.Word.{Placing}
-use Rattle.shop_bound.specs.Bound.{Waiting, waiting_from, waiting_of, waiting}
+use Rattle.shop_bound.specs.Bound.{waiting_from, waiting_of, waiting}
 use Rattle.shop_bound.specs.Heads.{ready_after, waiting_at, steps_left}
 use Rattle.shop_bound.proofs.HeadTurns.{ready_first, ready_more}
 use Rattle.shop_bound.proofs.BoundLaw.{front_of}

@@ -1,6 +1,7 @@
 -- The lower bound of a word, machine by machine.
+use Rattle.std.proofs.Common.{rules}
 use Rattle.std.proofs.Common.{◌≡◌, ◌≤◌, ◌<◌, ◌+◌, ℕ, zero, suc, max, List, [], ◌∷◌, length, map, get_or, set, All}
-use Rattle.std.proofs.Common.{sym, ◌∙◌, add-one, ap, arith}
+use Rattle.std.proofs.Common.{◌∙◌, add-one, ap, arith}
 use Rattle.std.specs.Prelude.{Vec, vec_capacity}
 use Rattle.std.specs.declared.alloc.Global.{Global}
 use Rattle.std.proofs.lemmas.List.{length-set, get_or-map}
@@ -23,10 +24,7 @@ use Rattle.shop_bound.proofs.SmallSums.{triples_small}
 -- the greatest of what machines and what waits for them say is the bound of the word
 pub lower_bound_is : (shop : Shop) (w : List ℕ) → IsWithinLimits shop → IsWord shop w
     → greatest_below shop.machines (bound_on shop (placing shop w)) ≡ lb shop w
-lower_bound_is shop w limits word =
-    let p = placing shop w in let left = λ (m : ℕ). one (triples_on m (waiting shop p))
-    in greatest_below-both p.free left shop.machines
-    ∙ ap (λ (end : ℕ). max end (greatest_below shop.machines left)) (sym (placed_end-free shop w limits word))
+lower_bound_is shop w limits word = search (rules, greatest_below-both, placed_end-free)
 
 -- the first n machines are bounded, and what waits for the others is listed still
 pub record HasBounded (shop : Shop) (s : PlacementState) (n b : ℕ) (r : BoundRoom) : Type 0 where

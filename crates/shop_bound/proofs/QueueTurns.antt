@@ -1,4 +1,5 @@
 -- What a turn of a schedule does to the operations that are not done.
+use Rattle.std.proofs.Common.{rules}
 use Rattle.std.proofs.Common.{◌≡◌, ◌≢◌, ℕ, zero, suc, ◌+◌, ◌≤◌, ◌<◌, min, ◌⊎◌, inl, inr, true, false, cond, ◌==◌}
 use Rattle.std.proofs.Common.{List, []}
 use Rattle.std.proofs.Common.{◌∷◌, length, get_or, map, Option, Some, None, refl, sym, ◌∙◌, ap, subst, arith, eq-eqb}
@@ -240,10 +241,7 @@ module _ (ws : List Work) (i : ℕ) (v : Work) (lt : i < length ws) (same : v.tr
 pub queue_held : (ws : List Work) (clock i stop : ℕ) (v : Work) (q : Queue) → IsQueue ws clock q
     → IsServed (length ws) ws clock i → v.triple ≡ (work_at ws i).triple → v.done ≡ false → clock ≤ stop
     → IsQueue (set ws i v) stop q
-queue_held ws clock i stop v q is s same done later = record {
-  are = queued_held ws i v s.seen same stop _ _ (queued_later ws clock stop _ _ is.are later) (done ∙ sym s.undone);
-  room = is.room;
-}
+queue_held ws clock i stop v q is s same done later = search (rules, queued_held, queued_later)
 
 pub queue_done : (ws : List Work) (clock i end : ℕ) (v : Work) (q r : Queue) → IsQueue ws clock q
     → IsServed (length ws) ws clock i → v.triple ≡ (work_at ws i).triple → v.done ≡ true → clock ≤ end

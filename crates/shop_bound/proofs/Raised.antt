@@ -76,10 +76,7 @@ taken : {A : Type 0} (z : A) (fronts backs us : List A) → IsSublist us (fronts
     → IsSublist us (fronts ++ backs) ⊎ HasTaken z us (fronts ++ backs)
 taken z [] backs us (skip x s) = inl s
 taken z [] backs us (keep {ys = vs} x s) = grind (arith, sum_by-cons)
-taken z (a ∷ fronts) backs us (skip x s) = elim (taken z fronts backs us s) [
-  | inl t ↦ inl (skip a t)
-  | inr t ↦ inr (record { others = t.others; sub = skip a t.sub; sums = t.sums; all = t.all })
-]
+taken z (a ∷ fronts) backs us (skip x s) = grind (arith, skip, taken z fronts backs us s)
 taken z (a ∷ fronts) backs us (keep {ys = vs} x s) = elim (taken z fronts backs vs s) [
   | inl t ↦ inl (keep a t)
   | inr t ↦ inr (record {

@@ -1,4 +1,5 @@
 -- The greatest span of a sublist, as a least upper bound.
+use Rattle.std.proofs.Common.{rules}
 use Rattle.std.proofs.Common.{arith, ◌≡◌, ℕ, ◌≤◌, List, [], ◌∷◌, map, refl, ap}
 use Rattle.std.specs.List.{AllByRecursion}
 use Rattle.shop_bound.specs.OneMachine.{sublists, greatest_of}
@@ -20,10 +21,7 @@ module _ {A B : Type 0} where
   -- the sublists of an image are the images of sublists
   pub sublists-images : (g : A → B) (xs : List A) → AllByRecursion (IsImage g xs) (sublists (map g xs))
   sublists-images g [] = (([], refl, none), tt)
-  sublists-images g (x ∷ xs) =
-      all_append (IsImage g (x ∷ xs)) (sublists (map g xs)) (map (λ ys. g x ∷ ys) (sublists (map g xs)))
-      (all_map (IsImage g xs) (IsImage g (x ∷ xs)) (image_skip g x xs) (sublists (map g xs)) (sublists-images g xs))
-      (images_keep g x xs (sublists (map g xs)) (sublists-images g xs))
+  sublists-images g (x ∷ xs) = search (rules, all_append, all_map, image_skip, images_keep, sublists-images g xs)
 
   -- a bound on each sublist bounds the greatest
   pub greatest_sublist-le : (g : A → B) (f : List B → ℕ) (b : ℕ) (xs : List A)

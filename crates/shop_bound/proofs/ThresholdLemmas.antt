@@ -1,5 +1,5 @@
 -- The greatest span over the thresholds that occur is the greatest over all sublists.
-use Rattle.std.proofs.Common.{◌≡◌, ℕ, zero, suc, ◌+◌, ◌≤◌, ◌<◌, max, inl, inr, Bool, true, List, [], ◌∷◌, ◌++◌, length}
+use Rattle.std.proofs.Common.{◌≡◌, ℕ, zero, suc, ◌+◌, ◌≤◌, ◌<◌, max, Bool, true, List, [], ◌∷◌, ◌++◌, length}
 use Rattle.std.proofs.Common.{get_or, take, map, refl, sym, ◌∙◌, ap, subst, arith}
 use Rattle.std.specs.List.{AllByRecursion, filter, sum_by}
 use Rattle.std.proofs.lemmas.Bool.{cases_Bool, leb-true, le-leb, and_from, and_parts}
@@ -41,8 +41,7 @@ module _ {A : Type 0} where
   pub sublist_of_filter : (test : A → Bool) {ys xs : List A} → IsSublist ys xs → AllByRecursion (λ y. test y ≡ true) ys
       → IsSublist ys (filter test xs)
   sublist_of_filter test none h = none
-  sublist_of_filter test (skip x s) h = elim (cases_Bool (test x))
-      [ inl e ↦ rw e (skip x (sublist_of_filter test s h)) | inr e ↦ rw e (sublist_of_filter test s h) ]
+  sublist_of_filter test (skip x s) h = grind (arith, cases_Bool, skip, sublist_of_filter test s h)
   sublist_of_filter test (keep x s) h = rw h.0 (keep x (sublist_of_filter test s h.1))
 
   pub sublist_sum : (f : A → ℕ) {ys xs : List A} → IsSublist ys xs → sum_by f ys ≤ sum_by f xs

@@ -1,12 +1,11 @@
+use Rattle.std.proofs.Common.{rules}
 use Rattle.std.proofs.Common.{arith}
 use Rattle.std.proofs.lemmas.Bool.{cases_Bool}
 use Rattle.shop_bound.proofs.LeapTurns.{small_in_order, one_in_order}
 use Rattle.shop_bound.proofs.leaps.may_exceed.Goals as goal
 
 pub is_settled-requires : goal.is_settled-requires
-is_settled-requires c =
-    small_in_order c.args.triples.now c.sort_unstable_by_key.new.self c.sort_unstable_by_key.ensures.permutation
-    c.requires
+is_settled-requires c = search (rules, small_in_order)
 
 pub returns-clause-within : goal.returns-clause-within
 returns-clause-within c = grind (arith, one_in_order, cases_Bool)

@@ -50,8 +50,7 @@ pub returns-clause-same : goal.returns-clause-same
 returns-clause-same c = triples-set c.args.works.now c.args.chosen (finished c.args.works.now c.args.chosen) refl
 
 pub returns-clause-fewer : goal.returns-clause-fewer
-returns-clause-fewer c = finished_fewer c.args.works.now c.args.clock c.args.chosen (first_served _ _ _ _
-    c.requires.queue.are c.requires.later c.args.chosen c.requires.chosen)
+returns-clause-fewer c = search (rules, finished_fewer, first_served)
 
 pub returns-then-stop-end-clause-single : goal.returns-then-stop-end-clause-single
 returns-then-stop-end-clause-single c = grind (arith, undone-set, held, first_served)

@@ -1,3 +1,4 @@
+use Rattle.std.proofs.Common.{arith}
 use Rattle.std.proofs.Common.{◌∙◌, List, map, length, ap, rules}
 use Rattle.std.specs.List.{range_with_len}
 use Rattle.shop_model.specs.declared.ops.Op.{Op}
@@ -8,8 +9,7 @@ use Rattle.shop_bound.proofs.TimeSums.{times_small}
 use Rattle.shop_bound.proofs.tail_rows.tails.Goals as goal
 
 pub tails_of_route-requires : goal.tails_of_route-requires
-tails_of_route-requires c =
-    times_small c.args.instance.now c.route.ensures.limits c.loop-j.j c.route.result.now c.route.ensures.route
+tails_of_route-requires c = grind (arith, times_small)
 
 pub loop-j-preserved : goal.loop-j-preserved
 loop-j-preserved c =
