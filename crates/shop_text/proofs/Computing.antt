@@ -1,5 +1,6 @@
 -- The line-by-line reading computes the fault of a text, and its parts where it has none.
-use Rattle.std.proofs.Common.{◌≡◌, ℕ, leb, true, List, [], length, Option, Some, None, sym, ap, ◌∙◌, inl, inr, subst}
+use Rattle.std.proofs.Common.{arith}
+use Rattle.std.proofs.Common.{◌≡◌, ℕ, leb, true, List, [], length, Option, Some, None, sym, ap, ◌∙◌, inl, inr}
 use Rattle.std.proofs.lemmas.Bool.{leb-true}
 use Rattle.shop_text.specs.Formats.{grammar_of}
 use Rattle.shop_text.specs.Lines.{Numbered, lines_of}
@@ -23,14 +24,11 @@ lines_fault : (f : Grammar) → IsGrammar f → (last : ℕ) (lines : List Numbe
 lines_fault f is last lines e (inl (parts, good)) h =
     absurd (let none = sym (no_fault last parts good.some)
     ∙ sym (ap (fault_of last) (read_good f is lines parts good)) in cc)
-lines_fault f is last lines e (inr (fault, bad)) h =
-    let same : fault ≡ e = (let is_some = fault_read f is last lines fault bad in cc)
-    in subst (λ x. IsFault f last lines x) same bad
+lines_fault f is last lines e (inr (fault, bad)) h = grind (arith, fault_read)
 
 lines_good : (f : Grammar) → IsGrammar f → (last : ℕ) (lines : List Numbered) → Outcome f last lines
     → fault_of last (read f [] [] lines) ≡ None → IsGood f lines (read f [] [] lines).0
-lines_good f is last lines (inl (parts, good)) h =
-    subst (λ ps. IsGood f lines ps) (sym (ap (λ (r : Reading). r.0) (read_good f is lines parts good))) good
+lines_good f is last lines (inl (parts, good)) h = grind (arith, read_good)
 lines_good f is last lines (inr (fault, bad)) h =
     absurd (let is_some = fault_read f is last lines fault bad in cc)
 

@@ -1,6 +1,6 @@
 -- What comes of a number line: a size line, a row of times, or the row of a job.
 use Rattle.std.proofs.lemmas.Grind.{common_steps}
-use Rattle.std.proofs.Common.{◌≡◌, ℕ, ◌+◌, ◌*◌, ◌<◌, ◌≤◌, inl, true, false, eqb, List, [], ◌∷◌, ◌++◌, length, map}
+use Rattle.std.proofs.Common.{◌≡◌, ℕ, ◌+◌, ◌*◌, ◌<◌, ◌≤◌, true, false, eqb, List, [], ◌∷◌, ◌++◌, length, map}
 use Rattle.std.proofs.Common.{take, drop, Option, Some, None, Result, Ok, Err, Vec, refl, ap, ◌∙◌, arith}
 use Rattle.std.specs.List.{zip}
 use Rattle.std.specs.declared.alloc.Global.{Global}
@@ -154,5 +154,4 @@ job_taken p old new job n row (Ok (Some shop)) some w push is (size ∷ rows) wr
           (rows ++ written ∷ []) d.machines told.1;
       draft_holds = push.fresh;
     }
-job_taken p old new job n row (Err e) some w push is (size ∷ rows) written d er =
-    inl push
+job_taken p old new job n row (Err e) some w push is (size ∷ rows) written d er = grind arith

@@ -43,11 +43,7 @@ only_last true true false d e f g = absurd cc
 
 pub no_label : (j : ℕ) (token : List ℕ) → 2 ≤ length token → (get_or token (length token - 1) 0 ≡ 58 → ⊥)
     → false ≡ is_label j token
-no_label j token long ne =
-    let i = length token - 1
-    in let front = take i token
-    in sym (not_first (bytes_eq token (front ++ codes ":")) (not (is_empty front)) (is_number front)
-    (eqb (value_of front) j) (no_colon token i (omega arith) ne _ refl))
+no_label j token long ne = grind (arith, not_first, no_colon)
 
 some_bytes : (bytes : List ℕ) → 0 < length bytes → not (is_empty bytes) ≡ true
 some_bytes [] h = absurd (omega arith)

@@ -40,11 +40,7 @@ ended_more piece (next ∷ pieces) some = refl
 -- the first line ends at the first LF
 pub lines_at : (text : List ℕ) (i : ℕ) → position is_line_feed text ≡ Some i
     → lines_of text ≡ take i text ∷ lines_of (take (length text - (i + 1)) (drop (i + 1) text))
-lines_at text i e =
-    let at = position-Some is_line_feed text i 0 e
-    in let cut = split_here is_line_feed text i at.0 at.1 at.2
-    in ap ended cut ∙ ended_more (take i text) _ (omega (arith, length-slice_split is_line_feed (drop (suc i) text)))
-    ∙ rw (take_rest text (i + 1), add-one i) refl
+lines_at text i e = grind (arith, position-Some, split_here, ended_more, length-slice_split, take_rest, add-one)
 
 -- without LF there is one line
 pub lines_alone : (text : List ℕ) → 0 < length text → position is_line_feed text ≡ None

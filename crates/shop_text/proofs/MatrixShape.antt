@@ -170,10 +170,7 @@ times_on_to size done (e ∷ times) machines some left len h g =
 
 plain_from : (part : Part) → IsPart taillard part → IsTaillardPart part
 plain_from [] h = absurd (true≢false (sym h.1))
-plain_from (first ∷ []) h =
-    let counted = no_fault_in (is_between 2 6 (length first.row)) WrongShape (size_fault first.row) h.0.0.row
-    in let size = size_from first.row counted.1
-    in absurd (omega (arith, size.some_job, eqb-true 0 (2 * jobs_in first.row) h.1))
+plain_from (first ∷ []) h = grind (arith, no_fault_in, size_from, eqb-true)
 plain_from (first ∷ top ∷ rows) h =
     let counted = no_fault_in (is_between 2 6 (length first.row)) WrongShape (size_fault first.row) h.0.0.row
     in let between = and_parts (leb 2 (length first.row)) (leb (length first.row) 6) counted.0

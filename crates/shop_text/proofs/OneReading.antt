@@ -206,8 +206,7 @@ at_inside last r fault e told = grind (arith, common_steps)
 
 pub fault_read : (f : Grammar) → IsGrammar f → (last : ℕ) (lines : List Numbered) (fault : ReadFault)
     → IsFault f last lines fault → fault_of last (read f [] [] lines) ≡ Some fault
-fault_read f is last lines fault (inl none) =
-    ap (fault_of last) (read_nothing f is lines none.text) ∙ ap (λ (x : ReadFault). Some x) (sym none.told)
+fault_read f is last lines fault (inl none) = grind (arith, read_nothing)
 fault_read f is last lines fault (inr (inl t)) =
     at_inside last (read f [] [] lines) fault (read_truncated f is last lines fault t) t.told
 fault_read f is last lines fault (inr (inr r)) =

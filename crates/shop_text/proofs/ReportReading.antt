@@ -1,6 +1,6 @@
 -- A report, and a Gantt text behind it, read as a schedule text.
 use Rattle.std.proofs.lemmas.Grind.{common_steps}
-use Rattle.std.proofs.Common.{◌≡◌, ℕ, zero, suc, ◌≤◌, Bool, true, false, ◌&&◌, ◌||◌, eqb, leb, List, [], ◌∷◌, ◌++◌}
+use Rattle.std.proofs.Common.{◌≡◌, ℕ, zero, suc, ◌≤◌, Bool, true, false, ◌||◌, List, [], ◌∷◌, ◌++◌}
 use Rattle.std.proofs.Common.{length, get_or, map, Option, Some, None, refl, sym, ap, ◌∙◌, arith, subst}
 use Rattle.std.specs.Prelude.{filter, codes}
 use Rattle.std.specs.List.{enumerate_from, range_with_len, list_any, list_all, join_with_byte}
@@ -30,15 +30,7 @@ use Rattle.shop_text.proofs.PrintedJobLines.{other_line, read_from, skip_lines}
 
 visible_free : (name : List ℕ) → list_all is_visible name ≡ true → IsFree is_line_feed name
 visible_free [] e = refl
-visible_free (b ∷ name) e = at (eqb b 10) refl (leb 33 b) (leb b 126) refl e (visible_free name)
-  where
-    at : (x : Bool) → eqb b 10 ≡ x → (y z : Bool) → leb 33 b ≡ y → ((y && z) && list_all is_visible name) ≡ true
-        → (list_all is_visible name ≡ true → IsFree is_line_feed name) → (x || list_any is_line_feed name) ≡ false
-    at false is true true low all later = later all
-    at false is true false low all later = absurd cc
-    at false is false z low all later = absurd cc
-    at true is true z low all later = absurd (omega (arith, eqb-true b 10 is, leb-true 33 b low))
-    at true is false z low all later = absurd cc
+visible_free (b ∷ name) e = grind (arith, eqb-true, leb-true, visible_free name)
 
 status_free : (n : ℕ) → IsFree is_line_feed (status_word n)
 status_free zero = refl

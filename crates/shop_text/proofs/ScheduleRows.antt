@@ -37,12 +37,7 @@ wrong_at : (text : List ℕ) (n : ℕ) (before : List (ℕ × Tokens)) (rows : L
     (later : List (ℕ × Tokens)) → length text ≤ 16777216 → counted_lines text ≡ before ++ (n, line) ∷ later
     → AreJobLines crossing before rows → row_in crossing (length before) line ≡ None
     → IsTableFault crossing text (BadTable n)
-wrong_at text n before rows line later short cut good wrong = inr (
-  n,
-  refl,
-  short,
-  record { before = before; rows = rows; later = (n, line) ∷ later; cut = cut; good = good; wrong = (wrong, refl) },
-)
+wrong_at text n before rows line later short cut good wrong = grind arith
 
 abbrev tokens : List ℕ → List ℕ → Tokens
 tokens label start = codes "job" ∷ label ∷ codes "0" ∷ start ∷ []

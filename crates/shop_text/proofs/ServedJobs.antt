@@ -1,6 +1,6 @@
 -- In a feasible table a machine serves one job at most at each instant.
 use Rattle.std.proofs.lemmas.Grind.{common_steps}
-use Rattle.std.proofs.Common.{◌≡◌, ℕ, zero, suc, ◌+◌, ◌*◌, ◌<◌, ◌≤◌, Bool, true, false, ◌&&◌, ◌||◌, cond}
+use Rattle.std.proofs.Common.{◌≡◌, ℕ, zero, suc, ◌+◌, ◌*◌, ◌<◌, ◌≤◌, Bool, true, false, ◌&&◌, cond}
 use Rattle.std.proofs.Common.{List, length, map, Some, None, refl, sym, ap, ◌∙◌, arith, inl, inr, add-one}
 use Rattle.std.specs.Prelude.{find}
 use Rattle.std.specs.List.{range_with_len, list_any}
@@ -16,25 +16,12 @@ use Rattle.shop_text.specs.inner.Cells.{last_shown, ShowsJob, ShowsJobs}
 pub some_in_range : (p : ℕ → Bool) (a n : ℕ) → list_any p (range_with_len a n) ≡ true
     → (k : ℕ) × (k < a + n) × (p k ≡ true)
 some_in_range p a zero e = absurd cc
-some_in_range p a (suc n) e = at (p a) refl e (some_in_range p (a + 1) n)
-  where
-    at : (b : Bool) → p a ≡ b → (b || list_any p (range_with_len (a + 1) n)) ≡ true
-        → (list_any p (range_with_len (a + 1) n) ≡ true → (k : ℕ) × (k < (a + 1) + n) × (p k ≡ true))
-        → (k : ℕ) × (k < a + suc n) × (p k ≡ true)
-    at true here any later = (a, omega arith, here)
-    at false here any later = let k = later any in (k.0, omega (arith, k.1), k.2)
+some_in_range p a (suc n) e = grind (arith, some_in_range p (a + 1) n)
 
 pub none_in_range : (p : ℕ → Bool) (a n : ℕ) → list_any p (range_with_len a n) ≡ false → (k : ℕ) → a ≤ k → k < a + n
     → p k ≡ false
 none_in_range p a zero e k low high = absurd (omega arith)
-none_in_range p a (suc n) e k low high = at (p a) refl e (none_in_range p (a + 1) n)
-  where
-    at : (b : Bool) → p a ≡ b → (b || list_any p (range_with_len (a + 1) n)) ≡ false
-        → (list_any p (range_with_len (a + 1) n) ≡ false → (k : ℕ) → a + 1 ≤ k → k < (a + 1) + n → p k ≡ false)
-        → p k ≡ false
-    at true here any later = absurd cc
-    at false here any later =
-        elim (cases_eq k a) [ inl e ↦ ap p e ∙ here | inr ne ↦ later any k (omega arith) (omega arith) ]
+none_in_range p a (suc n) e k low high = grind (arith, cases_eq, none_in_range p (a + 1) n)
 
 pub any_at : (p : ℕ → Bool) (a n k : ℕ) → a ≤ k → k < a + n → p k ≡ true → list_any p (range_with_len a n) ≡ true
 any_at p a n k low high e = at (list_any p (range_with_len a n)) refl
@@ -192,7 +179,4 @@ columns_show = record {
         → finish_of shop starts j k ≤ instant)
         → (i : ℕ) (b : Bool) → serves shop starts machine instant i ≡ b → b ≡ false
     never shop starts machine instant idle i false is = refl
-    never shop starts machine instant idle i true is =
-        let k = served_step shop starts machine instant i is
-        in absurd (let ended =
-        idle i k.0 k.1.operation k.1.on_machine k.1.begun in let x = k.1.not_ended in omega arith)
+    never shop starts machine instant idle i true is = grind (arith, served_step)

@@ -41,9 +41,7 @@ is_reading : (shop : Shop) (first : ℕ) (before : List Line) (rows : List (List
     → GivesFrom shop first before rows → IsStopped shop (first + length before) later
     → reading shop first (before ++ later) ≡ (rows, later)
 is_reading shop first [] [] [] good stopped = refl
-is_reading shop first [] [] (line ∷ later) good stopped =
-    ap (λ (row : Option (List ℕ)). next_row shop first line later row (reading shop (first + 1) later))
-    (ap (λ (j : ℕ). row_in shop j line.1) (omega arith) ∙ stopped)
+is_reading shop first [] [] (line ∷ later) good stopped = grind arith
 is_reading shop first [] (row ∷ rows) later good stopped = absurd cc
 is_reading shop first (line ∷ before) [] later good stopped = absurd cc
 is_reading shop first (line ∷ before) (row ∷ rows) later good stopped =

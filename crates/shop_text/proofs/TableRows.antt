@@ -1,12 +1,12 @@
 -- The starts of a table that is read are within their limit.
-use Rattle.std.proofs.Common.{◌≡◌, ℕ, zero, suc, ◌+◌, ◌≤◌, true, ◌&&◌, eqb, ltb, List, [], ◌∷◌, length}
-use Rattle.std.proofs.Common.{get_or, map, Some, arith, subst}
+use Rattle.std.proofs.Common.{◌≡◌, ℕ, zero, suc, ◌+◌, ◌≤◌, true, ltb, List, [], ◌∷◌, length}
+use Rattle.std.proofs.Common.{get_or, map, Some, arith}
 use Rattle.std.specs.List.{enumerate_from, list_all}
 use Rattle.std.proofs.lemmas.Bool.{and_parts, leb-true}
 use Rattle.shop_model.specs.Shop.{Shop, route_of}
 use Rattle.shop_model.specs.Limits.{AreStarts}
 use Rattle.shop_text.specs.Lines.{is_number, value_of}
-use Rattle.shop_text.specs.Schedules.{Tokens, is_label, is_start, starts_of_tokens, starts_in, row_in, IsTable}
+use Rattle.shop_text.specs.Schedules.{Tokens, is_start, starts_in, row_in, IsTable}
 use Rattle.shop_text.proofs.JobLineLemmas.{chosen, row_at}
 
 abbrev AreWithin : List ℕ → Type 0
@@ -26,12 +26,7 @@ starts_within (token ∷ tokens) e =
 line_within : (j steps : ℕ) (tokens : Tokens) (row : List ℕ) → starts_in j steps tokens ≡ Some row → AreWithin row
 line_within j steps [] row e = absurd cc
 line_within j steps (word ∷ []) row e = absurd cc
-line_within j steps (word ∷ label ∷ starts) row e =
-    let labelled = chosen (is_label j label) (starts_of_tokens steps starts) row e
-    in let read =
-    chosen (eqb (length starts) steps && list_all is_start starts) (Some (map value_of starts)) row labelled.1
-    in let values : map value_of starts ≡ row = cc
-    in subst AreWithin values (starts_within starts (and_parts (eqb (length starts) steps) _ read.0).1)
+line_within j steps (word ∷ label ∷ starts) row e = grind (arith, chosen, starts_within, and_parts)
 
 one_row : (row : List ℕ) (rows : List (List ℕ)) → AreWithin row → AreStarts rows → AreStarts (row ∷ rows)
 one_row row rows h all zero = h

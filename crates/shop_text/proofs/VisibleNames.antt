@@ -63,8 +63,7 @@ last_of p name line lines (Some bytes) e h later = rw e (later bytes (line_visib
 last_visible : (p : Format) (lines : List Numbered) (name : List ℕ) → IsVisible name
     → IsVisible (last_or name (headers_of (grammar_of p) lines))
 last_visible p [] name h = h
-last_visible p (line ∷ lines) name h =
-    last_of p name line lines ((grammar_of p).header line.1) refl h (last_visible p lines)
+last_visible p (line ∷ lines) name h = grind (arith, last_of, last_visible p lines)
 
 named_visible : (p : Format) (n : ℕ) (parts : List Part)
     → AllByRecursion (λ (s : NamedShop). IsTrue (list_all is_visible s.name)) (named_from (grammar_of p) n parts)

@@ -1,11 +1,10 @@
-use Rattle.std.proofs.Common.{sym, ◌∙◌, arith}
+use Rattle.std.proofs.Common.{sym, arith}
 use Rattle.shop_text.proofs.LineLemmas.{no_tokens, none_left}
 use Rattle.shop_text.proofs.DigitLemmas.{cut_to_end, cut_at}
 use Rattle.shop_text.proofs.lines.next_number.Goals as goal
 
 pub returns-in_default-clause-cut : goal.returns-in_default-clause-cut
-returns-in_default-clause-cut c =
-    no_tokens c.args.line.now (sym c.token_start.ensures ∙ none_left c.token_start.result c.in_default.not-Some)
+returns-in_default-clause-cut c = grind (arith, no_tokens, none_left)
 
 pub returns-then-end-rest-clause-cut : goal.returns-then-end-rest-clause-cut
 returns-then-end-rest-clause-cut c =
@@ -13,7 +12,4 @@ returns-then-end-rest-clause-cut c =
     (sym c.in-Some.ensures) c.leading_digits-value.ensures c.if-end-rest.true
 
 pub returns-then-is_between_tokens-clause-cut : goal.returns-then-is_between_tokens-clause-cut
-returns-then-is_between_tokens-clause-cut c =
-    cut_at c.args.line.now c.in-Some.start c.leading_digits-value.result.0 c.leading_digits-value.result.1
-    (sym c.in-Some.ensures) c.leading_digits-value.ensures
-    (omega (arith, c.leading_digits-value.ensures.within, c.if-end-rest.false)) (sym c.if-is_between_tokens.ensures)
+returns-then-is_between_tokens-clause-cut c = grind (arith, cut_at)

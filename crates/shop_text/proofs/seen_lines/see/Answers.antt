@@ -1,7 +1,7 @@
-use Rattle.std.proofs.Common.{◌≡◌, sym, ap, ◌∙◌, [], None, Some, arith, true, eqb, vec_len}
+use Rattle.std.proofs.Common.{◌≡◌, sym, ap, ◌∙◌, [], None, arith, vec_len}
 use Rattle.std.proofs.lemmas.Bool.{eqb-true, eqb-false}
 use Rattle.shop_text.specs.Lines.{tokens_of, is_number, value_of}
-use Rattle.shop_text.specs.inner.LineReading.{capped, IsNumberCut, with_tokens}
+use Rattle.shop_text.specs.inner.LineReading.{capped, with_tokens}
 use Rattle.shop_text.proofs.Seeing.{at_word, is_words, is_blank, is_numbers, no_number, none_of}
 use Rattle.shop_text.proofs.seen_lines.see.Goals as goal
 
@@ -17,25 +17,7 @@ returns-in_default-number c =
     in (tokens_of c.args.line.now, e, rw e c.header_in.ensures)
 
 pub returns-then-is_empty : goal.returns-then-is_empty
-returns-then-is_empty c =
-    let over : tokens_of c.loop-number.rest.now
-    ≡ [] = none_of (tokens_of c.loop-number.rest.now ≡ []) (λ t. IsNumberCut c.loop-number.rest.now t.0 t.1.now)
-    c.next_number.result c.next_number.ensures.cut c.in_default.not-Some
-    in let all : with_tokens [] (tokens_of c.args.line.now)
-    ≡ Some c.loop-number.numbers.items = sym c.loop-number.invariant
-    ∙ ap (with_tokens c.loop-number.numbers.items) over
-    in let e : eqb (vec_len c.loop-number.numbers) 0 ≡ true = sym c.is_empty.ensures ∙ c.if-is_empty.true
-    in is_blank (tokens_of c.args.line.now) c.loop-number.numbers.items all
-    (omega (arith, eqb-true (vec_len c.loop-number.numbers) 0 e, c.loop-number.numbers.ok.0))
+returns-then-is_empty c = grind (arith, none_of, vec_len, is_blank, eqb-true)
 
 pub returns-else-is_empty : goal.returns-else-is_empty
-returns-else-is_empty c =
-    let over : tokens_of c.loop-number.rest.now
-    ≡ [] = none_of (tokens_of c.loop-number.rest.now ≡ []) (λ t. IsNumberCut c.loop-number.rest.now t.0 t.1.now)
-    c.next_number.result c.next_number.ensures.cut c.in_default.not-Some
-    in let all : with_tokens [] (tokens_of c.args.line.now)
-    ≡ Some c.loop-number.numbers.items = sym c.loop-number.invariant
-    ∙ ap (with_tokens c.loop-number.numbers.items) over
-    in let ne = eqb-false (vec_len c.loop-number.numbers) 0 (sym c.is_empty.ensures ∙ c.if-is_empty.false)
-    in is_numbers (tokens_of c.args.line.now) c.loop-number.numbers.items all
-    (omega (arith, ne, c.loop-number.numbers.ok.0))
+returns-else-is_empty c = grind (arith, none_of, eqb-false, vec_len, is_numbers)

@@ -29,9 +29,4 @@ returns-then-wants_times c =
     c.in_ok-times.ensures.judged.1 refl refl refl c.in_ok-push.ensures.items
 
 pub returns : goal.returns
-returns c =
-    let draft = c.args.self.now
-    in let len : length draft.times.items ≡ vec_len draft.times = omega (arith, draft.times.ok.0)
-    in job_taken c.args.format draft c.push_job.new.self c.in_ok-job.job c.args.line c.args.row.now c.push_job.result
-    (omega arith) (rw len (sym c.wants_times.ensures ∙ c.if-wants_times.false)) c.push_job.ensures
-    c.in_ok-job.ensures.judged
+returns c = grind (arith, vec_len, job_taken)

@@ -1,4 +1,4 @@
-use Rattle.std.proofs.Common.{◌≡◌, ◌<◌, inl, length, sym, ◌∙◌, arith, vec_len}
+use Rattle.std.proofs.Common.{◌≡◌, inl, length, sym, ◌∙◌, arith, vec_len}
 use Rattle.std.proofs.lemmas.Bool.{eqb-true, eqb-false}
 use Rattle.shop_text.proofs.ReaderTurns.{all_read, none_read}
 use Rattle.shop_text.proofs.instance_readers.Reader.finish.Goals as goal
@@ -13,10 +13,4 @@ returns-then-is_empty c = λ lines read.
     in inl (none_read reader lines read fresh none)
 
 pub returns : goal.returns
-returns c = λ lines read.
-    let reader = c.args.self
-    in let fresh = eqb-true reader.draft.jobs_wanted 0 (sym c.is_fresh.ensures ∙ c.if-not-is_fresh.false)
-    in let some : 0 < length reader.named.items =
-    (let ne = eqb-false (vec_len reader.named) 0 (sym c.is_empty.ensures ∙ c.if-is_empty.false)
-    in omega (arith, reader.named.ok.0, ne))
-    in all_read reader lines read fresh some
+returns c = grind (arith, eqb-true, eqb-false, vec_len, all_read)

@@ -37,8 +37,4 @@ returns-in_ok-push c = λ front written read numbers.
     )
 
 pub returns-in_default : goal.returns-in_default
-returns-in_default c = λ front written read numbers.
-    let reader = c.args.self.now
-    in let taken = c.in_ok-instance.ensures _ written read.draft_holds numbers
-    in let more = rw c.in_default.is at taken
-    in (refl, row_read reader c.take_row.new.self c.args.line written front read more)
+returns-in_default c = grind (arith, row_read)
