@@ -13,7 +13,6 @@ mod working;
 use crate::working::digest_of;
 use anyhow::{Context, Result};
 use std::env::args;
-use std::io;
 
 fn main(rt: HostRuntime) -> Result<()> {
     let mut words = args(&rt)?.skip(1);

@@ -12,7 +12,7 @@ use std::alloc::{AllocError as NoMemory, Global};
 use std::process::Abort;
 use std::thread::Threads;
 
-// A crew that searches each round by all its workers, however short the round is.
+/// A crew that searches each round by all its workers, however short the round is.
 #[derive(Drop)]
 struct AllWorkers {
     crew: BoardCrew<OpenGate>,
@@ -50,7 +50,7 @@ fn assert_run<R: Abort, C: Crew<R>>(
     );
 }
 
-// Asserts what several workers answer by a plan: all of them in each round, and as many as the program starts.
+/// Asserts what several workers answer by a plan: all of them in each round, and as many as the program starts.
 fn assert_by_workers<R: Abort + Threads + Sync>(
     rt: &R,
     alloc: Global,
@@ -69,7 +69,7 @@ fn assert_by_workers<R: Abort + Threads + Sync>(
     assert_run(rt, alloc, instance, plan, &mut crew, wanted);
 }
 
-// Asserts that a plan's rounds by several workers come to what one thread alone comes to: the least makespan.
+/// Asserts that a plan's rounds by several workers come to what one thread alone comes to: the least makespan.
 fn assert_many_rounds<R: Abort + Threads + Sync>(
     rt: &R,
     alloc: Global,
@@ -86,9 +86,9 @@ fn assert_many_rounds<R: Abort + Threads + Sync>(
     assert_by_workers(rt, alloc, &instance, plan, wanted.as_str());
 }
 
-// Pieces of a node with a budget of two: the search takes 31 rounds in one order and 19 in the other, and none of them
-// is worth a second worker. With a budget of ten, rounds of 178 pieces and more are, and others aren't. Open nodes of
-// one instance stand in a row of stacks by bound, those of the other in a map.
+/// Pieces of a node with a budget of two: the search takes 31 rounds in one order and 19 in the other, and none of them
+/// is worth a second worker. With a budget of ten, rounds of 178 pieces and more are, and others aren't. Open nodes of
+/// one instance stand in a row of stacks by bound, those of the other in a map.
 #[test]
 fn many_rounds_by_any_number_of_workers(rt: HostRuntime) {
     for (budget, order) in [

@@ -16,7 +16,7 @@ use std::process::Abort;
 use std::thread;
 use std::thread::Threads;
 
-// There are three pieces, and the first ends at the opening bound.
+/// There are three pieces, and the first ends at the opening bound.
 fn assert_first_hits<'r>(rt: &impl Abort, alloc: Global, round: &'r Round<'r>)
     ensures pieces { length round.now.pieces.items ≡ 3 }
     ensures hit { is_hit_in (hits_of_round round.now) 0 ≡ true }
@@ -78,7 +78,7 @@ fn a_worker_passes_behind_the_mark_of_another_seat(rt: HostRuntime) {
     in_third_round(&rt, rt.alloc(), &Marked);
 }
 
-// Makes three seats of one that has won nothing.
+/// Makes three seats of one that has won nothing.
 fn three_seats(rt: &impl Abort, alloc: Global, board: &Board, seat: Seat) -> Vec<Seat>
     requires { HasServedOf board.now seat 0 }
     ensures { All (λ s. HasServedOf board.now s 0) result.items }
@@ -88,7 +88,7 @@ fn three_seats(rt: &impl Abort, alloc: Global, board: &Board, seat: Seat) -> Vec
     vec![in alloc; first, second, third].expect(rt, "memory")
 }
 
-// Claims each of three pieces, and says of each whether it was won.
+/// Claims each of three pieces, and says of each whether it was won.
 fn claim_all(board: &Board, mut seat: Seat) -> [bool; 3]
     requires { IsSeatOf board.now seat }
 {
@@ -99,7 +99,7 @@ fn claim_all(board: &Board, mut seat: Seat) -> [bool; 3]
     won
 }
 
-// Lets each seat claim all pieces on a thread of its own.
+/// Lets each seat claim all pieces on a thread of its own.
 fn claim_by_threads<R: Threads + Sync>(
     rt: &R,
     board: &Board,
@@ -113,7 +113,7 @@ fn claim_by_threads<R: Threads + Sync>(
     thread::map_vec(rt, seats, &worker)
 }
 
-// Counts the seats that won a piece.
+/// Counts the seats that won a piece.
 fn winners(lists: &[[bool; 3]], number: usize) -> usize {
     let mut count: usize = 0;
     for won in lists {
@@ -145,7 +145,7 @@ fn each_piece_is_won_once(rt: HostRuntime) {
     in_third_round(&rt, rt.alloc(), &Claims);
 }
 
-// A seat that has worked, and how many pieces it won.
+/// A seat that has worked, and how many pieces it won.
 #[derive(Drop)]
 struct Worked {
     seat: Seat,
@@ -167,7 +167,7 @@ fn work_one<'r>(alloc: Global, board: &Board, seat: Seat, round: &'r Round<'r>) 
     }
 }
 
-// Lets each seat work on a thread of its own.
+/// Lets each seat work on a thread of its own.
 fn work_by_threads<'r, R: Threads + Sync>(
     rt: &R,
     alloc: Global,

@@ -23,7 +23,7 @@ fn assert_closes<'r>(rt: &impl Abort, alloc: Global, round: &'r Round<'r>, entri
     );
 }
 
-// The sheet of each piece, also behind one that ends at the opening bound.
+/// The sheet of each piece, also behind one that ends at the opening bound.
 fn all_searched<'r>(rt: &impl Abort, alloc: Global, round: &'r Round<'r>) -> Vec<Entry<'r>>
     ensures { OneForEach (told round.now) result.items }
 {
@@ -36,7 +36,7 @@ fn all_searched<'r>(rt: &impl Abort, alloc: Global, round: &'r Round<'r>) -> Vec
     entries
 }
 
-// Closed by sheets of all pieces, and by what is passed behind the hit.
+/// Closed by sheets of all pieces, and by what is passed behind the hit.
 struct Closing;
 
 impl<R: Abort> RoundTest<R> for Closing {

@@ -14,8 +14,8 @@ use std::sync::atomic::{AtomicUsize, Ordering};
 use std::thread;
 use std::thread::Threads;
 
-// Notes which worker searches piece 0 and which piece 1. If workers are to meet there, it holds back whoever searches
-// one of them until the other is searched too, for 10,000,000 turns at most.
+/// Notes which worker searches piece 0 and which piece 1. If workers are to meet there, it holds back whoever searches
+/// one of them until the other is searched too, for 10,000,000 turns at most.
 #[derive(Drop)]
 struct Noting {
     meets: bool,
@@ -76,8 +76,8 @@ impl SeatGate for Noting {
     }
 }
 
-// What a number of workers of either crew bring of a round, and one of the two things that their gate may note: how
-// many met, and who searched piece 0 and piece 1.
+/// What a number of workers of either crew bring of a round, and one of the two things that their gate may note: how
+/// many met, and who searched piece 0 and piece 1.
 #[derive(Drop)]
 struct Searched {
     workers: usize,

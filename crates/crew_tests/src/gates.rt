@@ -1,8 +1,6 @@
 // When gates are called: once for each piece that is searched, with its number, just before its search.
-ghost use Rattle.std.specs.Prelude.{◌≡◌};
 
 use crate::rounds::{RoundTest, in_second_round};
-use crate::telling::assert_number;
 use shop_nodes::Sheet;
 use shop_round::PieceSearcher;
 use shop_runs::{PieceSearch, Round};
@@ -12,7 +10,7 @@ use std::process::Abort;
 use std::sync::atomic::{AtomicUsize, Ordering};
 use std::sync::{Mutex, Wait};
 
-// The calls of a gate, in order: two digits for each, the worker, and the piece counted from 1.
+/// The calls of a gate, in order: two digits for each, the worker, and the piece counted from 1.
 #[derive(Drop)]
 struct Calls {
     noted: AtomicUsize,
@@ -49,7 +47,7 @@ impl SeatGate for Calls {
     }
 }
 
-// A searcher that memory is refused at the first piece.
+/// A searcher that memory is refused at the first piece.
 #[derive(Drop)]
 pub struct Refused<'r> {
     round: &'r Round<'r>,
@@ -71,7 +69,7 @@ impl<'r> PieceSearch<'r> for Refused<'r> {
     }
 }
 
-// A searcher that memory is refused where it searches a piece twice in a row.
+/// A searcher that memory is refused where it searches a piece twice in a row.
 #[derive(Drop)]
 struct Once<'r> {
     searcher: PieceSearcher<'r>,
@@ -101,7 +99,7 @@ impl<'r> PieceSearch<'r> for Once<'r> {
     }
 }
 
-// The calls of worker 3 on a board, and whether it brought entries.
+/// The calls of worker 3 on a board, and whether it brought entries.
 fn calls_on_board<'r, P: PieceSearch<'r>>(
     rt: &impl Abort,
     alloc: Global,
@@ -114,7 +112,7 @@ fn calls_on_board<'r, P: PieceSearch<'r>>(
     (gate.noted(), entries.is_ok())
 }
 
-// The calls of worker 3 on a pool, and whether it brought entries.
+/// The calls of worker 3 on a pool, and whether it brought entries.
 fn calls_on_pool<'r, P: PieceSearch<'r>, R: Wait>(
     rt: &R,
     alloc: Global,

@@ -11,7 +11,7 @@ use shop_runs::{Crew, Order, Plan, Round, Standing, gather};
 use std::alloc::Global;
 use std::process::Abort;
 
-// The next round of a standing that has an open node and a round left.
+/// The next round of a standing that has an open node and a round left.
 pub fn next_round<'r>(
     rt: &impl Abort,
     alloc: Global,
@@ -26,7 +26,7 @@ pub fn next_round<'r>(
     Round::cut(alloc, instance, plan, standing).expect(rt, "memory")
 }
 
-// The standing behind the next round.
+/// The standing behind the next round.
 pub fn after_round(
     rt: &impl Abort,
     alloc: Global,
@@ -42,7 +42,7 @@ pub fn after_round(
     gather(alloc, &round, entries).expect(rt, "memory")
 }
 
-// What a test does in a round.
+/// What a test does in a round.
 pub trait RoundTest<R> {
     ghost ready: { Type 0 };
 
@@ -50,7 +50,7 @@ pub trait RoundTest<R> {
         requires { ready };
 }
 
-// Lends the next round, of opening best 16 and opening bound 10, to a test.
+/// Lends the next round, of opening best 16 and opening bound 10, to a test.
 fn lend_next_round<R: Abort, T: RoundTest<R>>(
     rt: &R,
     alloc: Global,
@@ -67,7 +67,7 @@ fn lend_next_round<R: Abort, T: RoundTest<R>>(
     test.run(rt, alloc, &round);
 }
 
-// Lends the second round of `GAP` to a test: two pieces of one node each.
+/// Lends the second round of `GAP` to a test: two pieces of one node each.
 pub fn in_second_round<R: Abort, T: RoundTest<R>>(rt: &R, alloc: Global, test: &T)
     requires { T.ready }
 {
@@ -78,7 +78,7 @@ pub fn in_second_round<R: Abort, T: RoundTest<R>>(rt: &R, alloc: Global, test: &
     lend_next_round(rt, alloc, &instance, &plan, first, test);
 }
 
-// Lends the third round of `GAP` to a test: three pieces of one node each.
+/// Lends the third round of `GAP` to a test: three pieces of one node each.
 pub fn in_third_round<R: Abort, T: RoundTest<R>>(rt: &R, alloc: Global, test: &T)
     requires { T.ready }
 {
@@ -90,14 +90,14 @@ pub fn in_third_round<R: Abort, T: RoundTest<R>>(rt: &R, alloc: Global, test: &T
     lend_next_round(rt, alloc, &instance, &plan, second, test);
 }
 
-// Asserts the nodes of the only piece of a round.
+/// Asserts the nodes of the only piece of a round.
 fn assert_piece(rt: &impl Abort, alloc: Global, pieces: &[Piece], wanted: &str) {
     assert!(rt; pieces.len() == 1);
     let told = told_of_nodes(rt, alloc, pieces[0].nodes.as_slice());
     assert_told(rt, "a piece", told.as_str(), wanted);
 }
 
-// Asserts the nodes that the second round of `SHORT_JOBS` searches, in an order.
+/// Asserts the nodes that the second round of `SHORT_JOBS` searches, in an order.
 fn assert_order(rt: &impl Abort, alloc: Global, order: Order, wanted: &str) {
     let instance = instance_of(rt, alloc, SHORT_JOBS);
     let plan = Plan::ordered(2, 2, 2, order).expect(rt, "a plan");

@@ -52,7 +52,7 @@ static AT_THE_LONGEST_ROW: [(u64, bool, u64); 4] = [
     (65_530, true, 65_533),
 ];
 
-// The text of such an instance.
+/// The text of such an instance.
 fn text_with_last(rt: &impl Abort, alloc: Global, time: u64, is_beside_idle: bool) -> String {
     let jobs = if is_beside_idle { 8 } else { 2 };
     let text = format!(in alloc; "{jobs} 2\n0 0 3 1 2\n0 1 2 0 {time}\n");
@@ -95,7 +95,7 @@ fn answers_by_any_number_of_workers(rt: HostRuntime) {
     }
 }
 
-// A crew of a caller: it searches on the calling thread, and counts the rounds.
+/// A crew of a caller: it searches on the calling thread, and counts the rounds.
 #[derive(Drop)]
 struct Counting {
     rounds: u64,
@@ -115,7 +115,7 @@ impl<R> Crew<R> for Counting {
     }
 }
 
-// No search takes more than three rounds.
+/// No search takes more than three rounds.
 #[test]
 fn each_round_is_searched_once(rt: HostRuntime) {
     for row in &RUNS {

@@ -18,8 +18,8 @@ use std::sync::{Mutex, Wait};
 use std::thread;
 use std::thread::Threads;
 
-// Counts the searches of each piece, and holds each worker at its first one until all workers are there, for 10,000,000
-// turns at most. `met` counts the workers that saw all others there.
+/// Counts the searches of each piece, and holds each worker at its first one until all workers are there, for
+/// 10,000,000 turns at most. `met` counts the workers that saw all others there.
 #[derive(Drop)]
 struct Counting {
     searches: Vec<AtomicUsize>,
@@ -89,7 +89,7 @@ impl SeatGate for Counting {
     }
 }
 
-// A number of workers that share a round of at least as many pieces, none of which ends at the opening bound.
+/// A number of workers that share a round of at least as many pieces, none of which ends at the opening bound.
 #[derive(Drop)]
 struct Shared {
     workers: usize,
@@ -114,7 +114,7 @@ impl<R: Abort + Threads + Wait + Sync> RoundTest<R> for Shared {
     }
 }
 
-// Lends the second round of `FT06` to a test. No schedule ends before 55, so none at its opening bound.
+/// Lends the second round of `FT06` to a test. No schedule ends before 55, so none at its opening bound.
 fn in_many_pieces<R: Abort, T: RoundTest<R>>(rt: &R, alloc: Global, test: &T)
     requires { T.ready }
 {
@@ -134,7 +134,7 @@ fn all_workers_begin_and_each_piece_is_searched_once(rt: HostRuntime) {
     }
 }
 
-// Pieces that no worker brought, here all of the third round, are claimed and searched.
+/// Pieces that no worker brought, here all of the third round, are claimed and searched.
 struct NothingBrought;
 
 impl<R: Abort> RoundTest<R> for NothingBrought {
@@ -164,7 +164,7 @@ fn pieces_that_nobody_brought_are_claimed_and_searched(rt: HostRuntime) {
     in_third_round(&rt, rt.alloc(), &NothingBrought);
 }
 
-// Pieces that workers brought, here all of the third round, aren't searched again.
+/// Pieces that workers brought, here all of the third round, aren't searched again.
 struct AllBrought;
 
 impl<R: Abort + Wait> RoundTest<R> for AllBrought {

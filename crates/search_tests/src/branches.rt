@@ -1,5 +1,4 @@
 // Conflict sets, nodes and their children.
-ghost use Rattle.std.specs.Prelude.{◌≡◌};
 ghost use Rattle.shop_nodes.specs.Nodes.{IsNode};
 
 use crate::instances::{CROSSING, GAP, ZEROS, instance_of};

@@ -1,10 +1,9 @@
 // A dispatch in a copy of a state, by one call and by two: the same bounds, and states that behave alike. So too where
 // the children of a word were bounded together, and there without a bound as well.
-ghost use Rattle.std.specs.Prelude.{◌≡◌, ℕ, ◌<◌, ◌≤◌, ◌++◌, ◌∷◌, [], All, IfSome, IsTrue, List, OnSome};
-ghost use Rattle.std.specs.Prelude.{length, vec_capacity};
+ghost use Rattle.std.specs.Prelude.{◌≡◌, ℕ, ◌++◌, ◌∷◌, [], All, IfSome, IsTrue, List, OnSome};
 ghost use Rattle.shop_bound.specs.Bound.{lb};
 ghost use Rattle.shop_bound.specs.Conflicts.{conflict};
-ghost use Rattle.shop_states.specs.States.{CanDispatch, HasListed, IsOfSomeWord, ListsBelow};
+ghost use Rattle.shop_states.specs.States.{CanDispatch, HasListed, ListsBelow};
 ghost use Rattle.shop_states.specs.States.{TellsBoundBelow};
 
 use crate::long_machines::{LATEST, SHAPES, made};
@@ -82,7 +81,7 @@ fn dispatch_in_copy<D: Dispatching<S>, S: Drop>(
 {
     let (candidate, bound, limit) = (trial.candidate, trial.bound, trial.limit);
     match trial.together {
-        Some(_) => dispatcher.dispatch_child_below_in_copy(
+        Some(_) => dispatcher.dispatch_child_in_copy(
             scratch, state, direct, candidate, bound, limit,
         ),
         None => dispatcher.dispatch_below_in_copy(scratch, state, direct, candidate, bound, limit),

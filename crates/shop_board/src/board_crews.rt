@@ -64,12 +64,12 @@ impl<G: SeatGate + Sync> BoardCrew<G> {
     }
 }
 
-// The work that a round has to hold for each further worker: nodes times operations of the instance.
+/// The work that a round has to hold for each further worker: nodes times operations of the instance.
 const WORK_OF_A_WORKER: u64 = 64_000;
 
-// Answers how many of `workers` workers are worth their threads in `round`. To start a thread and wait for its end
-// takes some 50 microseconds. In a piece of small budget a node takes a few nanoseconds for each operation of the
-// instance, since the search first fills a state with all operations.
+/// Answers how many of `workers` workers are worth their threads in `round`. To start a thread and wait for its end
+/// takes some 50 microseconds. In a piece of small budget a node takes a few nanoseconds for each operation of the
+/// instance, since the search first fills a state with all operations.
 fn worth_starting(round: &Round, workers: usize) -> usize
     ensures { result ≤ workers }
 {

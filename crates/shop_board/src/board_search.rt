@@ -43,7 +43,7 @@ pub fn work<'r, G: SeatGate>(
     (seat, entries)
 }
 
-// Runs each worker in `lent` on a thread of its own if one can start, and a lone worker on the calling thread.
+/// Runs each worker in `lent` on a thread of its own if one can start, and a lone worker on the calling thread.
 fn work_all<'r, R: Threads + Sync, G: SeatGate + Sync>(
     rt: &R,
     alloc: Global,

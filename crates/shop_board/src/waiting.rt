@@ -8,7 +8,7 @@ use std::alloc::{AllocError as NoMemory, Global};
 use std::thread;
 use std::thread::Threads;
 
-// Calls `f` at `job`.
+/// Calls `f` at `job`.
 fn call<J: Drop, X: Drop, F: Fn(J) -> X>(f: &F, job: J) -> X
     requires { AcceptsJobs F.Fn f.now (job ∷ []) }
     ensures { GivesFor F.Fn f.now (job ∷ []) (result ∷ []) }
@@ -16,7 +16,7 @@ fn call<J: Drop, X: Drop, F: Fn(J) -> X>(f: &F, job: J) -> X
     f(job)
 }
 
-// Starts a thread that calls `f` at the last of `jobs`, then those for the others, and waits for all of them.
+/// Starts a thread that calls `f` at the last of `jobs`, then those for the others, and waits for all of them.
 #[cycle(starts)]
 fn start_each<R: Threads + Sync, J: Send + Drop, X: Send + Drop, F: Fn(J) -> X + Sync>(
     rt: &R,

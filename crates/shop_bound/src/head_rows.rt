@@ -1,11 +1,8 @@
 // Heads: when each operation that a word has not dispatched could begin at the earliest.
 ghost use Rattle.std.specs.Prelude.{◌≡◌, ◌<◌, IfOk, length, map};
-ghost use Rattle.std.specs.List.{range_with_len};
-ghost use Rattle.shop_model.specs.Shop.{route_of};
-ghost use Rattle.shop_model.specs.Word.{IsWord, Placing, placing};
-ghost use Rattle.shop_bound.specs.Heads.{head_if_left, heads_at, TellsHeads};
+ghost use Rattle.shop_model.specs.Word.{IsWord};
+ghost use Rattle.shop_bound.specs.Heads.{heads_at, TellsHeads};
 ghost use Rattle.shop_bound.specs.inner.HeadRows.{AreHeadsOfJob, AreHeadsOf};
-ghost use Rattle.shop_model.specs.Placements.{IsPlacement};
 ghost use Rattle.shop_bound.specs.inner.PlacedWords.{IsOfWord};
 
 use shop_model::{Instance, Placement, Word};

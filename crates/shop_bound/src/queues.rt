@@ -1,5 +1,5 @@
 // Two heaps for the operations of one machine that have not ended: the unreleased by head, the waiting by tail.
-ghost use Rattle.std.specs.Prelude.{◌≡◌, ℕ, ◌+◌, ◌<◌, ◌≤◌, IfOk, OnSome, length, map};
+ghost use Rattle.std.specs.Prelude.{◌≡◌, ◌+◌, ◌<◌, IfOk, OnSome, length, map};
 ghost use Rattle.std.specs.BinaryHeap.{IsHeap, heap_capacity, heap_items, heap_len};
 ghost use Rattle.std.proofs.Props.{props};
 ghost use Rattle.shop_bound.specs.inner.HeapOrders.{by_head, by_tail};

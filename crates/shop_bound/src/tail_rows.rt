@@ -1,5 +1,5 @@
 // Tails: the total time of the operations behind an operation on its route.
-ghost use Rattle.std.specs.Prelude.{◌≡◌, ◌<◌, IfOk, map, sum_by};
+ghost use Rattle.std.specs.Prelude.{◌≡◌, IfOk, map, sum_by};
 ghost use Rattle.shop_bound.specs.Heads.{AreTails, AreTimesSmall};
 ghost use Rattle.shop_bound.specs.inner.HeadRows.{tails_in};
 

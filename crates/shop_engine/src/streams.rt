@@ -1,6 +1,5 @@
 // Files, standard streams and bytes in memory, by std's readers and writers.
 ghost use Rattle.std.specs.Prelude.{◌≡◌};
-ghost use Rattle.shop_engine.specs.Devices.{Device};
 
 use crate::devices::{DeviceFailed, Sink, Source};
 use std::io::{Read, Write};

@@ -1,7 +1,7 @@
 // Reads whole texts from sources and writes them to sinks.
 ghost use Rattle.std.specs.Prelude.{◌≤◌, length, IfOk, IfErr, OnOk};
 ghost use Rattle.shop_text.specs.declared.limits.TheConstants.{MAX_TEXT};
-ghost use Rattle.shop_engine.specs.Devices.{Device, IsReadToEnd, IsUnread, IsWritten, IsUnwritten};
+ghost use Rattle.shop_engine.specs.Devices.{IsReadToEnd, IsUnread, IsWritten, IsUnwritten};
 
 use crate::devices::{Sink, Source};
 use crate::faults::Fault;

@@ -1,5 +1,5 @@
 // The heads and ends of a word's state in lanes of one width, read in blocks of eight.
-ghost use Rattle.std.specs.Prelude.{◌≡◌, ℕ, ◌+◌, ◌-◌, ◌*◌, ◌/◌, ◌^◌, ◌<◌, ◌≤◌, ◌++◌, length};
+ghost use Rattle.std.specs.Prelude.{◌≡◌, ◌+◌, ◌-◌, ◌*◌, ◌/◌, ◌^◌, ◌≤◌, ◌++◌, length};
 ghost use Rattle.std.specs.Prelude.{map, take, drop, replicate, slice_index, All, IfOk};
 ghost use Rattle.shop_lanes.specs.inner.Passes.{IsPadded};
 

@@ -1,5 +1,4 @@
 // Blocks of eight numbers of 16 bits.
-ghost use Rattle.std.specs.Prelude.{ℕ};
 ghost use Rattle.std.proofs.Common.{lit<};
 
 use crate::blocks::Block;

@@ -1,5 +1,5 @@
 // Blocks of eight numbers of 64 bits.
-ghost use Rattle.std.specs.Prelude.{ℕ, ◌-◌, ◌^◌};
+ghost use Rattle.std.specs.Prelude.{◌-◌, ◌^◌};
 ghost use Rattle.std.proofs.Common.{lit<};
 
 use crate::blocks::Block;

@@ -1,6 +1,6 @@
 // Raises a bound to the greatest span from a head in a range. The span from head h is h plus the load L of the
 // operations with no lesser head. Later heads have no greater load, so `leap` skips the heads up to the bound less L.
-ghost use Rattle.std.specs.Prelude.{◌≡◌, ℕ, ◌%◌, ◌<◌, ◌≤◌, max, length, map};
+ghost use Rattle.std.specs.Prelude.{◌≡◌, ◌%◌, ◌<◌, ◌≤◌, max, length, map};
 ghost use Rattle.shop_lanes.specs.Eights.{ahead_of};
 ghost use Rattle.shop_lanes.specs.Folds.{least_up_to};
 ghost use Rattle.shop_lanes.specs.Rows.{lanes_in};
@@ -9,7 +9,7 @@ ghost use Rattle.shop_lanes.specs.Spans.{spans_between, FitsSpan, IsRaisedBelow}
 use crate::blocks::Block;
 use crate::folds::least_of;
 use crate::lane_rows::{HeadRange, LaneRows};
-use crate::passes::load_of;
+use crate::passes::{are_wide, load_of};
 
 /// How far ahead of `from` the nearest of `heads` lies, where 0 follows `greatest`.
 #[inline(always)]
@@ -84,6 +84,9 @@ pub(crate) fn leap_over<B: Block>(
     ensures { IsRaisedBelow limit
         (max most (spans_between range.above range.upto (lanes_in B.value rows.now))) result }
 {
+    if are_wide::<B>() {
+        return leap::<B>(rows.heads.len(), rows, range, most, limit);
+    }
     match rows.heads.len() {
         8 => leap::<B>(8, rows, range, most, limit),
         16 => leap::<B>(16, rows, range, most, limit),

@@ -1,5 +1,5 @@
 // A set of marked positions, one bit for each.
-ghost use Rattle.std.specs.Prelude.{◌≡◌, ℕ, ◌<◌, ◌+◌, ◌≤◌, ◌↔◌, ◌^◌, List, [], ◌∷◌, IsTrue, All, MatchOption};
+ghost use Rattle.std.specs.Prelude.{◌≡◌, ℕ, ◌<◌, ◌+◌, ◌≤◌, ◌↔◌, ◌^◌, List, [], IsTrue, All};
 ghost use Rattle.shop_lanes.specs.Marks.{IsPopped, without};
 ghost use Rattle.shop_lanes.specs.SetBits.{set_bits};
 

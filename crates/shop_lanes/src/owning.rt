@@ -10,6 +10,7 @@ ghost use Rattle.shop_lanes.specs.inner.OwnSpans.{AreEnds, AreNoted, CanOwn, Wri
 use crate::blocks::Block;
 use crate::folds::{greatest_before, greatest_behind, sums_before};
 use crate::lane_rows::LaneRows;
+use crate::passes::are_wide;
 use crate::served_blocks::serve;
 
 /// The ends of columns, with all waiting operations served by rank from time 0 on. `begins` and `clocks` hold the time
@@ -137,6 +138,9 @@ fn own_spans_of_longer<B: Block>(rows: &LaneRows<B::Number>, owns: &mut [B::Numb
     requires { CanOwn B.value B.GREATEST rows.now owns.old }
     ensures { WritesOwnSpans B.value rows.now owns.old owns.new }
 {
+    if are_wide::<B>() {
+        return own_spans_of::<B>(rows.heads.len(), rows, owns);
+    }
     match rows.heads.len() {
         32 => own_spans_of::<B>(32, rows, owns),
         40 => own_spans_of::<B>(40, rows, owns),

@@ -93,6 +93,13 @@ fn bits_between<B: Block>(count: usize, heads: &[B::Number], above: u64, upto: u
     bits
 }
 
+/// Tells whether lanes have 64 bits. Few instances need such lanes. Code for each number of blocks would be three times
+/// as long as for narrower lanes, so from four blocks on they share one loop.
+#[inline(always)]
+pub(crate) fn are_wide<B: Block>() -> bool {
+    B::GREATEST > u32::MAX as u64
+}
+
 /// Does `bits_up_to` for four or more blocks, out of line: only the code for up to three blocks is inlined.
 #[inline(never)]
 fn bits_of_longer<B: Block>(heads: &[B::Number], upto: u64) -> u64
@@ -101,6 +108,9 @@ fn bits_of_longer<B: Block>(heads: &[B::Number], upto: u64) -> u64
     requires fits { upto ≤ B.GREATEST }
     ensures { result ≡ mask_l (map (is_between 0 upto) (map B.value heads.now)) }
 {
+    if are_wide::<B>() {
+        return bits_between::<B>(heads.len(), heads, 0, upto);
+    }
     match heads.len() {
         32 => bits_between::<B>(32, heads, 0, upto),
         40 => bits_between::<B>(40, heads, 0, upto),
@@ -232,6 +242,9 @@ fn first_least_of_longer<B: Block>(numbers: &[B::Number]) -> (usize, u64)
     ensures first { IsFirstLeast (map B.value numbers.now) result.0 }
     ensures least { result.1 ≡ slice_index (map B.value numbers.now) result.0 }
 {
+    if are_wide::<B>() {
+        return first_least_of_any::<B>(numbers);
+    }
     match numbers.len() {
         32 => first_least_of::<B>(32, numbers),
         40 => first_least_of::<B>(40, numbers),

@@ -1,5 +1,5 @@
 // `Grid`: the operations of an instance by position, with their times and tails in lanes.
-ghost use Rattle.std.specs.Prelude.{◌≡◌, ◌<◌, All, IfOk, length, slice_index, slice_index_or, []};
+ghost use Rattle.std.specs.Prelude.{◌≡◌, ◌<◌, IfOk, length, slice_index, slice_index_or, []};
 ghost use Rattle.std.specs.Prelude.{◌≤◌, ◌+◌, ◌-◌, ◌*◌, ◌^◌, map};
 ghost use Rattle.shop_model.specs.Shop.{Shop};
 ghost use Rattle.shop_lanes.specs.Rows.{AreBlocks, lanes_between};
@@ -150,14 +150,22 @@ impl<L: StateLanes> Grid<L> {
         self.positions.blocks[machine] as usize
     }
 
-    /// The number of blocks of each machine, or 0 if not all machines have equally many. Lanes for a fixed number make
-    /// it a constant.
+    /// The number of blocks of each machine, or 0 if not all machines have equally many.
     #[inline(always)]
     pub fn blocks_each(&self) -> usize
         ensures { AreEven self.now.blocks result }
     {
-        let found = self.blocks_each;
-        if L::EACH > 0 { L::EACH } else { found }
+        self.blocks_each
+    }
+
+    /// The number of blocks of each machine for which the lanes have code of their own, or 0 if they have it for none.
+    #[inline(always)]
+    pub fn fixed_blocks_each(&self) -> usize
+        ensures { AreEven self.now.blocks result }
+    {
+        // its invariant: the lanes fit the blocks
+        let _ = &self.positions;
+        L::EACH
     }
 
     /// The first block of `machine`, and the block behind its last block. `each` is the number of blocks of each

@@ -1,5 +1,5 @@
 // `Leg`: a step of a route, as a walk along the route reads it.
-ghost use Rattle.std.specs.Prelude.{◌≡◌, ◌<◌, ◌++◌, All, IfOk, OnOk, flat_map, length};
+ghost use Rattle.std.specs.Prelude.{◌≡◌, ◌++◌, All, IfOk, OnOk, flat_map, length};
 ghost use Rattle.shop_layout.specs.Legs.{route_legs};
 ghost use Rattle.shop_layout.specs.inner.RouteRows.{AreBehind, AreBelow, AreFirsts};
 ghost use Rattle.shop_layout.specs.inner.Vectors.{items_in};

@@ -1,5 +1,5 @@
 // Instances of the job shop.
-ghost use Rattle.std.specs.Prelude.{◌≡◌, ℕ, ◌*◌, ◌<◌, ◌≤◌, ◌↔◌, IsTrue, IsErr, IfOk, IfErr, length, All};
+ghost use Rattle.std.specs.Prelude.{◌≡◌, ◌*◌, ◌<◌, ◌≤◌, ◌↔◌, IsTrue, IsErr, IfOk, IfErr, length};
 ghost use Rattle.shop_model.specs.Shop.{route_of, release_of, releases_of, operation_count};
 ghost use Rattle.shop_model.specs.Limits.{IsWithinLimits, IsRouteWithin, AreRowsWithin, IsJobWithin, AreJobsWithin};
 ghost use Rattle.shop_model.specs.Given.{shop_of_rows, shop_of_jobs};

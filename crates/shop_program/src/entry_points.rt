@@ -1,6 +1,5 @@
 // Runs the program on its words and its streams.
 ghost use Rattle.std.specs.Prelude.{map, string_bytes, IfErr};
-ghost use Rattle.shop_program.specs.Commands.{Streams};
 ghost use Rattle.shop_program.specs.Running.{IsNoWords, IsEnd, IsStart};
 
 use crate::files::Files;

@@ -1,5 +1,5 @@
 // Reads the values in clap's matches.
-ghost use Rattle.std.specs.Prelude.{◌≡◌, ◌<◌, ◌^◌, ℕ, IfOk, IfErr, option_map, string_bytes, codes};
+ghost use Rattle.std.specs.Prelude.{◌<◌, ◌^◌, ℕ, IfOk, IfErr, option_map, string_bytes, codes};
 ghost use Rattle.clap.specs.Words.{found_of, rows_of};
 ghost use Rattle.shop_text.specs.Formats.{word_of};
 ghost use Rattle.shop_program.specs.CommandLine.{HasText, HasNumber, HasFlag, MayHave, UnlessNoMemory};

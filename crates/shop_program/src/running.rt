@@ -1,6 +1,5 @@
 // Runs the commands on the files that are named, or on the source.
 ghost use Rattle.std.specs.Prelude.{◌≡◌};
-ghost use Rattle.shop_program.specs.Commands.{Streams};
 ghost use Rattle.shop_program.specs.Running.{IsCommandRun, SolvesFrom};
 ghost use Rattle.shop_program.specs.inner.Runs.{file_in, RunsFrom};
 

@@ -3,7 +3,7 @@ ghost use Rattle.std.specs.Prelude.{◌≡◌};
 ghost use Rattle.shop_program.specs.Statuses.{status_of, status_of_line};
 
 use crate::line_faults::LineFault;
-use crate::statuses::{COMMAND_LINE, NO_MEMORY, status_of_fault};
+use crate::statuses::{COMMAND_LINE, status_of_fault};
 use shop_engine::{Fault, Sink, write_all};
 use std::fmt;
 use std::fmt::{Display, Write};

@@ -1,5 +1,5 @@
 // Chooses the order in which a round's searches bound machines.
-ghost use Rattle.std.specs.Prelude.{◌≡◌, ◌<◌, IfOk, IfSome, length, vec_len};
+ghost use Rattle.std.specs.Prelude.{◌≡◌, IfOk, IfSome, length, vec_len};
 ghost use Rattle.shop_model.specs.Word.{IsWord};
 ghost use Rattle.shop_nodes.specs.Nodes.{AreNodes};
 

@@ -30,7 +30,6 @@ pub(crate) struct OpenRun {
 }
 
 impl OpenRun {
-    ghost use Rattle.std.specs.Prelude.{length};
     ghost use Rattle.shop_runs.specs.Standings.{IsStandingOf, stands};
     ghost use Rattle.shop_runs.specs.inner.Searches.{IsSearchAt, IsSearchOf, IsFront};
     ghost use Rattle.shop_runs.specs.inner.Closing.{IsNextSearch};
@@ -76,7 +75,11 @@ impl OpenRun {
     {
         let mut others = self.open;
         let bound = others.least_bound(self.makespan);
-        let front = others.take(alloc, MAX_PIECES * plan.piece, self.spare.len())?;
+        let front = others.take(
+            alloc,
+            MAX_PIECES * plan.piece,
+            self.spare.len().saturating_mul(plan.piece),
+        )?;
         let layout = layout_for(alloc, instance, kept, self.rounds, front.as_slice())?;
         let pieces = cut_pieces(alloc, front, plan.piece, self.spare)?;
         let round = Round {

@@ -7,7 +7,7 @@ use std::alloc::{AllocError as NoMemory, Global};
 use std::mem;
 
 /// How many words a full chunk holds below its top word. They take 4 KB.
-const BLOCK: usize = 256;
+const FULL_CHUNK: usize = 256;
 
 /// For how many words below its top word a chunk that covers another has room at first. Most stacks end in such a
 /// chunk.
@@ -72,7 +72,7 @@ impl Stack {
     pub(crate) fn push(&mut self, alloc: Global, word: SharedWord) -> Result<(), NoMemory>
         ensures { OnOk result (words_on self.new ≡ word ∷ words_on self.old) }
     {
-        if self.topmost.below.len() < BLOCK {
+        if self.topmost.below.len() < FULL_CHUNK {
             return self.topmost.push(word);
         }
         self.cover(alloc, word)

@@ -20,17 +20,8 @@ use crate::states::State;
 use shop_lanes::{Marks, StateLanes};
 use shop_layout::Grid;
 
-/// Answers the own span in `owns[place]`: how late the operation at `place` of the machine, and the others with their
-/// tails, end if it goes first.
-#[inline(always)]
-fn own_at<L: StateLanes>(owns: &[L::Number], place: usize) -> u64
-    requires { place < length owns.now }
-    ensures { result ≡ slice_index (map L.value owns.now) place }
-{
-    L::widened(owns[place])
-}
-
-/// Makes the candidate of `job`. `owns[i]` is the own span, see `own_at`, of the operation at position `first` + `i`.
+/// Makes the candidate of `job`. `owns[i]` is the own span of the operation at position `first` + `i`: how late it, and
+/// the others of its machine with their tails, end if it goes first.
 #[inline(always)]
 fn candidate_for<L: StateLanes>(
     job: usize,
@@ -43,8 +34,7 @@ fn candidate_for<L: StateLanes>(
     ensures job { result.job ≡ job }
     ensures own { result.own ≡ told_at next.now first (map L.value owns.now) job }
 {
-    let place = next[job] as usize - first;
-    let own = own_at::<L>(owns, place);
+    let own = L::widened(owns[next[job] as usize - first]);
     Candidate {
         job: job as u16,
         own: own.saturating_sub(1),
@@ -69,7 +59,7 @@ fn list_below(candidates: &mut Vec<Candidate>, candidate: Candidate, limit: u64)
 }
 
 /// Appends the candidates of the marked `jobs` whose `own` is below `limit`, and answers how many jobs are left out.
-/// `owns[i]` is the own span, see `own_at`, of the operation at position `first` + `i`.
+/// `owns[i]` is the own span, see `candidate_for`, of the operation at position `first` + `i`.
 #[inline(always)]
 fn list_marked<L: StateLanes>(
     candidates: &mut Vec<Candidate>,
@@ -101,7 +91,8 @@ fn list_marked<L: StateLanes>(
 }
 
 /// Fills the empty list with the candidates of a set of jobs whose `own` is below `limit`, and answers how many jobs
-/// are left out. The bits of `words` are the set. `owns[i]` is the own span, see `own_at`, at position `first` + `i`.
+/// are left out. The bits of `words` are the set. `owns[i]` is the own span, see `candidate_for`, at position `first` +
+/// `i`.
 #[inline(always)]
 fn list_words<L: StateLanes>(
     candidates: &mut Vec<Candidate>,
@@ -140,8 +131,8 @@ pub(crate) struct FirstEnd {
 }
 
 /// Fills the empty list with the candidates of the conflict set in `blocks` whose `own` is below `limit`, and answers
-/// how many jobs are left out. `owns` holds the own spans, see `own_at`, from the first of these blocks on. For up to
-/// 64 jobs the set is one number of 64 bits, for more jobs sixteen.
+/// how many jobs are left out. `owns` holds the own spans, see `candidate_for`, from the first of these blocks on. For
+/// up to 64 jobs the set is one number of 64 bits, for more jobs sixteen.
 #[inline(always)]
 fn list_conflict_set<L: StateLanes>(
     candidates: &mut Vec<Candidate>,
@@ -206,7 +197,7 @@ fn list_on_machine<L: StateLanes>(
         end,
     } = first;
     let next = state.next.as_slice();
-    let (from, behind) = grid.blocks_of(grid.blocks_each(), machine);
+    let (from, behind) = grid.blocks_of(grid.fixed_blocks_each(), machine);
     let to = from + (behind - from).min(8);
     let below = state.lanes.below(from, to, end);
     // dispatching a sole candidate keeps the word's bound

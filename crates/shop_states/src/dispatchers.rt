@@ -1,7 +1,6 @@
 // Implements `Dispatching` for a layout, with states in lanes of one width.
-ghost use Rattle.std.specs.Prelude.{◌≡◌, ◌≤◌, ◌<◌, ◌^◌, IfOk, length, max, min};
+ghost use Rattle.std.specs.Prelude.{◌≡◌, ◌<◌, ◌^◌, length, max, min};
 ghost use Rattle.shop_layout.specs.Lanes.{rows_of};
-ghost use Rattle.shop_layout.specs.LaidOuts.{IsReady};
 ghost use Rattle.shop_states.specs.inner.Advances.{CanGoOn};
 ghost use Rattle.shop_states.specs.inner.Dispatches.{IsDispatchOf};
 ghost use Rattle.shop_states.specs.inner.StateCopies.{IsAsLong, IsCopied};
@@ -69,7 +68,6 @@ fn range_of(candidate: Candidate, bound: u64, limit: u64) -> BoundRange
 }
 
 impl<'a, L: StateLanes> Dispatching<State<L>> for LaidOut<'a, L> {
-    ghost use Rattle.std.specs.Prelude.{◌∷◌, ◌++◌, [], vec_capacity};
     ghost use Rattle.shop_states.specs.inner.Candidates.{IsCandidateOf};
     ghost use Rattle.shop_states.specs.inner.Ceilings.{AreChildCeilings};
     ghost use Rattle.shop_states.specs.inner.Scratches.{IsScratchOf};
@@ -217,23 +215,7 @@ impl<'a, L: StateLanes> Dispatching<State<L>> for LaidOut<'a, L> {
     }
 
     #[inline(never)]
-    fn dispatch_child_below(
-        &self,
-        scratch: &mut Scratch<L>,
-        state: &mut State<L>,
-        candidate: Candidate,
-        bound: u64,
-        limit: u64,
-    ) -> Option<u64> {
-        let grid = self.grid();
-        let range = range_of(candidate, bound, limit);
-        let dispatch = Dispatch::of(state, grid, candidate.job as usize);
-        let ceilings = scratch.ceilings.as_slice();
-        advance_below(state, &mut scratch.raises, ceilings, grid, dispatch, range)
-    }
-
-    #[inline(never)]
-    fn dispatch_child_below_in_copy(
+    fn dispatch_child_in_copy(
         &self,
         scratch: &mut Scratch<L>,
         from: &State<L>,

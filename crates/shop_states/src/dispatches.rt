@@ -1,7 +1,6 @@
 // A dispatch of an operation: where the operation stands, when it ends, and which heads its end raises.
-ghost use Rattle.std.specs.Prelude.{◌≡◌, ◌≤◌, ◌<◌, length};
+ghost use Rattle.std.specs.Prelude.{◌≡◌, ◌≤◌, length};
 ghost use Rattle.shop_layout.specs.Lanes.{rows_of};
-ghost use Rattle.shop_layout.specs.Positions.{AreEven};
 ghost use Rattle.shop_states.specs.inner.Advances.{CanGoOn};
 ghost use Rattle.shop_states.specs.inner.Dispatches.{AreDelayedOn, IsDispatchOf};
 ghost use Rattle.shop_states.specs.inner.Raises.{HasBlocks};
@@ -24,40 +23,6 @@ pub(crate) struct Dispatch {
     pub delayed: Marks,
 }
 
-/// Does what `mark_below` does, where each machine has `each` blocks. A literal `each` lets the compiler unroll the
-/// pass over the machine's heads.
-#[inline(always)]
-fn mark_even<L: StateLanes>(
-    each: usize,
-    lanes: &L,
-    grid: &Grid<L>,
-    machine: usize,
-    end: u64,
-) -> Marks
-    requires even { AreEven grid.now.blocks each }
-    requires some { 0 < each }
-    requires few { each ≤ 8 }
-    requires machine { HasBlocks grid.now (length (L.heads lanes.now)) machine }
-    requires fits { end ≤ L.GREATEST }
-    ensures { AreDelayedOn grid.now machine end (L.heads lanes.now) result }
-{
-    let (from, to) = grid.blocks_of(each, machine);
-    lanes.below(from, to, end)
-}
-
-/// Does what `mark_below` does, for machines of four or more blocks, or of different numbers of blocks. Stays out of
-/// line, so that the code inlined for short machines stays small.
-#[inline(never)]
-fn mark_longer<L: StateLanes>(lanes: &L, grid: &Grid<L>, machine: usize, end: u64) -> Marks
-    requires machine { HasBlocks grid.now (length (L.heads lanes.now)) machine }
-    requires fits { end ≤ L.GREATEST }
-    ensures { AreDelayedOn grid.now machine end (L.heads lanes.now) result }
-{
-    let from = grid.block(machine);
-    let count = (grid.block(machine + 1) - from).min(MOST_MARKED);
-    lanes.below(from, from + count, end)
-}
-
 /// Marks what waits in the first eight blocks of `machine` with a head below `end`.
 #[inline(always)]
 fn mark_below<L: StateLanes>(lanes: &L, grid: &Grid<L>, machine: usize, end: u64) -> Marks
@@ -65,12 +30,9 @@ fn mark_below<L: StateLanes>(lanes: &L, grid: &Grid<L>, machine: usize, end: u64
     requires fits { end ≤ L.GREATEST }
     ensures { AreDelayedOn grid.now machine end (L.heads lanes.now) result }
 {
-    match grid.blocks_each() {
-        1 => mark_even(1, lanes, grid, machine, end),
-        2 => mark_even(2, lanes, grid, machine, end),
-        3 => mark_even(3, lanes, grid, machine, end),
-        _ => mark_longer(lanes, grid, machine, end),
-    }
+    let (from, behind) = grid.blocks_of(grid.fixed_blocks_each(), machine);
+    let to = from + (behind - from).min(MOST_MARKED);
+    lanes.below(from, to, end)
 }
 
 impl Dispatch {

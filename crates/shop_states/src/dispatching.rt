@@ -152,7 +152,7 @@ pub trait Dispatching<S: Drop> {
     /// Bounds all children of the word of `state` together, before any candidate is dispatched. `bound` is the bound of
     /// that word, and `list_candidates` listed the candidates. Answers a number: if `bound` or the `own` of a candidate
     /// is at least this number, the bound of the child is the greater of the two. Answers `None` where each child is to
-    /// be bounded alone. Uses up `room`, and leaves in `scratch` what `dispatch_child_below` needs.
+    /// be bounded alone. Uses up `room`, and leaves in `scratch` what `dispatch_child_in_copy` needs.
     fn bound_children(
         &self,
         _scratch: &mut Self::Scratch,
@@ -181,38 +181,9 @@ pub trait Dispatching<S: Drop> {
         None
     }
 
-    /// Dispatches the next operation of `candidate.job`, and answers as `dispatch_below` does, in fewer steps, with
-    /// what `bound_children` left in `scratch`.
-    fn dispatch_child_below(
-        &self,
-        scratch: &mut Self::Scratch,
-        state: &mut S,
-        candidate: Candidate,
-        bound: u64,
-        limit: u64,
-    ) -> Option<u64>
-        requires scratch { IsScratch self.now scratch.old }
-        requires can { CanDispatch (shop self.now)
-            (λ w. IsStateOf self.now w state.old × IsCandidate self.now w candidate
-            × KnowsChild self.now scratch.old w candidate.job)
-            candidate.job bound }
-        ensures told { (w : List ℕ) → IsStateOf self.now w state.old
-            → IsCandidate self.now w candidate → bound ≡ lb (shop self.now) w
-            → TellsBoundBelow limit (lb (shop self.now) (w ++ candidate.job ∷ [])) result }
-        ensures state { (w : List ℕ) → IsStateOf self.now w state.old
-            → IsCandidate self.now w candidate
-            → OnSome result (IsStateOf self.now (w ++ candidate.job ∷ []) state.new) }
-        ensures slot { IsSlot self.now state.new }
-        ensures scratch { IsScratch self.now scratch.new }
-        ensures kept { (w : List ℕ) (j : ℕ) → KnowsChild self.now scratch.old w j
-            → KnowsChild self.now scratch.new w j }
-    {
-        self.dispatch_below(scratch, state, candidate, bound, limit)
-    }
-
     /// Dispatches the next operation of `candidate.job` in `to`, made a copy of `from`, and answers as `dispatch_below`
     /// does, in fewer steps, with what `bound_children` left in `scratch`.
-    fn dispatch_child_below_in_copy(
+    fn dispatch_child_in_copy(
         &self,
         scratch: &mut Self::Scratch,
         from: &S,
@@ -238,8 +209,7 @@ pub trait Dispatching<S: Drop> {
         ensures kept { (w : List ℕ) (j : ℕ) → KnowsChild self.now scratch.old w j
             → KnowsChild self.now scratch.new w j }
     {
-        self.copy(from, to);
-        self.dispatch_child_below(scratch, to, candidate, bound, limit)
+        self.dispatch_below_in_copy(scratch, from, to, candidate, bound, limit)
     }
 
     /// Dispatches the next operation of `candidate.job` after `bound_children`, where the bound of the extended word is
@@ -266,7 +236,7 @@ pub trait Dispatching<S: Drop> {
         ensures kept { (w : List ℕ) (j : ℕ) → KnowsChild self.now scratch.old w j
             → KnowsChild self.now scratch.new w j }
     {
-        self.dispatch_child_below(scratch, state, candidate, bound, limit)
+        self.dispatch_below(scratch, state, candidate, bound, limit)
             .is_some()
     }
 

@@ -47,28 +47,6 @@ fn span_of_rows<L: StateLanes>(
     L::bound_raised(rows, each, range, least, limit)
 }
 
-/// Does what `span_of_rows` does, with a literal number of blocks for up to four blocks, which unrolls the loops.
-#[inline(always)]
-fn span_of_machine<L: StateLanes>(
-    each: usize,
-    rows: &LaneRows<L::Number>,
-    raise: LaneRaise<L::Number>,
-    least: u64,
-    limit: u64,
-) -> u64
-    requires { CanBoundRows L.value L.GREATEST each rows.now raise }
-    ensures { IsSpanByRaise (raise_in L.value raise) (lanes_in L.value rows.now)
-        limit least result }
-{
-    match each {
-        1 => span_of_rows::<L>(1, rows, raise, least, limit),
-        2 => span_of_rows::<L>(2, rows, raise, least, limit),
-        3 => span_of_rows::<L>(3, rows, raise, least, limit),
-        4 => span_of_rows::<L>(4, rows, raise, least, limit),
-        _ => span_of_rows::<L>(0, rows, raise, least, limit),
-    }
-}
-
 /// Tells whether the ceiling of `machine`, if it has one, is at most `most`.
 #[inline(always)]
 fn is_under(ceilings: &[u64], machine: usize, most: u64) -> bool
@@ -112,10 +90,10 @@ fn take_spans_of<L: StateLanes, const EACH: usize>(
     most
 }
 
-/// Does what `take_spans` does, for machines of four or more blocks, or of different numbers of blocks. Stays out of
-/// line, so that the code inlined for short machines stays small.
+/// Does what `take_spans` does, in lanes for any number of blocks a machine, with code for each number up to eight.
+/// Stays out of line, so that a walk has this code once.
 #[inline(never)]
-fn take_longer_spans<L: StateLanes>(
+fn take_any_spans<L: StateLanes>(
     raises: &mut [LaneRaise<L::Number>],
     raised: MachineSet,
     ceilings: &[u64],
@@ -132,6 +110,9 @@ fn take_longer_spans<L: StateLanes>(
         (raises_in L.value raises.old) (raises_in L.value raises.new) least limit result }
 {
     match laid.grid.blocks_each() {
+        1 => take_spans_of::<L, 1>(raises, raised, ceilings, laid, least, limit),
+        2 => take_spans_of::<L, 2>(raises, raised, ceilings, laid, least, limit),
+        3 => take_spans_of::<L, 3>(raises, raised, ceilings, laid, least, limit),
         4 => take_spans_of::<L, 4>(raises, raised, ceilings, laid, least, limit),
         5 => take_spans_of::<L, 5>(raises, raised, ceilings, laid, least, limit),
         6 => take_spans_of::<L, 6>(raises, raised, ceilings, laid, least, limit),
@@ -162,11 +143,10 @@ pub(crate) fn take_spans<L: StateLanes>(
         (laid_rows L.heads L.ends laid.now)
         (raises_in L.value raises.old) (raises_in L.value raises.new) least limit result }
 {
-    match laid.grid.blocks_each() {
-        1 => take_spans_of::<L, 1>(raises, raised, ceilings, laid, least, limit),
+    match laid.grid.fixed_blocks_each() {
         2 => take_spans_of::<L, 2>(raises, raised, ceilings, laid, least, limit),
         3 => take_spans_of::<L, 3>(raises, raised, ceilings, laid, least, limit),
-        _ => take_longer_spans(raises, raised, ceilings, laid, least, limit),
+        _ => take_any_spans(raises, raised, ceilings, laid, least, limit),
     }
 }
 
@@ -200,14 +180,14 @@ pub(crate) fn take_ceilings<L: StateLanes>(
     ensures long { length ceilings.new ≡ length ceilings.old }
 {
     ceilings.fill(least);
-    let each = laid.grid.blocks_each();
+    let each = laid.grid.fixed_blocks_each();
     let rows = laid.grid.rows(laid.lanes);
     let mut greatest = least;
     let mut left = raised;
     while let Some(machine) = left.pop_first() {
         let raise = take_raise::<L>(raises, machine);
         let (from, to) = laid.grid.blocks_of(each, machine);
-        let span = span_of_machine::<L>(each, &rows.blocks(from, to), raise, least, limit);
+        let span = span_of_rows::<L>(each, &rows.blocks(from, to), raise, least, limit);
         let ceiling = kept_ceiling(span, limit);
         ceilings[machine] = ceilings[machine].max(ceiling);
         greatest = greatest.max(ceiling);

@@ -1,6 +1,5 @@
 // Finds the conflict set from the heads in lanes.
-ghost use Rattle.std.specs.Prelude.{◌≡◌, ℕ, ◌*◌, ◌≤◌, ◌<◌, length};
-ghost use Rattle.shop_lanes.specs.Marks.{positions_below};
+ghost use Rattle.std.specs.Prelude.{ℕ, ◌*◌, ◌≤◌, ◌<◌, length};
 ghost use Rattle.shop_states.specs.inner.LaneChoices.{AreConflictBlocks, HaveJobs, IsJobAt};
 ghost use Rattle.shop_states.specs.inner.LaneChoices.{IsJobBelow};
 ghost use Rattle.shop_layout.specs.Lanes.{rows_of};

@@ -24,16 +24,6 @@ fn begin_jobs<L: StateLanes>(laid_out: &LaidOut<L>, next_legs: &mut [u32], ready
     }
 }
 
-/// Makes each machine free from time 0 on.
-fn free_machines(free: &mut [u64])
-    ensures long { length free.new ≡ length free.old }
-    ensures none { (m : ℕ) → m < length free.old → slice_index free.new m ≡ 0 }
-{
-    for machine in 0..free.len() {
-        free[machine] = 0;
-    }
-}
-
 /// Writes the placement of the empty word into `next_legs`, `ready` and `free`.
 pub(crate) fn place_none<L: StateLanes>(
     laid_out: &LaidOut<L>,
@@ -48,7 +38,8 @@ pub(crate) fn place_none<L: StateLanes>(
         next_legs.new ready.new free.new }
 {
     begin_jobs(laid_out, next_legs, ready);
-    free_machines(free);
+    // each machine is free from time 0 on
+    free.fill(0);
 }
 
 /// Places the operations of the word `path` from entry `from` on. The operations of earlier entries are placed already.

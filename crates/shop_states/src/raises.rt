@@ -1,5 +1,5 @@
 // Raises heads after an operation is dispatched. `delays.rt` does the same without notes.
-ghost use Rattle.std.specs.Prelude.{◌≡◌, ◌+◌, ◌≤◌, ◌<◌, ◌^◌, [], length, slice_index};
+ghost use Rattle.std.specs.Prelude.{◌+◌, ◌≤◌, ◌<◌, ◌^◌, [], length, slice_index};
 ghost use Rattle.shop_layout.specs.Lanes.{rows_of};
 ghost use Rattle.shop_states.specs.inner.Dispatches.{AreDelayedOn};
 ghost use Rattle.shop_states.specs.inner.HeadRaises.{raises_in};
@@ -7,7 +7,7 @@ ghost use Rattle.shop_states.specs.inner.RaiseCalls.{CanRaise, HasRaised};
 ghost use Rattle.shop_states.specs.inner.Raises.{AreWaiting, HasBlocks, IsPosition, IsRaisable};
 ghost use Rattle.shop_states.specs.inner.Raises.{IsOnMachine, Raises, SetsEndAt};
 ghost use Rattle.shop_states.specs.inner.RisingLists.{IsIn};
-ghost use Rattle.shop_states.specs.inner.Watchers.{AreKnown, Notes, Sees, Watches, no_floor};
+ghost use Rattle.shop_states.specs.inner.Watchers.{AreKnown, Notes, Sees};
 ghost use Rattle.shop_states.specs.inner.MachineRaises.{AreListed};
 
 use crate::dispatches::{Dispatch, MOST_MARKED};
@@ -15,7 +15,6 @@ use crate::head_raises::{LaneRaise, see};
 use crate::machine_sets::MachineSet;
 use shop_lanes::{Marks, StateLanes};
 use shop_layout::{Grid, Routes};
-use std::mem;
 
 /// The routes of an instance, and at which position each job's next operation stands after a word.
 #[derive(Drop)]
@@ -152,54 +151,10 @@ fn raise_marked<L: StateLanes>(
     }
 }
 
-/// Does what `raise` does, for machines of four or more blocks, or of different numbers of blocks: raises what is
-/// marked in the first eight blocks, then marks and raises eight blocks after another. Stays out of line, so that the
-/// code inlined for short machines stays small.
-#[inline(never)]
-fn raise_longer<L: StateLanes>(
-    lanes: &mut L,
-    raises: &mut [LaneRaise<L::Number>],
-    raised: &mut MachineSet,
-    grid: &Grid<L>,
-    next: &[u32],
-    dispatch: Dispatch,
-)
-    requires machine { HasBlocks grid.now (length (L.heads lanes.old)) dispatch.machine }
-    requires delayed { AreDelayedOn grid.now dispatch.machine dispatch.end (L.heads lanes.old)
-        dispatch.delayed }
-    requires can { CanRaise L.GREATEST grid.now next.now
-        (IsOnMachine grid.now dispatch.machine) dispatch.end
-        (rows_of grid.now (L.heads lanes.old) (L.ends lanes.old)) (length raises.old) }
-    requires machines_fit { 0 < L.EACH → length raises.old ≤ 64 }
-    requires listed { AreListed (raises_in L.value raises.old) raised.old }
-    ensures { HasRaised L.GREATEST grid.now next.now
-        (IsOnMachine grid.now dispatch.machine) dispatch.end
-        (rows_of grid.now (L.heads lanes.old) (L.ends lanes.old))
-        (rows_of grid.now (L.heads lanes.new) (L.ends lanes.new))
-        (raises_in L.value raises.old) (raises_in L.value raises.new) raised.new }
-{
-    let routes = grid.routes();
-    let ahead = OpenRoutes { routes, next };
-    let behind = grid.block(dispatch.machine + 1);
-    let end = dispatch.end;
-    let mut from = grid.block(dispatch.machine);
-    let mut marks = dispatch.delayed;
-    // taken out, so that the set stays in registers
-    let mut machines = mem::replace(raised, MachineSet::none());
-    loop {
-        raise_marked(lanes, raises, &mut machines, &ahead, marks, end);
-        from += (behind - from).min(MOST_MARKED);
-        if from == behind {
-            break;
-        }
-        marks = lanes.below(from, from + (behind - from).min(MOST_MARKED), end);
-    }
-    *raised = machines;
-}
-
 /// Raises each head below the end of a dispatch on its machine to that end, then every later head on its route that is
 /// now too early. Notes how far these later heads rose, and updates the ends of next operations. The heads are those
-/// that the dispatch delays; its own operation waits no longer.
+/// that the dispatch delays; its own operation waits no longer. Eight blocks are marked and raised after another; lanes
+/// for two or three blocks a machine need one turn, which the compiler sees.
 #[inline(always)]
 pub(crate) fn raise<L: StateLanes>(
     lanes: &mut L,
@@ -223,12 +178,18 @@ pub(crate) fn raise<L: StateLanes>(
         (rows_of grid.now (L.heads lanes.new) (L.ends lanes.new))
         (raises_in L.value raises.old) (raises_in L.value raises.new) raised.new }
 {
-    let each = grid.blocks_each();
-    if each == 0 || each > 3 {
-        return raise_longer(lanes, raises, raised, grid, next, dispatch);
-    }
     let routes = grid.routes();
     let ahead = OpenRoutes { routes, next };
-    let (marks, end) = (dispatch.delayed, dispatch.end);
-    raise_marked(lanes, raises, raised, &ahead, marks, end);
+    let end = dispatch.end;
+    let (first, behind) = grid.blocks_of(grid.fixed_blocks_each(), dispatch.machine);
+    let mut from = first;
+    let mut marks = dispatch.delayed;
+    loop {
+        raise_marked(lanes, raises, raised, &ahead, marks, end);
+        from += (behind - from).min(MOST_MARKED);
+        if from == behind {
+            return;
+        }
+        marks = lanes.below(from, from + (behind - from).min(MOST_MARKED), end);
+    }
 }

@@ -1,5 +1,5 @@
 // The number lines of a part: size lines and rows.
-ghost use Rattle.std.specs.Prelude.{◌≡◌, ℕ, ◌*◌, ◌%◌, ◌≤◌, ◌↔◌, IsTrue, nat_le, All, IfOk, length};
+ghost use Rattle.std.specs.Prelude.{◌≡◌, ◌*◌, ◌%◌, ◌≤◌, ◌↔◌, IsTrue, nat_le, All, IfOk, length};
 ghost use Rattle.std.specs.List.{list_all};
 ghost use Rattle.shop_model.specs.Given.{job_as_given};
 ghost use Rattle.shop_model.specs.Limits.{IsJobWithin, IsRouteWithin};

@@ -1,5 +1,5 @@
 // Reads the table of a schedule text.
-ghost use Rattle.std.specs.Prelude.{ℕ, ◌≤◌, length};
+ghost use Rattle.std.specs.Prelude.{◌≤◌, length};
 ghost use Rattle.shop_text.specs.Schedules.{IsTableRead};
 ghost use Rattle.shop_text.specs.inner.ScheduleReading.{AreRowsRead};
 

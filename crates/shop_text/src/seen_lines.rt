@@ -1,5 +1,5 @@
 // Tells what one line of an instance text is.
-ghost use Rattle.std.specs.Prelude.{◌≡◌, ◌∷◌, [], Some, None, MatchOption, IfOk, codes};
+ghost use Rattle.std.specs.Prelude.{◌≡◌, Some, None, MatchOption, IfOk, codes};
 ghost use Rattle.std.specs.List.{list_all};
 ghost use Rattle.std.specs.Str.{bytes_eq};
 ghost use Rattle.shop_text.specs.Formats.{grammar_of, header_of, is_visible};
@@ -8,7 +8,7 @@ ghost use Rattle.shop_text.specs.inner.LineReading.{Tells};
 
 use crate::formats::Format;
 use crate::lines::{next_number, next_token};
-use std::alloc::{AllocError as NoMemory, Global};
+use std::alloc::AllocError as NoMemory;
 
 /// What a line is: blank, numbers alone, or text, with the name of an instance if it gives one.
 #[derive(Drop)]

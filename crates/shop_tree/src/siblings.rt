@@ -1,5 +1,5 @@
 // Puts the children of a word on the stack once most of them are bounded: settled ones without a trial.
-ghost use Rattle.std.specs.Prelude.{◌≡◌, ℕ, ◌≤◌, List, [], ◌∷◌, ◌++◌, All, IfOk, OnOk};
+ghost use Rattle.std.specs.Prelude.{◌≡◌, ℕ, ◌≤◌, List, All, IfOk, OnOk};
 ghost use Rattle.shop_bound.specs.Bound.{lb};
 ghost use Rattle.shop_states.specs.States.{CanDispatch, ListsBelow, Settles};
 ghost use Rattle.shop_nodes.specs.Branching.{conflict};

@@ -28,7 +28,7 @@ pub struct Seat {
     pub ghost pieces: { ArePieces seat.me.0.hits seat.me.0.mine },
 }
 
-// Makes the numbers of a new board: a flag of 0 for each piece, and then `pieces`, which says that no piece is marked.
+/// Makes the numbers of a new board: a flag of 0 for each piece, and then `pieces`, which says that no piece is marked.
 fn first_words(alloc: Global, pieces: usize) -> Result<Vec<u64>, NoMemory>
     requires { pieces ≤ 256 }
     ensures { IfOk result (λ v. v.items ≡ replicate pieces 0 ++ pieces ∷ []) }
@@ -42,7 +42,7 @@ fn first_words(alloc: Global, pieces: usize) -> Result<Vec<u64>, NoMemory>
 }
 
 impl<'r> Board<'r> {
-    ghost use Rattle.std.specs.Prelude.{◌<◌, ℕ};
+    ghost use Rattle.std.specs.Prelude.{◌<◌};
     ghost use Rattle.shop_runs.specs.Hits.{hits_of_round, is_hit_in, IsHitOrEnd, IsLeastHit};
     ghost use Rattle.shop_workers.specs.Views.{has, HasServed, HasAll};
     ghost use Rattle.shop_workers.specs.Moves.{newcomer, empty_handed, joined, HaveWonApart};

@@ -12,8 +12,8 @@ use shop_runs::{Entry, PieceSearch, Round};
 use std::alloc::{AllocError as NoMemory, Global};
 use std::sync::{Mutex, Wait};
 
-// Searches piece `number`, or passes it if `low` is lower, and answers its entry. Sets `low` to `number` if the piece's
-// makespan equals the opening bound. Before the worker's first such piece, `low` is the number of pieces.
+/// Searches piece `number`, or passes it if `low` is lower, and answers its entry. Sets `low` to `number` if the
+/// piece's makespan equals the opening bound. Before the worker's first such piece, `low` is the number of pieces.
 fn search_or_pass<'r, P: PieceSearch<'r>, G: Gate>(
     alloc: Global,
     searcher: &mut P,
@@ -44,7 +44,7 @@ fn search_or_pass<'r, P: PieceSearch<'r>, G: Gate>(
     Ok(Entry::done(round, sheet))
 }
 
-// Takes the next number from `pool`, or answers `None` if the pool is empty or the number isn't below `pieces`.
+/// Takes the next number from `pool`, or answers `None` if the pool is empty or the number isn't below `pieces`.
 fn next_piece<R: Wait>(rt: &R, pool: &Mutex<Pool>, pieces: usize) -> Option<usize>
     ensures { IfSome result (λ n. n < pieces) }
 {

@@ -21,7 +21,7 @@ pub fn places<'r>(alloc: Global, round: &'r Round<'r>) -> Result<Vec<Option<Entr
     Ok(slots)
 }
 
-// Puts `entry` into the place of its piece, if `slots` has that place.
+/// Puts `entry` into the place of its piece, if `slots` has that place.
 fn put<'r>(round: &'r Round<'r>, slots: &mut Vec<Option<Entry<'r>>>, entry: Entry<'r>)
     requires of { told entry.round.now ≡ told round.now }
     requires slots { Placed (told round.now) slots.old.items }
@@ -54,7 +54,7 @@ pub fn place<'r>(
     }
 }
 
-// Takes the entry, if any, out of place `number` of `slots`, and leaves the place empty.
+/// Takes the entry, if any, out of place `number` of `slots`, and leaves the place empty.
 fn take<'r>(slots: &mut Vec<Option<Entry<'r>>>, number: usize) -> Option<Entry<'r>>
     requires { number < vec_len slots.old }
     ensures after { slots.new.items ≡ slice_set slots.old.items number None }
@@ -63,7 +63,7 @@ fn take<'r>(slots: &mut Vec<Option<Entry<'r>>>, number: usize) -> Option<Entry<'
     slots[number].take()
 }
 
-// Answers the entry that a worker brought for piece `number`, or searches the piece if `brought` is `None`.
+/// Answers the entry that a worker brought for piece `number`, or searches the piece if `brought` is `None`.
 fn or_search<'r, P: PieceSearch<'r>>(
     alloc: Global,
     searcher: &mut P,

@@ -53,8 +53,8 @@ pub fn seats_for_workers(
     Ok(lent)
 }
 
-// Joins the workers' seats, and puts their entries into the places of their pieces. Fails with `NoMemory` if memory
-// runs out, here or for a worker.
+/// Joins the workers' seats, and puts their entries into the places of their pieces. Fails with `NoMemory` if memory
+/// runs out, here or for a worker.
 fn join_all<'r>(
     alloc: Global,
     board: &Board,
@@ -79,7 +79,7 @@ fn join_all<'r>(
     Ok((joined, slots))
 }
 
-// Claims piece `number` if `place`, the place of its entry, is empty, as no worker brought the entry.
+/// Claims piece `number` if `place`, the place of its entry, is empty, as no worker brought the entry.
 fn claim_missing(board: &Board, seat: &mut Seat, number: usize, place: &Option<Entry>)
     requires seat { IsSeatOf board.now seat.old }
     requires piece { number < length (hits_of board.now) }
@@ -92,7 +92,7 @@ fn claim_missing(board: &Board, seat: &mut Seat, number: usize, place: &Option<E
     }
 }
 
-// Claims each piece whose place in `places` is empty, as no worker brought its entry.
+/// Claims each piece whose place in `places` is empty, as no worker brought its entry.
 fn claim_rest(board: &Board, seat: &mut Seat, places: &[Option<Entry>])
     requires seat { IsSeatOf board.now seat.old }
     requires places { length places.now ≡ length (hits_of board.now) }

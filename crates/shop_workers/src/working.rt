@@ -1,20 +1,20 @@
 // A worker that claims pieces on a board and searches those that it wins.
-ghost use Rattle.std.specs.Prelude.{◌≡◌, ◌<◌, length, true, IfOk, OnOk};
+ghost use Rattle.std.specs.Prelude.{◌≡◌, ◌<◌, length, OnOk};
 ghost use Rattle.shop_runs.specs.Entries.{told};
 ghost use Rattle.shop_runs.specs.Hits.{hits_of_round};
-ghost use Rattle.shop_workers.specs.Views.{has, HasServed};
+ghost use Rattle.shop_workers.specs.Views.{HasServed};
 ghost use Rattle.shop_workers.specs.Seats.{knows, hits_of, IsSeatOf};
 ghost use Rattle.shop_workers.specs.Works.{Grows, IsKnown, IsAllKnown, BringsWon};
-ghost use Rattle.shop_workers.specs.inner.Turns.{IsServedEntry, BringsTurn};
+ghost use Rattle.shop_workers.specs.inner.Turns.{BringsTurn};
 
 use crate::boards::{Board, Seat};
 use crate::gates::SeatGate;
 use shop_runs::{Entry, PieceSearch};
 use std::alloc::{AllocError as NoMemory, Global};
 
-// Reads the least number of a marked piece, then claims piece `number`. If the seat wins piece `number`, passes it if
-// the number read is lower; else searches it, and marks it if its makespan equals the opening bound. Answers the entry
-// of piece `number`, or `None` if the seat didn't win it.
+/// Reads the least number of a marked piece, then claims piece `number`. If the seat wins piece `number`, passes it if
+/// the number read is lower; else searches it, and marks it if its makespan equals the opening bound. Answers the entry
+/// of piece `number`, or `None` if the seat didn't win it.
 fn claim_and_search<'r, P: PieceSearch<'r>, G: SeatGate>(
     alloc: Global,
     board: &Board,

@@ -118,7 +118,7 @@ impl<'l, D: Dispatching<S>, S: Drop> WalkStates<'l, D, S> {
         ensures current { self.new.current.value ≡ self.old.current.value }
         ensures dispatcher { self.new.dispatcher.now ≡ self.old.dispatcher.now }
     {
-        self.dispatcher.dispatch_child_below_in_copy(
+        self.dispatcher.dispatch_child_in_copy(
             &mut self.scratch,
             &self.current,
             &mut self.trial,

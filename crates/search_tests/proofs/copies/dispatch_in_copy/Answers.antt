@@ -1,7 +1,7 @@
 use Rattle.search_tests.proofs.copies.dispatch_in_copy.Goals as goal
 
-pub dispatch_child_below_in_copy-requires-clause-can : goal.dispatch_child_below_in_copy-requires-clause-can
-dispatch_child_below_in_copy-requires-clause-can g c =
+pub dispatch_child_in_copy-requires-clause-can : goal.dispatch_child_in_copy-requires-clause-can
+dispatch_child_in_copy-requires-clause-can g c =
     let can = c.requires.can
     in record {
       word = can.word;

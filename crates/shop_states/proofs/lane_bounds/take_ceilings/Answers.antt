@@ -28,13 +28,13 @@ blocks-requires g c =
           c.rows-rows.result rows.heads;
     }
 
-pub span_of_machine-span-requires : goal.span_of_machine-span-requires
-span_of_machine-span-requires g c =
+pub span_of_rows-span-requires : goal.span_of_rows-span-requires
+span_of_rows-span-requires g c =
     let left = c.loop-machine.invariant.found.left in let rows = c.rows-rows.ensures
     in let blocks = c.blocks_of-from.ensures
     in can_bound c.requires.can left c.in-Some.ensures blocks.first blocks.behind g.L.StateLanes.value
     c.rows-rows.result rows.heads rows.times rows.tails c.blocks-in-Some.ensures c.take_raise-raise.ensures.raise
-    c.blocks_each-each.result blocks.count
+    c.fixed_blocks_each-each.result blocks.count
 
 pub loop-machine-preserved : goal.loop-machine-preserved
 loop-machine-preserved g c =
@@ -51,7 +51,7 @@ loop-machine-preserved g c =
     in let all = spans_within g.L.StateLanes.GREATEST from to (on m) (omega arith) (on m)
     in let span = cut_span can so.left c.in-Some.ensures blocks.first blocks.behind g.L.StateLanes.value
     c.rows-rows.result rows.heads rows.times rows.tails c.blocks-in-Some.ensures c.take_raise-raise.ensures.raise
-    c.span_of_machine-span.ensures
+    c.span_of_rows-span.ensures
     in let small = c.requires.computable
     in let same = c.loop-machine.invariant.long in let room = c.requires.room
     in let many = length-map c.args.raises.now (raise_in g.L.StateLanes.value)

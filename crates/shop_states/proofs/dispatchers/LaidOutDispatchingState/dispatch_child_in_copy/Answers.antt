@@ -5,7 +5,7 @@ use Rattle.shop_states.specs.inner.Ceilings.{AreChildCeilings}
 use Rattle.shop_states.proofs.CandidateDispatches.{candidate_can, candidate_kept, candidate_told}
 use Rattle.shop_states.proofs.AskedStates.{bound_there, kept_on_some, told_behind}
 use Rattle.shop_states.proofs.ReadStates.{kept_copied, kept_read}
-use Rattle.shop_states.proofs.dispatchers.LaidOutDispatchingState.dispatch_child_below_in_copy.Goals as goal
+use Rattle.shop_states.proofs.dispatchers.LaidOutDispatchingState.dispatch_child_in_copy.Goals as goal
 
 pub dispatch_in_copy-dispatch-requires-clause-can : goal.dispatch_in_copy-dispatch-requires-clause-can
 dispatch_in_copy-dispatch-requires-clause-can g c = search (rules, kept_read)
