@@ -31,11 +31,19 @@ fn fits_row(makespan: u64, operations: usize) -> bool {
 /// Open nodes in the order in which the next round takes them: one stack for `Kept`, and one stack of words per bound
 /// for `Bound`, in a row if bounds are small, else in a map. The time to put or take a node hardly grows with the
 /// number of open nodes.
-#[derive(Drop)]
 pub(crate) enum OpenNodes {
     AsKept(KeptStack),
     InRow(BoundRow),
     InMap(BoundMap),
+}
+
+// Not derived: a derived `Drop` would be compiled anew into each function that has a store.
+impl Drop for OpenNodes {
+    fn drop(self) {
+        match self {
+            OpenNodes::AsKept(_) | OpenNodes::InRow(_) | OpenNodes::InMap(_) => {}
+        }
+    }
 }
 
 impl OpenNodes {

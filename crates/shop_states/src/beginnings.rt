@@ -7,13 +7,13 @@ ghost use Rattle.shop_states.specs.inner.PlacedNexts.{IsPlacedAt};
 use crate::placing::{place_from, place_none};
 use shop_lanes::StateLanes;
 use shop_layout::LaidOut;
+use shop_model::Instance;
 use std::alloc::{AllocError as NoMemory, Global};
 
 /// How many of a word's last jobs a kept beginning leaves out, since the next word often differs in them.
 const LEFT_OUT: usize = 32;
 
 /// The first jobs of a word, with the index of each job's next leg, its `ready` time and each machine's `free` time.
-#[derive(Drop)]
 pub struct Beginning {
     /// the first `len` entries are the jobs of the beginning
     path: Vec<u16>,
@@ -21,6 +21,19 @@ pub struct Beginning {
     next_legs: Vec<u32>,
     ready: Vec<u64>,
     free: Vec<u64>,
+}
+
+// Not derived: a derived `Drop` would be compiled anew into each function that has a beginning.
+impl Drop for Beginning {
+    fn drop(self) {
+        let Beginning {
+            path: _,
+            len: _,
+            next_legs: _,
+            ready: _,
+            free: _,
+        } = self;
+    }
 }
 
 /// Writes `front` over the first entries of `row`.
@@ -40,16 +53,24 @@ impl Beginning {
     ) -> Result<Beginning, NoMemory>
         ensures { IfOk result (λ b. IsBeginningOf laid_out.now.shop laid_out.now.layout b) }
     {
-        let instance = laid_out.instance();
-        let mut beginning = Beginning {
+        let mut beginning = Beginning::with_room(alloc, laid_out.instance())?;
+        beginning.clear(laid_out);
+        Ok(beginning)
+    }
+
+    /// Makes room for the beginning of any word of `instance`: one form for lanes of all widths. Fails with `NoMemory`
+    /// if memory runs out.
+    #[inline(never)]
+    fn with_room(alloc: Global, instance: &Instance) -> Result<Beginning, NoMemory>
+        ensures { IfOk result (HasRoomOf instance.now) }
+    {
+        Ok(Beginning {
             path: vec![in alloc; 0; instance.operations()]?,
             len: 0,
             next_legs: vec![in alloc; 0; instance.jobs()]?,
             ready: vec![in alloc; 0; instance.jobs()]?,
             free: vec![in alloc; 0; instance.machines()]?,
-        };
-        beginning.clear(laid_out);
-        Ok(beginning)
+        })
     }
 
     /// Empties the beginning.

@@ -113,6 +113,7 @@ impl<'a, L: StateLanes> Dispatching<State<L>> for LaidOut<'a, L> {
         })
     }
 
+    #[inline(never)]
     fn slot(&self, alloc: Global) -> Result<State<L>, NoMemory> {
         let jobs = self.instance().jobs();
         let lanes = L::new(alloc, self.grid().positions(), jobs)?;

@@ -1,5 +1,5 @@
 // The raise on a machine: of the heads noted there, the least old one and the greatest new one.
-ghost use Rattle.std.specs.Prelude.{◌≡◌, ◌≤◌, ◌<◌, min, max, length, slice_set};
+ghost use Rattle.std.specs.Prelude.{◌≡◌, ◌≤◌, ◌<◌, IsTrue, min, max, length, slice_set};
 ghost use Rattle.shop_states.specs.inner.HeadRaises.{nothing_raised, raise_in, raise_of};
 ghost use Rattle.shop_states.specs.inner.HeadRaises.{raises_in, widened};
 ghost use Rattle.shop_states.specs.inner.MachineRaises.{AreListed};
@@ -68,9 +68,10 @@ fn with_head<L: StateLanes>(
     }
 }
 
-/// Notes that a head rose from `before` to `after`: widens the raise of `machine`, and puts `machine` into `raised`.
+/// Notes that a head rose from `before` to `after`: widens the raise of `machine`, and puts `machine` into `raised`. Of
+/// at most 64 machines a set is one number (`FEW`), which spares a test.
 #[inline(always)]
-pub(crate) fn see<L: StateLanes>(
+pub(crate) fn see<L: StateLanes, const FEW: bool>(
     raises: &mut [LaneRaise<L::Number>],
     raised: &mut MachineSet,
     machine: u32,
@@ -78,7 +79,7 @@ pub(crate) fn see<L: StateLanes>(
     after: u64,
 )
     requires listed { AreListed (raises_in L.value raises.old) raised.old }
-    requires machines_fit { 0 < L.EACH → length raises.old ≤ 64 }
+    requires machines_fit { IsTrue FEW → length raises.old ≤ 64 }
     requires known { machine < length raises.old }
     requires rises { before ≤ after }
     requires fits { after ≤ L.GREATEST }
@@ -88,7 +89,7 @@ pub(crate) fn see<L: StateLanes>(
     ensures listed { AreListed (raises_in L.value raises.new) raised.new }
 {
     let raise = raises[machine as usize];
-    raised.put(machine, L::EACH > 0);
+    raised.put(machine, FEW);
     raises[machine as usize] = with_head::<L>(raise, before, after);
 }
 

@@ -109,6 +109,10 @@ fn take_any_spans<L: StateLanes>(
         (laid_rows L.heads L.ends laid.now)
         (raises_in L.value raises.old) (raises_in L.value raises.new) least limit result }
 {
+    // few instances need lanes of 64 bits: one loop is enough there
+    if L::GREATEST > u32::MAX as u64 {
+        return take_spans_of::<L, 0>(raises, raised, ceilings, laid, least, limit);
+    }
     match laid.grid.blocks_each() {
         1 => take_spans_of::<L, 1>(raises, raised, ceilings, laid, least, limit),
         2 => take_spans_of::<L, 2>(raises, raised, ceilings, laid, least, limit),

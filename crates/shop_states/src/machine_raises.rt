@@ -97,7 +97,11 @@ impl<L: StateLanes> MachineRaises<L> {
     {
         let mut raised = MachineSet::none();
         let raises = self.raises.as_mut_slice();
-        raise(lanes, raises, &mut raised, grid, next, dispatch);
+        if L::EACH > 0 || raises.len() <= 64 {
+            raise::<L, true>(lanes, raises, &mut raised, grid, next, dispatch);
+            return raised;
+        }
+        raise::<L, false>(lanes, raises, &mut raised, grid, next, dispatch);
         raised
     }
 
@@ -166,7 +170,11 @@ impl<L: StateLanes> MachineRaises<L> {
     {
         let mut raised = MachineSet::none();
         let raises = self.raises.as_mut_slice();
-        raise_late(lanes, raises, &mut raised, routes, late);
+        if L::EACH > 0 || raises.len() <= 64 {
+            raise_late::<L, true>(lanes, raises, &mut raised, routes, late);
+            return raised;
+        }
+        raise_late::<L, false>(lanes, raises, &mut raised, routes, late);
         raised
     }
 

@@ -1,5 +1,5 @@
 // Raises heads after an operation is dispatched. `delays.rt` does the same without notes.
-ghost use Rattle.std.specs.Prelude.{◌+◌, ◌≤◌, ◌<◌, ◌^◌, [], length, slice_index};
+ghost use Rattle.std.specs.Prelude.{◌+◌, ◌≤◌, ◌<◌, ◌^◌, [], IsTrue, length, slice_index};
 ghost use Rattle.shop_layout.specs.Lanes.{rows_of};
 ghost use Rattle.shop_states.specs.inner.Dispatches.{AreDelayedOn};
 ghost use Rattle.shop_states.specs.inner.HeadRaises.{raises_in};
@@ -28,7 +28,7 @@ pub(crate) struct OpenRoutes<'a> {
 /// a route lie side by side, so that no step waits until the one before it has read where the next operation stands. At
 /// the end of a route the head is the greatest number, and the raise stops.
 #[inline(always)]
-pub(crate) fn raise_route<L: StateLanes>(
+pub(crate) fn raise_route<L: StateLanes, const FEW: bool>(
     lanes: &mut L,
     raises: &mut [LaneRaise<L::Number>],
     raised: &mut MachineSet,
@@ -41,7 +41,7 @@ pub(crate) fn raise_route<L: StateLanes>(
     requires raisable { IsRaisable L.GREATEST routes.now []
         (rows_of routes.now (L.heads lanes.old) (L.ends lanes.old)) (IsPosition position) end }
     requires known { AreKnown routes.now.machines (length raises.old) }
-    requires machines_fit { 0 < L.EACH → length raises.old ≤ 64 }
+    requires machines_fit { IsTrue FEW → length raises.old ≤ 64 }
     requires listed { AreListed (raises_in L.value raises.old) raised.old }
     ensures raises { Raises L.GREATEST routes.now [] (IsPosition position) end
         (rows_of routes.now (L.heads lanes.old) (L.ends lanes.old))
@@ -65,7 +65,7 @@ pub(crate) fn raise_route<L: StateLanes>(
             return;
         }
         lanes.set_head(here, ready);
-        see::<L>(raises, raised, leg.machine, head, ready);
+        see::<L, FEW>(raises, raised, leg.machine, head, ready);
         ready += leg.time;
         index += 1;
     }
@@ -99,7 +99,7 @@ pub(crate) fn set_end_at<L: StateLanes>(
 /// Raises the head at `position` to `end`, then every later head on its route that is now too early. Sets the end of
 /// the operation at `position` if it is its job's next one.
 #[inline(always)]
-fn raise_from<L: StateLanes>(
+fn raise_from<L: StateLanes, const FEW: bool>(
     lanes: &mut L,
     raises: &mut [LaneRaise<L::Number>],
     raised: &mut MachineSet,
@@ -111,7 +111,7 @@ fn raise_from<L: StateLanes>(
     requires below { slice_index (L.heads lanes.old) position ≤ end }
     requires can { CanRaise L.GREATEST ahead.now.routes ahead.now.next.now (IsPosition position) end
         (rows_of ahead.now.routes (L.heads lanes.old) (L.ends lanes.old)) (length raises.old) }
-    requires machines_fit { 0 < L.EACH → length raises.old ≤ 64 }
+    requires machines_fit { IsTrue FEW → length raises.old ≤ 64 }
     requires listed { AreListed (raises_in L.value raises.old) raised.old }
     ensures { HasRaised L.GREATEST ahead.now.routes ahead.now.next.now (IsPosition position) end
         (rows_of ahead.now.routes (L.heads lanes.old) (L.ends lanes.old))
@@ -119,13 +119,13 @@ fn raise_from<L: StateLanes>(
         (raises_in L.value raises.old) (raises_in L.value raises.new) raised.new }
 {
     set_end_at(lanes, &ahead.routes, ahead.next, position, end);
-    raise_route(lanes, raises, raised, &ahead.routes, position, end);
+    raise_route::<L, FEW>(lanes, raises, raised, &ahead.routes, position, end);
 }
 
 /// Raises to `end` each head below `end` at the marked positions, where operations wait. Also raises every later head
 /// on their routes that is too early then, so that a marked head may have risen before its turn comes.
 #[inline(always)]
-fn raise_marked<L: StateLanes>(
+fn raise_marked<L: StateLanes, const FEW: bool>(
     lanes: &mut L,
     raises: &mut [LaneRaise<L::Number>],
     raised: &mut MachineSet,
@@ -136,7 +136,7 @@ fn raise_marked<L: StateLanes>(
     requires marks { AreWaiting (L.heads lanes.old) marks }
     requires can { CanRaise L.GREATEST ahead.now.routes ahead.now.next.now (IsIn marks) end
         (rows_of ahead.now.routes (L.heads lanes.old) (L.ends lanes.old)) (length raises.old) }
-    requires machines_fit { 0 < L.EACH → length raises.old ≤ 64 }
+    requires machines_fit { IsTrue FEW → length raises.old ≤ 64 }
     requires listed { AreListed (raises_in L.value raises.old) raised.old }
     ensures { HasRaised L.GREATEST ahead.now.routes ahead.now.next.now (IsIn marks) end
         (rows_of ahead.now.routes (L.heads lanes.old) (L.ends lanes.old))
@@ -146,7 +146,7 @@ fn raise_marked<L: StateLanes>(
     let mut todo = marks;
     while let Some(position) = todo.pop_first() {
         if lanes.head(position) < end {
-            raise_from(lanes, raises, raised, ahead, position, end);
+            raise_from::<L, FEW>(lanes, raises, raised, ahead, position, end);
         }
     }
 }
@@ -156,7 +156,7 @@ fn raise_marked<L: StateLanes>(
 /// that the dispatch delays; its own operation waits no longer. Eight blocks are marked and raised after another; lanes
 /// for two or three blocks a machine need one turn, which the compiler sees.
 #[inline(always)]
-pub(crate) fn raise<L: StateLanes>(
+pub(crate) fn raise<L: StateLanes, const FEW: bool>(
     lanes: &mut L,
     raises: &mut [LaneRaise<L::Number>],
     raised: &mut MachineSet,
@@ -170,7 +170,7 @@ pub(crate) fn raise<L: StateLanes>(
     requires can { CanRaise L.GREATEST grid.now next.now
         (IsOnMachine grid.now dispatch.machine) dispatch.end
         (rows_of grid.now (L.heads lanes.old) (L.ends lanes.old)) (length raises.old) }
-    requires machines_fit { 0 < L.EACH → length raises.old ≤ 64 }
+    requires machines_fit { IsTrue FEW → length raises.old ≤ 64 }
     requires listed { AreListed (raises_in L.value raises.old) raised.old }
     ensures { HasRaised L.GREATEST grid.now next.now
         (IsOnMachine grid.now dispatch.machine) dispatch.end
@@ -185,7 +185,7 @@ pub(crate) fn raise<L: StateLanes>(
     let mut from = first;
     let mut marks = dispatch.delayed;
     loop {
-        raise_marked(lanes, raises, raised, &ahead, marks, end);
+        raise_marked::<L, FEW>(lanes, raises, raised, &ahead, marks, end);
         from += (behind - from).min(MOST_MARKED);
         if from == behind {
             return;

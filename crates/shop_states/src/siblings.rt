@@ -128,7 +128,7 @@ fn latest_of<L: StateLanes>(
 /// Raises the heads behind the operation at `position` on its route, as far as they are too early if the operation
 /// begins at `free`. Notes how far these heads rose. The operation's own head stays.
 #[inline(always)]
-fn raise_behind<L: StateLanes>(
+fn raise_behind<L: StateLanes, const FEW: bool>(
     lanes: &mut L,
     raises: &mut [LaneRaise<L::Number>],
     raised: &mut MachineSet,
@@ -140,7 +140,7 @@ fn raise_behind<L: StateLanes>(
     requires can { CanRaiseBehind L.GREATEST routes.now
         (rows_of routes.now (L.heads lanes.old) (L.ends lanes.old)) (IsEndAt position free) }
     requires known { AreKnown routes.now.machines (length raises.old) }
-    requires machines_fit { 0 < L.EACH → length raises.old ≤ 64 }
+    requires machines_fit { IsTrue FEW → length raises.old ≤ 64 }
     requires listed { AreListed (raises_in L.value raises.old) raised.old }
     ensures raises { RaisesBehind routes.now (IsEndAt position free)
         (rows_of routes.now (L.heads lanes.old) (L.ends lanes.old))
@@ -157,8 +157,8 @@ fn raise_behind<L: StateLanes>(
     if ready <= head {
         return;
     }
-    see::<L>(raises, raised, leg.machine, head, ready);
-    raise_route(lanes, raises, raised, routes, first, ready);
+    see::<L, FEW>(raises, raised, leg.machine, head, ready);
+    raise_route::<L, FEW>(lanes, raises, raised, routes, first, ready);
 }
 
 /// Tells whether an operation with this head waits and can begin before `end`.
@@ -196,7 +196,7 @@ pub(crate) struct LateMachine {
 /// Raises the heads behind each operation that waits on a late machine, as if the operation began at the latest time
 /// until which candidates can delay it, see `free_at`. Notes how far heads rose. No head of a child is then higher,
 /// except on that machine, where heads stay.
-pub(crate) fn raise_late<L: StateLanes>(
+pub(crate) fn raise_late<L: StateLanes, const FEW: bool>(
     lanes: &mut L,
     raises: &mut [LaneRaise<L::Number>],
     raised: &mut MachineSet,
@@ -209,7 +209,7 @@ pub(crate) fn raise_late<L: StateLanes>(
     requires can { CanRaiseBehind L.GREATEST routes.now
         (rows_of routes.now (L.heads lanes.old) (L.ends lanes.old)) (IsLateOn late) }
     requires known { AreKnown routes.now.machines (length raises.old) }
-    requires machines_fit { 0 < L.EACH → length raises.old ≤ 64 }
+    requires machines_fit { IsTrue FEW → length raises.old ≤ 64 }
     requires listed { AreListed (raises_in L.value raises.old) raised.old }
     ensures raises { RaisesBehind routes.now (IsLateOn late)
         (rows_of routes.now (L.heads lanes.old) (L.ends lanes.old))
@@ -222,7 +222,7 @@ pub(crate) fn raise_late<L: StateLanes>(
     for position in late.from..late.to {
         if is_delayed(lanes.head(position), late.latest.end) {
             let free = free_at(position, late.last, late.latest);
-            raise_behind(lanes, raises, raised, routes, position, free);
+            raise_behind::<L, FEW>(lanes, raises, raised, routes, position, free);
         }
     }
 }
