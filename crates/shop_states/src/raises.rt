@@ -7,7 +7,7 @@ ghost use Rattle.shop_states.specs.inner.RaiseCalls.{CanRaise, HasRaised};
 ghost use Rattle.shop_states.specs.inner.Raises.{AreWaiting, HasBlocks, IsPosition, IsRaisable};
 ghost use Rattle.shop_states.specs.inner.Raises.{IsOnMachine, Raises, SetsEndAt};
 ghost use Rattle.shop_states.specs.inner.RisingLists.{IsIn};
-ghost use Rattle.shop_states.specs.inner.Watchers.{AreKnown, Notes, Sees};
+ghost use Rattle.shop_states.specs.inner.Watchers.{AreKnown, Notes, Sees, Watches, no_floor};
 ghost use Rattle.shop_states.specs.inner.MachineRaises.{AreListed};
 
 use crate::dispatches::{Dispatch, MOST_MARKED};
@@ -15,6 +15,7 @@ use crate::head_raises::{LaneRaise, see};
 use crate::machine_sets::MachineSet;
 use shop_lanes::{Marks, StateLanes};
 use shop_layout::{Grid, Routes};
+use std::mem;
 
 /// The routes of an instance, and at which position each job's next operation stands after a word.
 #[derive(Drop)]
@@ -151,12 +152,11 @@ fn raise_marked<L: StateLanes, const FEW: bool>(
     }
 }
 
-/// Raises each head below the end of a dispatch on its machine to that end, then every later head on its route that is
-/// now too early. Notes how far these later heads rose, and updates the ends of next operations. The heads are those
-/// that the dispatch delays; its own operation waits no longer. Eight blocks are marked and raised after another; lanes
-/// for two or three blocks a machine need one turn, which the compiler sees.
-#[inline(always)]
-pub(crate) fn raise<L: StateLanes, const FEW: bool>(
+/// Does what `raise` does, in lanes for any number of blocks a machine: raises what is marked in the first eight
+/// blocks, then marks and raises eight blocks after another. Stays out of line, so that the code inlined for short
+/// machines stays small.
+#[inline(never)]
+fn raise_longer<L: StateLanes, const FEW: bool>(
     lanes: &mut L,
     raises: &mut [LaneRaise<L::Number>],
     raised: &mut MachineSet,
@@ -180,16 +180,55 @@ pub(crate) fn raise<L: StateLanes, const FEW: bool>(
 {
     let routes = grid.routes();
     let ahead = OpenRoutes { routes, next };
+    let behind = grid.block(dispatch.machine + 1);
     let end = dispatch.end;
-    let (first, behind) = grid.blocks_of(grid.fixed_blocks_each(), dispatch.machine);
-    let mut from = first;
+    let mut from = grid.block(dispatch.machine);
     let mut marks = dispatch.delayed;
+    // taken out, so that the set stays in registers
+    let mut machines = mem::replace(raised, MachineSet::none());
     loop {
-        raise_marked::<L, FEW>(lanes, raises, raised, &ahead, marks, end);
+        raise_marked::<L, FEW>(lanes, raises, &mut machines, &ahead, marks, end);
         from += (behind - from).min(MOST_MARKED);
         if from == behind {
-            return;
+            break;
         }
         marks = lanes.below(from, from + (behind - from).min(MOST_MARKED), end);
     }
+    *raised = machines;
+}
+
+/// Raises each head below the end of a dispatch on its machine to that end, then every later head on its route that is
+/// now too early. Notes how far these later heads rose, and updates the ends of next operations. The heads are those
+/// that the dispatch delays; its own operation waits no longer.
+#[inline(always)]
+pub(crate) fn raise<L: StateLanes, const FEW: bool>(
+    lanes: &mut L,
+    raises: &mut [LaneRaise<L::Number>],
+    raised: &mut MachineSet,
+    grid: &Grid<L>,
+    next: &[u32],
+    dispatch: Dispatch,
+)
+    requires machine { HasBlocks grid.now (length (L.heads lanes.old)) dispatch.machine }
+    requires delayed { AreDelayedOn grid.now dispatch.machine dispatch.end (L.heads lanes.old)
+        dispatch.delayed }
+    requires can { CanRaise L.GREATEST grid.now next.now
+        (IsOnMachine grid.now dispatch.machine) dispatch.end
+        (rows_of grid.now (L.heads lanes.old) (L.ends lanes.old)) (length raises.old) }
+    requires machines_fit { IsTrue FEW → length raises.old ≤ 64 }
+    requires listed { AreListed (raises_in L.value raises.old) raised.old }
+    ensures { HasRaised L.GREATEST grid.now next.now
+        (IsOnMachine grid.now dispatch.machine) dispatch.end
+        (rows_of grid.now (L.heads lanes.old) (L.ends lanes.old))
+        (rows_of grid.now (L.heads lanes.new) (L.ends lanes.new))
+        (raises_in L.value raises.old) (raises_in L.value raises.new) raised.new }
+{
+    let each = grid.fixed_blocks_each();
+    if each == 0 || each > 3 {
+        return raise_longer::<L, FEW>(lanes, raises, raised, grid, next, dispatch);
+    }
+    let routes = grid.routes();
+    let ahead = OpenRoutes { routes, next };
+    let (marks, end) = (dispatch.delayed, dispatch.end);
+    raise_marked::<L, FEW>(lanes, raises, raised, &ahead, marks, end);
 }

@@ -4,7 +4,7 @@ use Rattle.shop_layout.specs.Lanes.{rows_of}
 use Rattle.shop_states.specs.inner.HeadRaises.{raises_in}
 use Rattle.shop_states.specs.inner.MachineRaises.{AreListed}
 use Rattle.shop_states.proofs.MarkedRaises.{AreRaisedUpTo}
-use Rattle.shop_states.proofs.raises.raise.Given as goal
+use Rattle.shop_states.proofs.raises.raise_longer.Given as goal
 
 abbrev pub invariant-loop-from : goal.invariant-loop-from
 invariant-loop-from g l = record {
@@ -15,7 +15,7 @@ invariant-loop-from g l = record {
       (raises_in g.L.StateLanes.value l.fn.raises) (raises_in g.L.StateLanes.value l.raises);
   marked : l.marks ≡ positions_among (g.L.StateLanes.heads l.lanes) l.from
       (min (l.from + 8) (get_or l.grid.blocks (l.fn.dispatch.machine + 1) 0)) l.fn.dispatch.end;
-  listed : AreListed (raises_in g.L.StateLanes.value l.raises) l.raised;
+  listed : AreListed (raises_in g.L.StateLanes.value l.raises) l.machines;
 }
 
 abbrev pub decreases-loop-from : goal.decreases-loop-from
