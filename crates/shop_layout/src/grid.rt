@@ -161,7 +161,8 @@ impl<L: StateLanes> Grid<L> {
     /// The number of blocks of each machine for which the lanes have code of their own, or 0 if they have it for none.
     #[inline(always)]
     pub fn fixed_blocks_each(&self) -> usize
-        ensures { AreEven self.now.blocks result }
+        ensures is { result ≡ L.EACH }
+        ensures even { AreEven self.now.blocks result }
     {
         // its invariant: the lanes fit the blocks
         let _ = &self.positions;

@@ -97,11 +97,7 @@ impl<L: StateLanes> MachineRaises<L> {
     {
         let mut raised = MachineSet::none();
         let raises = self.raises.as_mut_slice();
-        if L::EACH > 0 || raises.len() <= 64 {
-            raise::<L, true>(lanes, raises, &mut raised, grid, next, dispatch);
-            return raised;
-        }
-        raise::<L, false>(lanes, raises, &mut raised, grid, next, dispatch);
+        raise(lanes, raises, &mut raised, grid, next, dispatch);
         raised
     }
 

@@ -152,9 +152,9 @@ fn raise_marked<L: StateLanes, const FEW: bool>(
     }
 }
 
-/// Does what `raise` does, in lanes for any number of blocks a machine: raises what is marked in the first eight
-/// blocks, then marks and raises eight blocks after another. Stays out of line, so that the code inlined for short
-/// machines stays small.
+/// Does what `raise` does, for machines of any number of blocks: raises what is marked in the first eight blocks, then
+/// marks and raises eight blocks after another. Stays out of line, so that the code inlined for short machines stays
+/// small.
 #[inline(never)]
 fn raise_longer<L: StateLanes, const FEW: bool>(
     lanes: &mut L,
@@ -201,7 +201,7 @@ fn raise_longer<L: StateLanes, const FEW: bool>(
 /// now too early. Notes how far these later heads rose, and updates the ends of next operations. The heads are those
 /// that the dispatch delays; its own operation waits no longer.
 #[inline(always)]
-pub(crate) fn raise<L: StateLanes, const FEW: bool>(
+pub(crate) fn raise<L: StateLanes>(
     lanes: &mut L,
     raises: &mut [LaneRaise<L::Number>],
     raised: &mut MachineSet,
@@ -215,7 +215,7 @@ pub(crate) fn raise<L: StateLanes, const FEW: bool>(
     requires can { CanRaise L.GREATEST grid.now next.now
         (IsOnMachine grid.now dispatch.machine) dispatch.end
         (rows_of grid.now (L.heads lanes.old) (L.ends lanes.old)) (length raises.old) }
-    requires machines_fit { IsTrue FEW → length raises.old ≤ 64 }
+    requires machines_fit { 0 < L.EACH → length raises.old ≤ 64 }
     requires listed { AreListed (raises_in L.value raises.old) raised.old }
     ensures { HasRaised L.GREATEST grid.now next.now
         (IsOnMachine grid.now dispatch.machine) dispatch.end
@@ -225,10 +225,13 @@ pub(crate) fn raise<L: StateLanes, const FEW: bool>(
 {
     let each = grid.fixed_blocks_each();
     if each == 0 || each > 3 {
-        return raise_longer::<L, FEW>(lanes, raises, raised, grid, next, dispatch);
+        if raises.len() <= 64 {
+            return raise_longer::<L, true>(lanes, raises, raised, grid, next, dispatch);
+        }
+        return raise_longer::<L, false>(lanes, raises, raised, grid, next, dispatch);
     }
     let routes = grid.routes();
     let ahead = OpenRoutes { routes, next };
     let (marks, end) = (dispatch.delayed, dispatch.end);
-    raise_marked::<L, FEW>(lanes, raises, raised, &ahead, marks, end);
+    raise_marked::<L, true>(lanes, raises, raised, &ahead, marks, end);
 }

@@ -24,7 +24,7 @@ raise_marked-requires-clause-can g c =
     in let rows = rows_of l (g.L.StateLanes.heads c.args.lanes.now) (g.L.StateLanes.ends c.args.lanes.now)
     in let ordered = c.requires.machine.ordered in let within = c.requires.machine.within
     in let few = c.if-each-gt3.false
-    in let all = all_marked l m c.fixed_blocks_each-each.result c.fixed_blocks_each-each.ensures
+    in let all = all_marked l m c.fixed_blocks_each-each.result c.fixed_blocks_each-each.ensures.even
     (let some = c.if-each-eq0.false in omega arith) (omega arith) c.requires.machine.known
     in let can = subst (λ (b : ℕ). CanRaise g.L.StateLanes.GREATEST l c.args.next.now
     (IsInBlocks (get_or l.blocks m 0) b) c.args.dispatch.end rows (length c.args.raises.now)) all c.requires.can
@@ -45,7 +45,7 @@ returns g c =
     in let after = raises_in g.L.StateLanes.value c.raise_marked.new.raises
     in let ordered = c.requires.machine.ordered in let within = c.requires.machine.within
     in let few = c.if-each-gt3.false
-    in let all = all_marked l m c.fixed_blocks_each-each.result c.fixed_blocks_each-each.ensures
+    in let all = all_marked l m c.fixed_blocks_each-each.result c.fixed_blocks_each-each.ensures.even
     (let some = c.if-each-eq0.false in omega arith) (omega arith) c.requires.machine.known
     in let raised = subst (λ (r : LayoutState). HasRaised g.L.StateLanes.GREATEST r c.args.next.now
     (IsIn c.args.dispatch.delayed) c.args.dispatch.end
