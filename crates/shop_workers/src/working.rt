@@ -5,7 +5,7 @@ ghost use Rattle.shop_runs.specs.Hits.{hits_of_round};
 ghost use Rattle.shop_workers.specs.Views.{has, HasServed};
 ghost use Rattle.shop_workers.specs.Seats.{knows, hits_of, IsSeatOf};
 ghost use Rattle.shop_workers.specs.Works.{Grows, IsKnown, IsAllKnown, BringsWon};
-ghost use Rattle.shop_workers.specs.inner.Turns.{IsServedEntry, BringsTurn};
+ghost use Rattle.shop_workers.specs.inner.Turns.{IsServedEntry, TakesTurn};
 
 use crate::boards::{Board, Seat};
 use crate::gates::SeatGate;
@@ -31,8 +31,8 @@ fn claim_and_search<'r, P: PieceSearch<'r>, G: SeatGate>(
     ensures grows { Grows (knows seat.old) (knows seat.new) }
     ensures round { P.searched searcher.new ≡ P.searched searcher.old }
     ensures claimed { IsKnown (knows seat.new) number }
-    ensures entry { BringsTurn (told (P.searched searcher.old)) number (knows seat.old)
-        (knows seat.new) result }
+    ensures entry { IfOk result (TakesTurn (told (P.searched searcher.old)) number (knows seat.old)
+        (knows seat.new)) }
 {
     let low = board.look(seat);
     if !board.claim(seat, number) {
