@@ -2,9 +2,8 @@
 --     newcomer hits          the first seat has won, seen and marked nothing
 --     empty_handed v         the second of two seats has seen as much, and won nothing
 --     joined v w             one seat for two
---     HasWon n v w           the piece joins those that the seat won, and wasn't among them
 --     with_seen v n          the piece joins those that the seat knows to be claimed
---     IsTold won n v w       a claim of the piece was won, or lost
+--     IsTold won n v w       a claim of the piece, which the seat hadn't won before, was won, or it was lost
 --     with_low v n           n is the least number read or marked
 --     IsAtMostMarked v n     n is at most each number that the seat marked
 --     with_done v n low      the piece joins those that the seat marked
@@ -18,14 +17,11 @@ newcomer hits = record { live = true; hits = hits; mine = []; seen = []; done = 
 abbrev pub with_mine : View → ℕ → View
 with_mine v n = record v { mine = n ∷ v.mine }
 
-abbrev pub HasWon : ℕ → View → View → Type 0
-HasWon n v w = (w ≡ with_mine v n) × (has v.mine n ≡ false)
-
 abbrev pub with_seen : View → ℕ → View
 with_seen v n = record v { seen = n ∷ v.seen }
 
 abbrev pub IsTold : Bool → ℕ → View → View → Type 0
-IsTold won n v w = MatchBool won (HasWon n v w) (w ≡ with_seen v n)
+IsTold won n v w = MatchBool won ((w ≡ with_mine v n) × (has v.mine n ≡ false)) (w ≡ with_seen v n)
 
 abbrev pub with_low : View → ℕ → View
 with_low v n = record v { low = n }
