@@ -103,7 +103,8 @@ pub fn gather<'r>(
     requires { OneForEach (told round.now) entries.items }
     ensures gathered { IfOk result (λ s. StandsAt round.now.instance.now (gathered (told round.now)) s) }
     ensures standing { IfOk result (λ s. IsStandingOf round.now.instance.now s) }
-    ensures covers { IfOk result (λ s. CoversInRound (told round.now) → StandsCovering round.now.instance.now (stands s)) }
+    ensures covers { IfOk result (λ s. CoversInRound (told round.now)
+        → StandsCovering round.now.instance.now (stands s)) }
 {
     let RoundResult {
         found,
