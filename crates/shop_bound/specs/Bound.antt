@@ -1,11 +1,9 @@
 -- Heads and tails of the operations that a word leaves, and the lower bound of a word.
 use Rattle.std.specs.Prelude.{ℕ, ◌+◌, max, List, [], ◌∷◌, length, drop, map, filter, sum_by, flat_map, ◌==◌}
 use Rattle.std.specs.List.{range_with_len}
-use Rattle.shop_model.specs.Shop.{Shop, route_of, finish_of, greatest_below}
-use Rattle.shop_model.specs.declared.ops.Op.{Op}
+use Rattle.shop_model.specs.{Shop.{Shop, route_of, finish_of, greatest_below}, declared.ops.Op.Op}
 use Rattle.shop_model.specs.Word.{Placing, placing}
-use Rattle.shop_bound.specs.declared.triples.Triple.{Triple}
-use Rattle.shop_bound.specs.OneMachine.{one}
+use Rattle.shop_bound.specs.{declared.triples.Triple.Triple, OneMachine.one}
 
 -- an operation that isn't in the word: its job and step, its machine, and its head, time and tail
 pub record Waiting : Type 0 where

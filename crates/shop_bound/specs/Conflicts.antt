@@ -1,17 +1,9 @@
 -- The conflict set (Giffler and Thompson 1960).
---     open_jobs shop p                   the jobs with steps left, in order
---     next_machine, next_head, next_end  of the next operation of a job
---     chosen_of shop p j js              of j and these jobs, the one whose next operation can end
---                                        first
---     conflicts_with shop p c j          whether job j's next operation is in conflict with that of
---                                        job c
---     conflict shop w                    the conflict set of a word
---     SoleCandidateKeepsBound shop w     where the conflict set is one job, its next operation
---                                        leaves the bound as it is
+--     conflict shop w                 the conflict set of a word
+--     SoleCandidateKeepsBound shop w  where the conflict set is one job, its next operation leaves the bound as it is
 use Rattle.std.specs.Prelude.{◌≡◌, ℕ, ◌+◌, max, Bool, ◌&&◌, ◌||◌, List, [], ◌∷◌, ◌++◌, length, filter, ◌==◌, nat_lt}
 use Rattle.std.specs.List.{range_with_len, best_of}
-use Rattle.shop_model.specs.Shop.{Shop, route_of, machine_of, time_of}
-use Rattle.shop_model.specs.Word.{Placing, placing}
+use Rattle.shop_model.specs.{Shop.{Shop, route_of, machine_of, time_of}, Word.{Placing, placing}}
 use Rattle.shop_bound.specs.Bound.{lb}
 
 -- the jobs with steps left, in order

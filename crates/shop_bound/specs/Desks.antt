@@ -4,11 +4,8 @@
 --     IsUndone s t                   t is s without its last entry
 --     IsWordOfShop s                 the word is one of the instance, which is within its limits
 use Rattle.std.specs.Prelude.{◌≡◌, ℕ, List, [], ◌∷◌, ◌++◌}
-use Rattle.shop_model.specs.Limits.{IsWithinLimits}
-use Rattle.shop_model.specs.Shop.{Shop}
-use Rattle.shop_model.specs.Word.{IsWord}
+use Rattle.shop_model.specs.{Limits.IsWithinLimits, Shop.Shop, Word.IsWord}
 
--- what is dispatched, of which instance
 pub record DeskState : Type 0 where
   pub shop : Shop
   pub word : List ℕ
@@ -20,8 +17,7 @@ abbrev pub with_dispatch : DeskState → ℕ → DeskState
 with_dispatch s job = record { shop = s.shop; word = s.word ++ job ∷ [] }
 
 abbrev pub IsUndone : DeskState → DeskState → Type 0
-IsUndone s t = (word : List ℕ) (job : ℕ) → s.word ≡ word ++ job ∷ []
-    → t ≡ record { shop = s.shop; word = word }
+IsUndone s t = (word : List ℕ) (job : ℕ) → s.word ≡ word ++ job ∷ [] → t ≡ record { shop = s.shop; word = word }
 
 pub record IsWordOfShop (s : DeskState) : Type 0 where
   pub word : IsWord s.shop s.word

@@ -1,25 +1,19 @@
 -- Heads and tails of the operations that are not placed (longest paths in the disjunctive model).
---     head_of shop p j k             when (j, k) could begin at the earliest
---     tail_of shop j k               what must follow (j, k) in its route
---     head_if_left shop p j k        the head, if (j, k) is an operation that isn't placed
---     WaitingIsWhatIsLeft            the operations that wait are those that aren't placed, with
---                                    these heads and tails
+--     tail_of shop j k         what must follow (j, k) in its route
+--     WaitingIsWhatIsLeft      the operations that wait are those that aren't placed, with these heads and tails
 use Rattle.std.specs.Prelude.{◌≡◌, ℕ, zero, suc, ◌+◌, ◌-◌, ◌^◌, ◌<◌, max, ◌&&◌, nat_le, nat_lt, if◌then◌else◌, Option}
 use Rattle.std.specs.Prelude.{Some, None, [], slice_index_or, length, drop, map, sum_by, flat_map, List}
 use Rattle.std.specs.List.{range_with_len}
-use Rattle.shop_model.specs.declared.ops.Op.{Op}
-use Rattle.shop_model.specs.Shop.{Shop, route_of, machine_of, time_of}
+use Rattle.shop_model.specs.{declared.ops.Op.Op, Shop.{Shop, route_of, machine_of, time_of}}
 use Rattle.shop_model.specs.Word.{Placing, placing, rows_of}
 use Rattle.shop_bound.specs.Bound.{Waiting, waiting}
 
--- When job j is ready for the n-th, from 0 on, of its steps that aren't placed: at the placed end
--- of the step before it (the release if no step is placed), or else at the head of the step before
--- it and that step's time.
+-- When job j is ready for the n-th, from 0 on, of its steps that aren't placed: at the placed end of the step before it
+-- (the release if no step is placed), or else at the head of the step before it and that step's time.
 abbrev pub ready_after : Shop → Placing → ℕ → ℕ → ℕ
 ready_after shop p j zero = p.ready j
 ready_after shop p j (suc n) =
-    max (ready_after shop p j n) (p.free (machine_of shop j (p.steps j + n)))
-    + time_of shop j (p.steps j + n)
+    max (ready_after shop p j n) (p.free (machine_of shop j (p.steps j + n))) + time_of shop j (p.steps j + n)
 
 -- The head of step k of job j, which isn't placed: the greater of when the job is ready for it and
 -- of the last placed end on its machine.
@@ -43,8 +37,7 @@ AreTails shop rows = rows ≡ rows_of shop (tail_of shop)
 -- the head of an operation that isn't placed; none for one that is, and where there is no operation
 abbrev pub head_if_left : Shop → Placing → ℕ → ℕ → Option ℕ
 head_if_left shop p j k =
-    if nat_le (p.steps j) k && nat_lt k (length (route_of shop j))
-    then Some (head_of shop p j k) else None
+    if nat_le (p.steps j) k && nat_lt k (length (route_of shop j)) then Some (head_of shop p j k) else None
 
 -- (j, k) as an operation that waits
 abbrev pub waiting_at : Shop → Placing → ℕ → ℕ → Waiting

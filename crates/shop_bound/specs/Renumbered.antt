@@ -1,15 +1,12 @@
 -- Instances that differ in the numbers of their machines alone.
---     IsRenumbered shop other        as many jobs, of the same releases, steps and times, and two
---                                    operations share a machine in one of them just if they do in the
---                                    other
---     AreAlike shop other            the same words, with the same bounds and conflict sets
---     NumbersDontMatter              such instances are alike
+--     IsRenumbered shop other  as many jobs, of the same releases, steps and times, and two operations share a machine
+--                              in one of them just if they do in the other
+--     AreAlike shop other      the same words, with the same bounds and conflict sets
+--     NumbersDontMatter        such instances are alike
 use Rattle.std.specs.Prelude.{◌≡◌, ◌↔◌, ℕ, List, length}
-use Rattle.shop_model.specs.Limits.{IsWithinLimits}
-use Rattle.shop_model.specs.Shop.{Shop, IsOperation, machine_of, release_of, route_of, time_of}
+use Rattle.shop_model.specs.{Limits.IsWithinLimits, Shop.{Shop, IsOperation, machine_of, release_of, route_of, time_of}}
 use Rattle.shop_model.specs.Word.{IsWord}
-use Rattle.shop_bound.specs.Bound.{lb}
-use Rattle.shop_bound.specs.Conflicts.{conflict}
+use Rattle.shop_bound.specs.{Bound.lb, Conflicts.conflict}
 
 pub record IsRenumbered (shop other : Shop) : Type 0 where
   pub jobs : length other.jobs ≡ length shop.jobs

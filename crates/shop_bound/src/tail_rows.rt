@@ -1,7 +1,7 @@
 // Tails: the total time of the operations behind an operation on its route.
-ghost use Rattle.std.specs.Prelude.{◌≡◌, IfOk, map, sum_by};
-ghost use Rattle.shop_bound.specs.Heads.{AreTails, AreTimesSmall};
-ghost use Rattle.shop_bound.specs.inner.HeadRows.{tails_in};
+ghost use Rattle.std.specs.Prelude.{◌≡◌, IfOk, length, map, sum_by};
+ghost use Rattle.std.specs.List.{range_with_len};
+ghost use Rattle.shop_bound.specs.Heads.{tail_in, AreTails, AreTimesSmall};
 
 use shop_model::{Instance, Op};
 use std::alloc::{AllocError as NoMemory, Global};
@@ -21,7 +21,7 @@ pub fn total_time(route: &[Op]) -> u64
 /// Computes the tail of each operation of `route`, in order. Fails with `NoMemory` if memory runs out.
 fn tails_of_route(alloc: Global, route: &[Op]) -> Result<Vec<u64>, NoMemory>
     requires { AreTimesSmall route.now }
-    ensures { IfOk result (λ v. v.items ≡ tails_in route.now) }
+    ensures { IfOk result (λ v. v.items ≡ map (tail_in route.now) (range_with_len 0 (length route.now))) }
 {
     let mut tails = Vec::with_capacity(alloc, route.len())?;
     let mut tail = total_time(route);

@@ -1,10 +1,8 @@
 -- The report of a plan's answer.
 use Rattle.std.specs.Prelude.{length}
 use Rattle.shop_model.specs.Word.{placed, rows_of}
-use Rattle.shop_text.specs.Texts.{NamedShop}
-use Rattle.shop_text.specs.Writing.{Reported}
-use Rattle.shop_runs.specs.Round.{Planned, makespan_of}
-use Rattle.shop_runs.specs.Answers.{answer, bound_of}
+use Rattle.shop_text.specs.{Texts.NamedShop, Writing.Reported}
+use Rattle.shop_runs.specs.{Round.{Planned, makespan_of}, Answers.{answer, bound_of}}
 
 -- the answer of the plan on the instance, whatever crew searches: the table of its best word
 abbrev pub answer_of : NamedShop → Planned → Reported

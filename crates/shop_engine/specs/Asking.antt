@@ -1,16 +1,8 @@
 -- The instance that is asked for in a text.
---     IsAsked format name text asked       the instance that is asked for stands in the text
---     OfAsked format name text Says        and this holds of it
---     IsAskFault format name text fault    why there is none
-use Rattle.std.specs.Prelude.{◌≡◌, ℕ, ◌⊎◌, List, Option, Some, None, string_bytes}
-use Rattle.std.specs.Option.{option_map}
-use Rattle.std.specs.declared.string.String.{String}
-use Rattle.std.specs.declared.alloc.Global.{Global}
-use Rattle.shop_text.specs.Formats.{grammar_of}
-use Rattle.shop_text.specs.Texts.{NamedShop, IsText, IsTextFault}
-use Rattle.shop_text.specs.Names.{first_named}
-use Rattle.shop_text.specs.declared.faults.ReadFault.{ReadFault}
-use Rattle.shop_text.specs.declared.faults.ReadFault.TheVariants.{NoSuchName}
+use Rattle.std.specs.{Prelude.{◌≡◌, ℕ, ◌⊎◌, List, Option, Some, None, string_bytes}, Option.option_map}
+use Rattle.std.specs.{declared.string.String.String, declared.alloc.Global.Global}
+use Rattle.shop_text.specs.{Formats.grammar_of, Texts.{NamedShop, IsText, IsTextFault}, Names.first_named}
+use Rattle.shop_text.specs.{declared.faults.ReadFault.ReadFault, declared.faults.ReadFault.TheVariants.NoSuchName}
 use Rattle.shop_text.specs.declared.formats.Format.{Format}
 
 -- the bytes of a name, if one is given

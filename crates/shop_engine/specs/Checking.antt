@@ -1,21 +1,13 @@
 -- What `check_bytes` and `check_text` do.
-use Rattle.std.specs.Prelude.{◌≡◌, ℕ, ◌⊎◌, ◌↔◌, Bool, IsTrue, List, Option, Some, None, Result, Ok}
-use Rattle.std.specs.Prelude.{Err}
-use Rattle.shop_model.specs.Shop.{Shop, IsFeasible}
-use Rattle.shop_model.specs.Checking.{HasShape, starts_of, IsVerdict}
+use Rattle.std.specs.Prelude.{◌≡◌, ℕ, ◌⊎◌, ◌↔◌, Bool, IsTrue, List, Option, Some, None, Result, Ok, Err}
+use Rattle.shop_model.specs.{Shop.{Shop, IsFeasible}, Checking.{HasShape, starts_of, IsVerdict}}
 use Rattle.shop_model.specs.declared.checking.Verdict.{Verdict}
-use Rattle.shop_text.specs.Texts.{NamedShop}
-use Rattle.shop_text.specs.Schedules.{IsTableRead, IsTableFault}
-use Rattle.shop_text.specs.Writing.{verdict_text}
-use Rattle.shop_text.specs.declared.faults.ReadFault.{ReadFault}
-use Rattle.shop_text.specs.declared.formats.Format.{Format}
-use Rattle.shop_engine.specs.declared.args.CheckArgs.{CheckArgs}
-use Rattle.shop_engine.specs.declared.faults.Fault.{Fault}
+use Rattle.shop_text.specs.{Texts.NamedShop, Schedules.{IsTableRead, IsTableFault}, Writing.verdict_text}
+use Rattle.shop_text.specs.{declared.faults.ReadFault.ReadFault, declared.formats.Format.Format}
+use Rattle.shop_engine.specs.{declared.args.CheckArgs.CheckArgs, declared.faults.Fault.Fault}
 use Rattle.shop_engine.specs.declared.faults.Fault.TheVariants.{NoMemory, WriteFailed}
-use Rattle.shop_engine.specs.Devices.{Device, IsReadToEnd, IsUnread, IsSourceRefused, IsWritten}
-use Rattle.shop_engine.specs.Devices.{IsCutOff}
-use Rattle.shop_engine.specs.Faults.{fault_of}
-use Rattle.shop_engine.specs.Asking.{name_in, IsAsked, OfAsked, IsAskFault}
+use Rattle.shop_engine.specs.Devices.{Device, IsReadToEnd, IsUnread, IsSourceRefused, IsWritten, IsCutOff}
+use Rattle.shop_engine.specs.{Faults.fault_of, Asking.{name_in, IsAsked, OfAsked, IsAskFault}}
 
 -- The schedule text has a table, and the line says what a check of it finds.
 pub record IsVerdictOn (shop : Shop) (schedule : List ℕ) (feasible : Bool) (line : List ℕ)

@@ -1,14 +1,9 @@
 -- What is known of devices, and what calls do to them.
-use Rattle.std.specs.Prelude.{◌≡◌, ℕ, ◌+◌, ◌≤◌, ◌<◌, ◌⊎◌, min, List, ◌++◌, length, Option, Result, Ok}
-use Rattle.std.specs.Prelude.{Err, Some, MatchResult}
-use Rattle.std.specs.Io.KnownBytes.{Consumes, Appends, IsAtEnd}
-use Rattle.shop_text.specs.declared.limits.TheConstants.{MAX_TEXT}
-use Rattle.shop_text.specs.declared.faults.ReadFault.{ReadFault}
-use Rattle.shop_engine.specs.declared.memory.Memory.{Memory}
-use Rattle.shop_engine.specs.declared.faults.Fault.{Fault}
-use Rattle.shop_engine.specs.declared.faults.Fault.TheVariants.{NoMemory, TooLong, ReadFailed}
-use Rattle.shop_engine.specs.declared.faults.Fault.TheVariants.{WriteFailed}
-use Rattle.shop_engine.specs.Faults.{fault_of}
+use Rattle.std.specs.Prelude.{◌≡◌, ℕ, ◌+◌, ◌≤◌, ◌<◌, ◌⊎◌, min, List, ◌++◌, length, Option, Result, Ok, Err, Some}
+use Rattle.std.specs.{Prelude.MatchResult, Io.KnownBytes.{Consumes, Appends, IsAtEnd}}
+use Rattle.shop_text.specs.{declared.limits.TheConstants.MAX_TEXT, declared.faults.ReadFault.ReadFault}
+use Rattle.shop_engine.specs.declared.faults.Fault.TheVariants.{NoMemory, TooLong, ReadFailed, WriteFailed}
+use Rattle.shop_engine.specs.{declared.memory.Memory.Memory, declared.faults.Fault.Fault, Faults.fault_of}
 
 -- What is known of a device: the bytes that a source has left, or that a sink holds, how often it
 -- has failed, and how often a source has told its end. Where nothing is known of the bytes, as of a
@@ -87,12 +82,10 @@ pub record IsCutOff (old new : Device) (text : List ℕ) : Type 0 where
   pub took : Appends old.bytes new.bytes gone
   pub failed : HasFailed old new
 
--- why reading to the end was given up: memory ran out, the source has more than a text may have, or
--- it failed
+-- why reading to the end was given up: memory ran out, the source has more than a text may have, or it failed
 abbrev pub IsUnread : Device → Device → Fault → Type 0
 IsUnread old new fault = ((fault ≡ NoMemory) × HasWorked old new × GoesOn old new)
-    ⊎ ((fault ≡ TooLong) × IsLeftUnread old new)
-    ⊎ ((fault ≡ ReadFailed) × HasReadFailed old new)
+    ⊎ ((fault ≡ TooLong) × IsLeftUnread old new) ⊎ ((fault ≡ ReadFailed) × HasReadFailed old new)
 
 -- why writing was given up
 abbrev pub IsUnwritten : Device → Device → List ℕ → Fault → Type 0

@@ -17,13 +17,10 @@ abbrev pub AskTheSame : Shop → Shop → Type 0
 AskTheSame one other = AsksNoMore one other × AsksNoMore other one
 
 pub record EasierInstancesEndNoLater : Type 0 where
-  pub bounds : (easy hard : Shop) → AsksNoMore easy hard → (b : ℕ)
-      → IsBound easy b → IsBound hard b
-  pub least : (easy hard : Shop) → AsksNoMore easy hard → (c d : ℕ)
-      → IsLeast easy c → IsLeast hard d → c ≤ d
+  pub bounds : (easy hard : Shop) → AsksNoMore easy hard → (b : ℕ) → IsBound easy b → IsBound hard b
+  pub least : (easy hard : Shop) → AsksNoMore easy hard → (c d : ℕ) → IsLeast easy c → IsLeast hard d → c ≤ d
   -- what asks for the same has the same bounds (by `bounds`) and the same least makespan
-  pub same_least : (one other : Shop) → AskTheSame one other → (c : ℕ)
-      → IsLeast one c ↔ IsLeast other c
+  pub same_least : (one other : Shop) → AskTheSame one other → (c : ℕ) → IsLeast one c ↔ IsLeast other c
 
 -- there is a least makespan, and only one
 pub record HasOneLeast (shop : Shop) : Type 0 where

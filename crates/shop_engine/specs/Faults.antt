@@ -1,8 +1,8 @@
 -- The refusals of texts among those of the engines.
-use Rattle.shop_text.specs.declared.faults.ReadFault.{ReadFault}
 use Rattle.shop_text.specs.declared.faults.ReadFault.TheVariants as text
-use Rattle.shop_engine.specs.declared.faults.Fault.{Fault}
 use Rattle.shop_engine.specs.declared.faults.Fault.TheVariants as engine
+use Rattle.shop_text.specs.declared.faults.ReadFault.{ReadFault}
+use Rattle.shop_engine.specs.declared.faults.Fault.{Fault}
 
 -- the refusal of the same name and line
 abbrev pub fault_of : ReadFault → Fault

@@ -1,26 +1,16 @@
--- The headline of `solve`, in two clauses. For every accepted instance text and all arguments, with
--- any crew of workers, however their steps fall:
---     (a) right         what is written is a report on the instance that is asked for; its schedule
---                       is feasible and ends at its makespan, no feasible schedule ends before its
---                       bound, and where its status is optimal none ends before its makespan
---     (b) determined    it is the report of the one answer that the definition of the search
---                       gives, which knows no crew
+-- The headline of `solve`, in two clauses. For every accepted instance text and all arguments, with any crew of
+-- workers, however their steps fall:
+--     (a) right       what is written is a report on the instance that is asked for; its schedule is feasible and ends
+--                     at its makespan, no feasible schedule ends before its bound, and where its status is optimal none
+--                     ends before its makespan
+--     (b) determined  it is the report of the one answer that the definition of the search gives, which knows no crew
 -- Clause (a) rests on definitions of instances, schedules and texts, and on none of the search.
-use Rattle.std.specs.Prelude.{◌≡◌, ℕ, ◌≤◌, ◌<◌, ◌^◌, Bool, List, ◌++◌, Option}
-use Rattle.std.specs.Prelude.{Some, Result, IsOk}
-use Rattle.shop_model.specs.Shop.{Shop, Starts, IsFeasible, end_of}
-use Rattle.shop_model.specs.Limits.{AreStarts}
-use Rattle.shop_model.specs.Checking.{HasShape, starts_of}
-use Rattle.shop_text.specs.Texts.{NamedShop}
-use Rattle.shop_text.specs.Writing.{Reported, text_with_gantt}
-use Rattle.shop_runs.specs.Round.{Planned}
-use Rattle.shop_runs.specs.Runs.{planned}
-use Rattle.shop_text.specs.declared.formats.Format.{Format}
-use Rattle.shop_engine.specs.declared.args.SolveArgs.{SolveArgs}
-use Rattle.shop_engine.specs.declared.faults.Fault.{Fault}
-use Rattle.shop_engine.specs.Asking.{name_in, OfAsked}
-use Rattle.shop_engine.specs.Devices.{Device}
-use Rattle.shop_engine.specs.Answers.{answer_of}
+use Rattle.std.specs.Prelude.{◌≡◌, ℕ, ◌≤◌, ◌<◌, ◌^◌, Bool, List, ◌++◌, Option, Some, Result, IsOk}
+use Rattle.shop_model.specs.{Shop.{Shop, Starts, IsFeasible, end_of}, Limits.AreStarts, Checking.{HasShape, starts_of}}
+use Rattle.shop_text.specs.{Texts.NamedShop, Writing.{Reported, text_with_gantt}, declared.formats.Format.Format}
+use Rattle.shop_runs.specs.{Round.Planned, Runs.planned}
+use Rattle.shop_engine.specs.{declared.args.SolveArgs.SolveArgs, declared.faults.Fault.Fault, Asking.{name_in, OfAsked}}
+use Rattle.shop_engine.specs.{Devices.Device, Answers.answer_of}
 
 -- Its numbers are those that are printed: `decimal` prints each number below this limit in full.
 pub record IsPrintable (r : Reported) : Type 0 where

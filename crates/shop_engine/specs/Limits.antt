@@ -1,18 +1,12 @@
 -- The limits of the code, in numbers, and that accepted texts keep them.
---     AreLimits              of instances, schedules and texts, of plans and rounds, of workers, and of
---                            Gantt texts
---     TextsKeepTheLimits     each instance of a good text is within the limits
-use Rattle.std.specs.Prelude.{◌≡◌, ℕ, List}
-use Rattle.std.specs.List.{AllByRecursion}
+--     AreLimits           of instances, schedules and texts, of plans and rounds, of workers, and of Gantt texts
+--     TextsKeepTheLimits  each instance of a good text is within the limits
+use Rattle.std.specs.{Prelude.{◌≡◌, ℕ, List}, List.AllByRecursion}
 use Rattle.shop_model.specs.Limits.{IsWithinLimits}
-use Rattle.shop_model.specs.declared.limits.TheConstants.{MAX_JOBS, MAX_MACHINES, MAX_STEPS}
-use Rattle.shop_model.specs.declared.limits.TheConstants.{MAX_TIME, MAX_START}
-use Rattle.shop_text.specs.Formats.{grammar_of}
-use Rattle.shop_text.specs.Texts.{NamedShop, IsText}
-use Rattle.shop_text.specs.declared.formats.Format.{Format}
+use Rattle.shop_model.specs.declared.limits.TheConstants.{MAX_JOBS, MAX_MACHINES, MAX_STEPS, MAX_TIME, MAX_START}
+use Rattle.shop_text.specs.{Formats.grammar_of, Texts.{NamedShop, IsText}, declared.formats.Format.Format}
 use Rattle.shop_text.specs.declared.limits.TheConstants.{MAX_COLUMNS, MAX_TEXT}
-use Rattle.shop_runs.specs.declared.plans.TheConstants.{MAX_ROUNDS, MAX_BUDGET, MAX_PIECE}
-use Rattle.shop_runs.specs.declared.plans.TheConstants.{MAX_PIECES, MAX_WORKERS}
+use Rattle.shop_runs.specs.declared.plans.TheConstants.{MAX_ROUNDS, MAX_BUDGET, MAX_PIECE, MAX_PIECES, MAX_WORKERS}
 
 pub record AreLimits : Type 0 where
   pub jobs : MAX_JOBS ≡ 1000

@@ -1,13 +1,9 @@
 -- What `list_bytes` and `list_text` do.
---     IsListOf format text out                               the list of the instances of a text
---     IsListing args source source' sink sink' result        what `list_text` answers
+--     IsListing args source source' sink sink' result  what `list_text` answers
 use Rattle.std.specs.Prelude.{◌≡◌, ℕ, List, Result}
-use Rattle.shop_text.specs.Texts.{NamedShop, IsText, IsTextFault}
-use Rattle.shop_text.specs.Writing.{list_text}
-use Rattle.shop_text.specs.declared.formats.Format.{Format}
-use Rattle.shop_engine.specs.declared.args.ListArgs.{ListArgs}
-use Rattle.shop_engine.specs.declared.faults.Fault.{Fault}
+use Rattle.shop_text.specs.{Texts.{NamedShop, IsText, IsTextFault}, Writing.list_text, declared.formats.Format.Format}
 use Rattle.shop_text.specs.Formats.{grammar_of}
+use Rattle.shop_engine.specs.{declared.args.ListArgs.ListArgs, declared.faults.Fault.Fault}
 use Rattle.shop_engine.specs.Devices.{Device, IsTransfer}
 
 -- the text is good for these instances, and this is their list

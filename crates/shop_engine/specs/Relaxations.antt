@@ -2,8 +2,7 @@
 --     IsRelaxation easy hard       the easy instance asks for a part of what the hard one asks for
 --     RelaxationsAskNoMore         the law
 use Rattle.std.specs.Prelude.{◌≡◌, ℕ, ◌+◌, ◌≤◌, ◌<◌, List, ◌∷◌, ◌++◌}
-use Rattle.shop_model.specs.declared.ops.Op.{Op}
-use Rattle.shop_model.specs.Shop.{Shop, ShopJob, release_of, machine_of, time_of, IsOperation}
+use Rattle.shop_model.specs.{declared.ops.Op.Op, Shop.{Shop, ShopJob, release_of, machine_of, time_of, IsOperation}}
 use Rattle.shop_engine.specs.Easier.{AsksNoMore}
 
 -- Step k of job j stands for step `step j k` of job `job j`: no two for one, and those of a job in
@@ -17,8 +16,7 @@ pub record IsRelaxation (easy hard : Shop) : Type 0 where
       → ((j ≡ i) × (k ≡ l) → ⊥) → (job j ≡ job i) × (step j k ≡ step i l) → ⊥
   pub times : (j k : ℕ) → IsOperation easy j k → time_of easy j k ≤ time_of hard (job j) (step j k)
   pub releases : (j : ℕ) → IsOperation easy j 0 → release_of easy j ≤ release_of hard (job j)
-  pub machines : (j k i l : ℕ) → IsOperation easy j k → IsOperation easy i l
-      → machine_of easy j k ≡ machine_of easy i l
+  pub machines : (j k i l : ℕ) → IsOperation easy j k → IsOperation easy i l → machine_of easy j k ≡ machine_of easy i l
       → machine_of hard (job j) (step j k) ≡ machine_of hard (job i) (step i l)
 
 abbrev pub shop_with : ℕ → List ShopJob → Shop

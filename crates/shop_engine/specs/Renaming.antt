@@ -1,10 +1,8 @@
 -- Instances that differ in the names of machines or in the order of jobs alone.
 --     renamed_machines f shop      machine m under the name f m
 --     RenamingAsksTheSame          the law
-use Rattle.std.specs.Prelude.{◌≡◌, ℕ, List, map}
-use Rattle.std.specs.List.Sorted.{IsPermutation}
-use Rattle.shop_model.specs.declared.ops.Op.{Op}
-use Rattle.shop_model.specs.Shop.{Shop, ShopJob}
+use Rattle.std.specs.{Prelude.{◌≡◌, ℕ, List, map}, List.Sorted.IsPermutation}
+use Rattle.shop_model.specs.{declared.ops.Op.Op, Shop.{Shop, ShopJob}}
 use Rattle.shop_engine.specs.Easier.{AskTheSame}
 
 abbrev pub renamed_op : (ℕ → ℕ) → Op → Op
@@ -14,8 +12,7 @@ abbrev pub renamed_job : (ℕ → ℕ) → ShopJob → ShopJob
 renamed_job f job = record { release = job.release; route = map (renamed_op f) job.route }
 
 abbrev pub renamed_machines : (ℕ → ℕ) → Shop → Shop
-renamed_machines f shop =
-    record { machines = shop.machines; jobs = map (renamed_job f) shop.jobs }
+renamed_machines f shop = record { machines = shop.machines; jobs = map (renamed_job f) shop.jobs }
 
 pub record RenamingAsksTheSame : Type 0 where
   -- machines may have any other names, as long as no two have one
@@ -23,5 +20,4 @@ pub record RenamingAsksTheSame : Type 0 where
       → AskTheSame shop (renamed_machines f shop)
   -- and jobs may stand in any order
   pub jobs : (machines : ℕ) (jobs others : List ShopJob) → IsPermutation jobs others
-      → AskTheSame (record { machines = machines; jobs = jobs })
-      (record { machines = machines; jobs = others })
+      → AskTheSame (record { machines = machines; jobs = jobs }) (record { machines = machines; jobs = others })

@@ -13,5 +13,4 @@ reversed shop = record { machines = shop.machines; jobs = map reversed_job shop.
 
 -- of an instance without releases
 abbrev pub ReversingAsksTheSame : Type 0
-ReversingAsksTheSame = (shop : Shop) → ((j : ℕ) → release_of shop j ≡ 0)
-    → AskTheSame shop (reversed shop)
+ReversingAsksTheSame = (shop : Shop) → ((j : ℕ) → release_of shop j ≡ 0) → AskTheSame shop (reversed shop)

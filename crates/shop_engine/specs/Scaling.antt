@@ -1,9 +1,7 @@
 -- All times and releases k times as long.
 --     scaled k shop              the instance in a unit of time that is k times finer
---     ScalingKeepsTheLeast       the law
 use Rattle.std.specs.Prelude.{ℕ, ◌*◌, ◌<◌, ◌↔◌, map}
-use Rattle.shop_model.specs.Shop.{Shop, ShopJob, IsLeast}
-use Rattle.shop_model.specs.declared.ops.Op.{Op}
+use Rattle.shop_model.specs.{Shop.{Shop, ShopJob, IsLeast}, declared.ops.Op.Op}
 use Rattle.shop_engine.specs.Headline.{IsBound}
 
 abbrev pub scaled_op : ℕ → Op → Op
@@ -18,7 +16,5 @@ scaled k shop = record { machines = shop.machines; jobs = map (scaled_job k) sho
 -- A table of the scaled instance may begin operations at each k-th of a unit, and yet none ends
 -- before the least makespan.
 pub record ScalingKeepsTheLeast : Type 0 where
-  pub least : (k : ℕ) (shop : Shop) (c : ℕ) → 0 < k
-      → IsLeast shop c ↔ IsLeast (scaled k shop) (k * c)
-  pub bounds : (k : ℕ) (shop : Shop) (b : ℕ) → 0 < k
-      → IsBound shop b ↔ IsBound (scaled k shop) (k * b)
+  pub least : (k : ℕ) (shop : Shop) (c : ℕ) → 0 < k → IsLeast shop c ↔ IsLeast (scaled k shop) (k * c)
+  pub bounds : (k : ℕ) (shop : Shop) (b : ℕ) → 0 < k → IsBound shop b ↔ IsBound (scaled k shop) (k * b)

@@ -1,15 +1,9 @@
 -- What `solve` writes is a schedule text that `check` finds feasible.
-use Rattle.std.specs.Prelude.{◌≡◌, ℕ, ◌≤◌, Bool, IsTrue, List, ◌++◌, length, Option}
-use Rattle.std.specs.List.{list_all}
-use Rattle.shop_model.specs.Checking.{EndsAt}
-use Rattle.shop_model.specs.declared.checking.Verdict.TheVariants.{Feasible}
-use Rattle.shop_text.specs.Formats.{is_visible}
-use Rattle.shop_text.specs.Schedules.{IsTable}
-use Rattle.shop_text.specs.Texts.{NamedShop}
-use Rattle.shop_text.specs.Writing.{Reported, report_text, verdict_text}
-use Rattle.shop_text.specs.declared.limits.TheConstants.{MAX_TEXT}
-use Rattle.shop_text.specs.declared.faults.ReadFault.{ReadFault}
-use Rattle.shop_text.specs.declared.formats.Format.{Format}
+use Rattle.std.specs.{Prelude.{◌≡◌, ℕ, ◌≤◌, Bool, IsTrue, List, ◌++◌, length, Option}, List.list_all}
+use Rattle.shop_model.specs.{Checking.EndsAt, declared.checking.Verdict.TheVariants.Feasible}
+use Rattle.shop_text.specs.{Formats.is_visible, Schedules.IsTable, Texts.NamedShop}
+use Rattle.shop_text.specs.{Writing.{Reported, report_text, verdict_text}, declared.limits.TheConstants.MAX_TEXT}
+use Rattle.shop_text.specs.{declared.faults.ReadFault.ReadFault, declared.formats.Format.Format}
 use Rattle.shop_engine.specs.Checking.{IsCheckOf, IsCheckFault}
 
 -- It begins with a report; read as a schedule of the instance it gives the report's table, which is

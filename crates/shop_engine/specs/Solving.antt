@@ -2,11 +2,8 @@
 --     IsSolution args text written                           the report that is written for a text
 --     IsSolving args source source' sink sink' result        what is answered
 use Rattle.std.specs.Prelude.{ℕ, List, Result}
-use Rattle.shop_engine.specs.declared.args.SolveArgs.{SolveArgs}
-use Rattle.shop_engine.specs.declared.faults.Fault.{Fault}
-use Rattle.shop_engine.specs.Asking.{name_in, IsAskFault}
-use Rattle.shop_engine.specs.Devices.{Device, IsTransfer}
-use Rattle.shop_engine.specs.Headline.{IsRightOf, IsDeterminedOf}
+use Rattle.shop_engine.specs.{Headline.{IsRightOf, IsDeterminedOf}, declared.args.SolveArgs.SolveArgs}
+use Rattle.shop_engine.specs.{declared.faults.Fault.Fault, Asking.{name_in, IsAskFault}, Devices.{Device, IsTransfer}}
 
 pub record IsSolution (args : SolveArgs) (text written : List ℕ) : Type 0 where
   pub right : IsRightOf args.format (name_in args.name) args.gantt text written

@@ -1,21 +1,13 @@
 -- What the calls of C do: each has the theorem of the engine's call that it makes.
 use Rattle.std.specs.Prelude.{◌≡◌, ℕ, ◌⊎◌, Bool, false, List, Option}
-use Rattle.shop_text.specs.Formats.{grammar_of}
-use Rattle.shop_text.specs.Texts.{IsTextFault, OrNoMemory}
-use Rattle.shop_text.specs.declared.formats.Format.{Format}
+use Rattle.shop_text.specs.{Formats.grammar_of, Texts.{IsTextFault, OrNoMemory}, declared.formats.Format.Format}
 use Rattle.shop_text.specs.declared.faults.ReadFault.{ReadFault}
-use Rattle.shop_engine.specs.Asking.{name_in, IsAskFault}
-use Rattle.shop_engine.specs.Listing.{IsListOf}
-use Rattle.shop_engine.specs.Checking.{schedule_in, IsCheckOf, IsCheckFault}
-use Rattle.shop_engine.specs.Solving.{IsSolution}
-use Rattle.shop_engine.specs.SolvedSchedules.{PassesCheck}
-use Rattle.shop_engine.specs.declared.args.CheckArgs.{CheckArgs}
-use Rattle.shop_engine.specs.declared.args.SolveArgs.{SolveArgs}
-use Rattle.shop_exports.specs.Outcomes.{is_refused, is_faulty, IsGiven}
-use Rattle.shop_exports.specs.Requests.{format_code, IsNoFormat, IsUnasked}
+use Rattle.shop_engine.specs.{Checking.{schedule_in, IsCheckOf, IsCheckFault}, declared.args.CheckArgs.CheckArgs}
+use Rattle.shop_engine.specs.{declared.args.SolveArgs.SolveArgs, SolvedSchedules.PassesCheck}
+use Rattle.shop_engine.specs.{Asking.{name_in, IsAskFault}, Solving.IsSolution, Listing.IsListOf}
+use Rattle.shop_exports.specs.{Outcomes.{is_refused, is_faulty, IsGiven}, Requests.{format_code, IsNoFormat, IsUnasked}}
 use Rattle.shop_exports.specs.Requests.{AsksCheck, IsFaultyCheck, AsksSolve, IsFaultySolve}
-use Rattle.shop_exports.specs.declared.outcomes.CallResult.{CallResult}
-use Rattle.shop_exports.specs.declared.requests.Options.{Options}
+use Rattle.shop_exports.specs.{declared.outcomes.CallResult.CallResult, declared.requests.Options.Options}
 
 -- a text is given, of which this holds
 pub record IsServed (Is : Bool → List ℕ → Type 0) (room room' : List ℕ) (outcome : CallResult)

@@ -1,11 +1,9 @@
 -- How a call of C ends, and what it leaves in the caller's room. Statuses: 0 done, 100 a room that is
 -- too small, 101 a faulty argument, and else the number of a refusal.
 use Rattle.std.specs.Prelude.{◌≡◌, ℕ, ◌<◌, ◌≤◌, Bool, false, List, ◌++◌, length, drop}
-use Rattle.shop_text.specs.declared.faults.ReadFault.{ReadFault}
-use Rattle.shop_text.specs.declared.faults.ReadFault.TheVariants.{NoMemory, TooLong, NoInstance}
-use Rattle.shop_text.specs.declared.faults.ReadFault.TheVariants.{BadShape, BadSize, BadRow}
-use Rattle.shop_text.specs.declared.faults.ReadFault.TheVariants.{Truncated, BadMachine, BadTime}
-use Rattle.shop_text.specs.declared.faults.ReadFault.TheVariants.{NoSuchName, BadTable}
+use Rattle.shop_text.specs.{declared.faults.ReadFault.ReadFault, declared.faults.ReadFault.TheVariants.NoMemory}
+use Rattle.shop_text.specs.declared.faults.ReadFault.TheVariants.{TooLong, NoInstance, BadShape, BadSize, BadRow}
+use Rattle.shop_text.specs.declared.faults.ReadFault.TheVariants.{Truncated, BadMachine, BadTime, NoSuchName, BadTable}
 use Rattle.shop_exports.specs.declared.outcomes.CallResult.{CallResult}
 
 -- the number that the program prints of it, as `error 7`

@@ -1,19 +1,11 @@
 -- What a caller asks for, and the arguments that it makes.
-use Rattle.std.specs.Prelude.{◌≡◌, ◌≢◌, ℕ, ◌⊎◌, Bool, true, List, Option, Some, None}
-use Rattle.std.specs.Prelude.{if◌then◌else◌}
-use Rattle.std.specs.Str.{IsUtf8}
-use Rattle.shop_text.specs.declared.formats.Format.{Format}
+use Rattle.std.specs.{Prelude.{◌≡◌, ◌≢◌, ℕ, ◌⊎◌, Bool, true, List, Option, Some, None, if◌then◌else◌}, Str.IsUtf8}
 use Rattle.shop_text.specs.declared.formats.Format.TheVariants.{Orlib, Taillard, Routes}
-use Rattle.shop_text.specs.declared.faults.ReadFault.TheVariants.{NoMemory}
-use Rattle.shop_runs.specs.Limits.{IsPlanWithin}
-use Rattle.shop_runs.specs.declared.plans.Plan.{Plan}
-use Rattle.shop_runs.specs.declared.plans.Order.{Order}
+use Rattle.shop_text.specs.{declared.faults.ReadFault.TheVariants.NoMemory, declared.formats.Format.Format}
+use Rattle.shop_runs.specs.{Limits.IsPlanWithin, declared.plans.Plan.Plan, declared.plans.Order.Order}
 use Rattle.shop_runs.specs.declared.plans.Order.TheVariants.{Kept, Bound}
-use Rattle.shop_engine.specs.Asking.{name_in}
-use Rattle.shop_engine.specs.declared.args.CheckArgs.{CheckArgs}
-use Rattle.shop_engine.specs.declared.args.SolveArgs.{SolveArgs}
-use Rattle.shop_exports.specs.Outcomes.{is_refused, is_faulty}
-use Rattle.shop_exports.specs.declared.outcomes.CallResult.{CallResult}
+use Rattle.shop_engine.specs.{Asking.name_in, declared.args.CheckArgs.CheckArgs, declared.args.SolveArgs.SolveArgs}
+use Rattle.shop_exports.specs.{Outcomes.{is_refused, is_faulty}, declared.outcomes.CallResult.CallResult}
 use Rattle.shop_exports.specs.declared.requests.Options.{Options}
 
 -- the numbers of formats and orders

@@ -6,9 +6,8 @@
 --     later_head rest least head       `head` if it is at least `least`, else `rest`
 --     ahead_of greatest from x         how far x lies ahead of `from`; 0 follows on `greatest`
 --     is_between above upto x          x is above `above` and at most `upto`
-use Rattle.std.specs.Prelude.{◌≡◌, ℕ, ◌+◌, ◌-◌, ◌≤◌, Bool, ◌&&◌, List, [], ◌∷◌, ◌++◌, length}
-use Rattle.std.specs.Prelude.{replicate, map, nat_le, nat_lt, if◌then◌else◌, slice_index}
-use Rattle.std.specs.Simd.Lanes.{pick_l, sel_l, zip2, Each2}
+use Rattle.std.specs.Prelude.{◌≡◌, ℕ, ◌+◌, ◌-◌, ◌≤◌, Bool, ◌&&◌, List, [], ◌∷◌, ◌++◌, length, replicate, map, nat_le}
+use Rattle.std.specs.{Prelude.{nat_lt, if◌then◌else◌, slice_index}, Simd.Lanes.{pick_l, sel_l, zip2, Each2}}
 
 abbrev pub eight_zeros : List ℕ
 eight_zeros = 0 ∷ 0 ∷ 0 ∷ 0 ∷ 0 ∷ 0 ∷ 0 ∷ 0 ∷ []

@@ -1,6 +1,6 @@
 -- Positions whose number passes a test.
-use Rattle.std.specs.Prelude.{◌≡◌, Option, MatchOption, ℕ, ◌+◌, ◌*◌, Bool, List, [], ◌∷◌}
-use Rattle.std.specs.Prelude.{filter, if◌then◌else◌, nat_lt, not, ◌==◌, ◌&&◌}
+use Rattle.std.specs.Prelude.{◌≡◌, Option, MatchOption, ℕ, ◌+◌, ◌*◌, Bool, List, [], ◌∷◌, filter, if◌then◌else◌, nat_lt}
+use Rattle.std.specs.Prelude.{not, ◌==◌, ◌&&◌}
 use Rattle.shop_lanes.specs.Rows.{Rows, blocks}
 
 -- the positions of the numbers that pass, in order; the first number stands at position `at`
@@ -12,8 +12,7 @@ marked p at (x ∷ xs) = if p x then at ∷ marked p (at + 1) xs else marked p (
 abbrev pub waits_below : ℕ → ℕ → Bool
 waits_below limit head = nat_lt 0 head && nat_lt head limit
 
--- the positions from block `from` on and before block `to` where something waits with a head below
--- the limit
+-- the positions from block `from` on and before block `to` where something waits with a head below the limit
 abbrev pub positions_below : Rows → ℕ → ℕ → ℕ → List ℕ
 positions_below rows from to limit = marked (waits_below limit) (8 * from) (blocks from to rows.heads)
 

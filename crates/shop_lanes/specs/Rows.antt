@@ -1,21 +1,19 @@
 -- Rows of numbers by position, in blocks of eight, and the lanes that they make.
---     Rows                           heads, times and tails by position, and ends by job
---     Lane                           what stands at one position
---     place_at_rank count i          where rank i stands in `count` blocks: ranks run down the
---                                    first lanes of all blocks, then down the second lanes
---     by_columns count xs            what stands in `count` blocks, in order of rank
---     lanes_between rows from to     the lanes of the blocks from `from` on and before `to`, in order
---                                    of rank
---     lanes_of heads times tails     the lanes of blocks of three rows, in order of rank
---     lanes_by value heads ..        the lanes of three rows of whole blocks, in order of rank, where
---                                    `value` reads an element as a number
---     lanes_in value rows            `lanes_by` of the heads, times and tails of a `LaneRows`
---     with_head, with_end            rows with one head, or one end, replaced
-use Rattle.std.specs.Prelude.{◌≡◌, ℕ, zero, suc, ◌+◌, ◌*◌, ◌-◌, ◌/◌, ◌%◌, ◌≤◌, List, [], ◌∷◌, ◌++◌}
-use Rattle.std.specs.Prelude.{length, map, take, drop, slice_set}
+--     Rows                        heads, times and tails by position, and ends by job
+--     Lane                        what stands at one position
+--     place_at_rank count i       where rank i stands in `count` blocks: ranks run down the first lanes of all blocks,
+--                                 then down the second lanes
+--     by_columns count xs         what stands in `count` blocks, in order of rank
+--     lanes_between rows from to  the lanes of the blocks from `from` on and before `to`, in order of rank
+--     lanes_of heads times tails  the lanes of blocks of three rows, in order of rank
+--     lanes_by value heads ..     the lanes of three rows of whole blocks, in order of rank, where `value` reads an
+--                                 element as a number
+--     lanes_in value rows         `lanes_by` of the heads, times and tails of a `LaneRows`
+--     with_head, with_end         rows with one head, or one end, replaced
+use Rattle.std.specs.Prelude.{◌≡◌, ℕ, zero, suc, ◌+◌, ◌*◌, ◌-◌, ◌/◌, ◌%◌, ◌≤◌, List, [], ◌∷◌, ◌++◌, length, map, take}
+use Rattle.std.specs.Prelude.{drop, slice_set}
 use Rattle.shop_lanes.specs.declared.lane_rows.LaneRows.{LaneRows}
 
--- heads, times and tails stand by position, ends by job
 pub record Rows : Type 0 where
   pub heads : List ℕ
   pub times : List ℕ

@@ -7,17 +7,15 @@
 --     own_span .. q                  the end of the operation at position q or, if later, the
 --                                    greatest end of the others, served from that end on
 --     FitsSpan, FitOwnSpans          the sums of spans, or of own spans, fit into a lane
-use Rattle.std.specs.Prelude.{◌≡◌, ℕ, ◌+◌, ◌-◌, ◌*◌, ◌<◌, ◌≤◌, max, List, [], ◌∷◌, All, sum_by}
-use Rattle.std.specs.Prelude.{if◌then◌else◌, nat_le, nat_lt, ◌&&◌, slice_index, slice_set}
+use Rattle.std.specs.Prelude.{◌≡◌, ℕ, ◌+◌, ◌-◌, ◌*◌, ◌<◌, ◌≤◌, max, List, [], ◌∷◌, All, sum_by, if◌then◌else◌, nat_le}
+use Rattle.std.specs.Prelude.{nat_lt, ◌&&◌, slice_index, slice_set}
 use Rattle.shop_lanes.specs.Rows.{Lane, lanes_of}
 
 -- 0 if there are none
 abbrev pub span : ℕ → ℕ → List Lane → ℕ
 span least start [] = 0
 span least start (x ∷ xs) =
-    if nat_le least x.head
-    then max (start + x.time + x.tail) (span least (start + x.time) xs)
-    else span least start xs
+    if nat_le least x.head then max (start + x.time + x.tail) (span least (start + x.time) xs) else span least start xs
 
 abbrev pub greatest_by : (Lane → ℕ) → List Lane → ℕ
 greatest_by f [] = 0
@@ -27,8 +25,7 @@ greatest_by f (x ∷ xs) = max (f x) (greatest_by f xs)
 -- lanes of `all` that begin no earlier.
 abbrev pub spans_from : ℕ → ℕ → List Lane → List Lane → ℕ
 spans_from above upto all xs =
-    greatest_by (λ x.
-    if nat_lt above x.head && nat_le x.head upto then span x.head x.head all else 0) xs
+    greatest_by (λ x. if nat_lt above x.head && nat_le x.head upto then span x.head x.head all else 0) xs
 
 abbrev pub spans_between : ℕ → ℕ → List Lane → ℕ
 spans_between above upto xs = spans_from above upto xs xs
@@ -52,6 +49,5 @@ own_span heads times tails from to q =
 
 -- `owns` has the own span of each operation that waits in these blocks
 abbrev pub AreOwnSpans : List ℕ → List ℕ → List ℕ → ℕ → ℕ → List ℕ → Type 0
-AreOwnSpans heads times tails from to owns =
-    (q : ℕ) → 8 * from ≤ q → q < 8 * to → 0 < slice_index heads q
+AreOwnSpans heads times tails from to owns = (q : ℕ) → 8 * from ≤ q → q < 8 * to → 0 < slice_index heads q
     → slice_index owns (q - 8 * from) ≡ own_span heads times tails from to q

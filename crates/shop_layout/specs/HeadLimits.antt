@@ -1,10 +1,9 @@
 -- How late operations can end at most, whatever is placed, and what lanes must hold for it.
---     total_before shop n            the times of all operations of the first n jobs
---     latest_release shop            the greatest release
---     latest_end shop                no operation ends later
---     load_of times tails            the sum of times plus the greatest tail
---     FitsLanes greatest shop l      the latest end plus each machine's load is below the greatest
---                                    number of a lane
+--     total_before shop n        the times of all operations of the first n jobs
+--     latest_release shop        the greatest release
+--     latest_end shop            no operation ends later
+--     load_of times tails        the sum of times plus the greatest tail
+--     FitsLanes greatest shop l  the latest end plus each machine's load is below the greatest number of a lane
 use Rattle.std.specs.Prelude.{ℕ, zero, suc, ◌+◌, ◌<◌, List, length, slice_index, sum_by}
 use Rattle.shop_lanes.specs.Rows.{blocks}
 use Rattle.shop_model.specs.Shop.{Shop, route_of, release_of, greatest_below}

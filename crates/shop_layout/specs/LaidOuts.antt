@@ -1,14 +1,10 @@
 -- An instance laid out in lanes of one width.
---     LaidOutState                   the instance, as it is laid out and as it was given, and its layout
 --     IsReady greatest shop l        the layout is that of the instance, and lanes hold it
 use Rattle.std.specs.Prelude.{ℕ, ◌<◌, ◌^◌}
-use Rattle.shop_model.specs.Limits.{IsWithinLimits}
-use Rattle.shop_model.specs.Shop.{Shop}
-use Rattle.shop_layout.specs.HeadLimits.{FitsLanes}
-use Rattle.shop_layout.specs.Positions.{IsLaidOut, LayoutState}
+use Rattle.shop_model.specs.{Limits.IsWithinLimits, Shop.Shop}
+use Rattle.shop_layout.specs.{HeadLimits.FitsLanes, Positions.{IsLaidOut, LayoutState}}
 
--- `asked` is the instance as it was given, and `shop` is it with each machine called by its number in
--- the layout
+-- `asked` is the instance as it was given, and `shop` is it with each machine called by its number in the layout
 pub record LaidOutState : Type 0 where
   pub shop : Shop
   pub asked : Shop

@@ -1,13 +1,11 @@
--- The legs of all routes: position, machine and time of each step, route after route, and behind each
--- route its end.
---     leg_of machines times q        the leg of the operation at position q
---     end_of n                       the end of a route, where there are n positions
---     route_legs machines times ..   the legs of a route whose steps stand at some places, and its end
---     all_legs l                     those of all routes
---     leg_index l j k                where leg k of job j stands among them
+-- The legs of all routes: position, machine and time of each step, route after route, and behind each route its end.
+--     leg_of machines times q       the leg of the operation at position q
+--     end_of n                      the end of a route, where there are n positions
+--     route_legs machines times ..  the legs of a route whose steps stand at some places, and its end
+--     all_legs l                    those of all routes
+--     leg_index l j k               where leg k of job j stands among them
 use Rattle.std.specs.Prelude.{ℕ, ◌+◌, List, [], ◌∷◌, ◌++◌, flat_map, length, map, slice_index, take}
-use Rattle.shop_layout.specs.Positions.{LayoutState}
-use Rattle.shop_layout.specs.declared.legs.Leg.{Leg}
+use Rattle.shop_layout.specs.{Positions.LayoutState, declared.legs.Leg.Leg}
 
 abbrev pub leg_of : List ℕ → List ℕ → ℕ → Leg
 leg_of machines times q = record { position = q; machine = slice_index machines q; time = slice_index times q }

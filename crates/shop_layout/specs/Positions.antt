@@ -1,28 +1,24 @@
--- The operations of an instance by position: machine after machine, on a machine by nonincreasing
--- tail down the columns of its blocks.
---     LayoutState                    what a program keeps: numbers by position, by job and step,
---                                    and by machine
---     place l j k                    the position of step k of job j
---     place_or n rows j k            the position in the row of job j, or n if it has no step k
---     AreMachinesOf blocks n ms      the machine of each position, of the first n machines
---     AreEven blocks each            each machine has `each` blocks, unless `each` is 0
---     HoldsMachines l n              no machine has more than n positions
---     position_at_rank blocks m i    where rank i of machine m stands
---     IsAt l q s                     operation s stands at position q
---     IsFree shop l q                no operation of the instance stands there
---     IsPadding l q                  time and tail are 0 at position q
---     IsLaidOut shop l               l is the layout of the instance
-use Rattle.std.specs.Prelude.{◌≡◌, ℕ, ◌+◌, ◌-◌, ◌*◌, ◌^◌, ◌≤◌, ◌<◌, List, [], length, slice_index}
-use Rattle.std.specs.Prelude.{slice_index_or, if◌then◌else◌, nat_lt}
+-- The operations of an instance by position: machine after machine, on a machine by nonincreasing tail down the columns
+-- of its blocks.
+--     place l j k                  the position of step k of job j
+--     place_or n rows j k          the position in the row of job j, or n if it has no step k
+--     AreMachinesOf blocks n ms    the machine of each position, of the first n machines
+--     AreEven blocks each          each machine has `each` blocks, unless `each` is 0
+--     HoldsMachines l n            no machine has more than n positions
+--     position_at_rank blocks m i  where rank i of machine m stands
+--     IsAt l q s                   operation s stands at position q
+--     IsFree shop l q              no operation of the instance stands there
+--     IsPadding l q                time and tail are 0 at position q
+--     IsLaidOut shop l             l is the layout of the instance
+use Rattle.std.specs.Prelude.{◌≡◌, ℕ, ◌+◌, ◌-◌, ◌*◌, ◌^◌, ◌≤◌, ◌<◌, List, [], length, slice_index, slice_index_or}
+use Rattle.std.specs.Prelude.{if◌then◌else◌, nat_lt}
 use Rattle.shop_lanes.specs.Rows.{place_at_rank}
 use Rattle.shop_model.specs.Shop.{Shop, IsOperation, route_of}
-use Rattle.shop_layout.specs.Slots.{AreMachineSlots}
-use Rattle.shop_layout.specs.declared.slots.Slot.{Slot}
+use Rattle.shop_layout.specs.{Slots.AreMachineSlots, declared.slots.Slot.Slot}
 
--- the job, the step, the time and the tail of the operation at a position; the position of each
--- step of each job; the first block of eight positions of each machine, with the number of all
--- blocks behind the last; and of a position its machine, and the position of the step that follows
--- on the route, or the number of all positions
+-- the job, the step, the time and the tail of the operation at a position; the position of each step of each job; the
+-- first block of eight positions of each machine, with the number of all blocks behind the last; and of a position its
+-- machine, and the position of the step that follows on the route, or the number of all positions
 pub record LayoutState : Type 0 where
   pub jobs : List ℕ
   pub steps : List ℕ
@@ -59,10 +55,8 @@ AreEven blocks each = 0 < each → AreMultiples blocks each
 abbrev pub first_position : LayoutState → ℕ → ℕ
 first_position l m = 8 * slice_index l.blocks m
 
--- a row of n numbers has room for the positions of any one machine
 abbrev pub HoldsMachines : LayoutState → ℕ → Type 0
-HoldsMachines l n = (m : ℕ) → m + 1 < length l.blocks
-    → first_position l (m + 1) ≤ first_position l m + n
+HoldsMachines l n = (m : ℕ) → m + 1 < length l.blocks → first_position l (m + 1) ≤ first_position l m + n
 
 -- ranks run down the first lane of all blocks of the machine, then down the second one, and so on
 abbrev pub position_at_rank : List ℕ → ℕ → ℕ → ℕ
@@ -91,12 +85,10 @@ pub record HasPositions (l : LayoutState) (n : ℕ) : Type 0 where
   pub tails : length l.tails ≡ n
   pub following : length l.following ≡ n
 
--- the operations of machine m, by nonincreasing tail, have the first ranks, and the other ranks
--- padding
+-- the operations of machine m, by nonincreasing tail, have the first ranks, and the other ranks padding
 pub record IsMachineLaidOut (l : LayoutState) (m : ℕ) (slots : List Slot) : Type 0 where
   pub room : first_position l m + length slots ≤ first_position l (m + 1)
-  pub at : (i : ℕ) (d : Slot) → i < length slots
-      → IsAt l (position_at_rank l.blocks m i) (slice_index_or slots i d)
+  pub at : (i : ℕ) (d : Slot) → i < length slots → IsAt l (position_at_rank l.blocks m i) (slice_index_or slots i d)
   pub padding : (i : ℕ) → length slots ≤ i → first_position l m + i < first_position l (m + 1)
       → IsPadding l (position_at_rank l.blocks m i)
 

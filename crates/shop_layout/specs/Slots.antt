@@ -3,10 +3,8 @@
 --     AreSlotsOf shop m slots        the operations of machine m by nonincreasing tails
 use Rattle.std.specs.Prelude.{◌≡◌, ℕ, ◌<◌, ◌==◌, List, [], length, map, filter, flat_map, slice_index_or, IsPermutation}
 use Rattle.std.specs.List.{range_with_len}
-use Rattle.shop_model.specs.declared.ops.Op.{Op}
-use Rattle.shop_model.specs.Shop.{Shop, no_op, route_of}
-use Rattle.shop_bound.specs.Heads.{tail_in}
-use Rattle.shop_bound.specs.inner.NonincreasingTails.{IsNonincreasing}
+use Rattle.shop_model.specs.{declared.ops.Op.Op, Shop.{Shop, no_op, route_of}}
+use Rattle.shop_bound.specs.{Heads.tail_in, inner.NonincreasingTails.IsNonincreasing}
 use Rattle.shop_layout.specs.declared.slots.Slot.{Slot}
 
 -- step k of job j, which has this route, as its machine sees it

@@ -1,12 +1,9 @@
 -- What a check of a table answers.
---     HasShape shop rows             the rows have a start for each operation of the instance
---     starts_of rows                 the table of these rows
---     IsVerdict shop rows verdict
---         what the verdict says is so, and it is the first fault in the order of the check
+--     HasShape shop rows           the rows have a start for each operation of the instance
+--     IsVerdict shop rows verdict  what the verdict says is so, and it is the first fault in the order of the check
 use Rattle.std.specs.Prelude.{◌≡◌, ℕ, zero, suc, ◌≤◌, ◌<◌, ◌⊎◌, ◌↔◌, List, [], length, slice_index_or}
-use Rattle.shop_model.specs.Shop.{Shop, Starts, route_of, release_of, machine_of, IsOperation}
-use Rattle.shop_model.specs.Shop.{IsFeasible, finish_of, end_of}
-use Rattle.shop_model.specs.declared.checking.Verdict.{Verdict}
+use Rattle.shop_model.specs.Shop.{Shop, Starts, route_of, release_of, machine_of, IsOperation, IsFeasible, finish_of}
+use Rattle.shop_model.specs.{Shop.end_of, declared.checking.Verdict.Verdict}
 use Rattle.shop_model.specs.declared.checking.Verdict.TheVariants.{Feasible, WrongSize, Unreleased, Early, Overlap}
 
 -- the starts that stand in the rows, one row a job
@@ -79,8 +76,7 @@ IsVerdict shop rows (Overlap m p q) = HasShape shop rows × NoneEarly shop (star
     × (m ≡ machine_of shop p.job p.step)
     × IsFirstOverlap shop (starts_of rows) p.job p.step q.job q.step
 
--- What a check answers: the verdict is so, and feasible tables and tables of another shape are told
--- as such.
+-- What a check answers: the verdict is so, and feasible tables and tables of another shape are told as such.
 pub record IsChecked (shop : Shop) (rows : List (List ℕ)) (verdict : Verdict) : Type 0 where
   pub verdict_holds : IsVerdict shop rows verdict
   pub feasible : (c : ℕ) → (verdict ≡ Feasible c) ↔ EndsAt shop rows c

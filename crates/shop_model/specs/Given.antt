@@ -1,11 +1,7 @@
 -- The instance that a list of rows, or of jobs, gives.
-use Rattle.std.specs.Prelude.{ℕ, List, map, Vec}
-use Rattle.std.specs.declared.alloc.Global.{Global}
-use Rattle.shop_model.specs.Shop.{Shop, ShopJob}
-use Rattle.shop_model.specs.declared.ops.Op.{Op}
-use Rattle.shop_model.specs.declared.ops.Job.{Job}
-use Rattle.shop_model.specs.declared.instances.Given.{Given}
-use Rattle.shop_model.specs.declared.instances.Given.TheVariants.{Rows, Jobs}
+use Rattle.std.specs.{Prelude.{ℕ, List, map, Vec}, declared.alloc.Global.Global}
+use Rattle.shop_model.specs.{Shop.{Shop, ShopJob}, declared.ops.Op.Op, declared.ops.Job.Job}
+use Rattle.shop_model.specs.{declared.instances.Given.Given, declared.instances.Given.TheVariants.{Rows, Jobs}}
 
 -- a row of operations is a job that is released at 0
 abbrev pub job_of_row : Vec Op Global → ShopJob

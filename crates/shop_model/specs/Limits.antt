@@ -2,8 +2,7 @@
 use Rattle.std.specs.Prelude.{◌≡◌, ℕ, ◌≤◌, ◌<◌, List, [], length, slice_index_or, All, Vec}
 use Rattle.std.specs.declared.alloc.Global.{Global}
 use Rattle.shop_model.specs.declared.limits.TheConstants.{MAX_JOBS, MAX_MACHINES, MAX_STEPS, MAX_TIME, MAX_START}
-use Rattle.shop_model.specs.declared.ops.Op.{Op}
-use Rattle.shop_model.specs.declared.ops.Job.{Job}
+use Rattle.shop_model.specs.{declared.ops.Op.Op, declared.ops.Job.Job}
 use Rattle.shop_model.specs.Shop.{Shop, route_of, release_of, machine_of, time_of}
 
 -- (what stands outside the instance has machine 0, time 0 and release 0)

@@ -1,10 +1,8 @@
 -- What a program keeps of a placing: lists in place of functions.
 use Rattle.std.specs.Prelude.{◌≡◌, ℕ, ◌<◌, List, [], ◌∷◌, ◌++◌, length, slice_index}
-use Rattle.shop_model.specs.Shop.{Shop, machine_of}
-use Rattle.shop_model.specs.Word.{Placing, IsWord, place_next, placing}
+use Rattle.shop_model.specs.{Shop.{Shop, machine_of}, Word.{Placing, IsWord, place_next, placing}}
 
--- for each job how many of its steps are placed and when it is ready for the next one, and when
--- each machine is free
+-- for each job how many of its steps are placed and when it is ready for the next one, and when each machine is free
 pub record PlacementState : Type 0 where
   pub steps : List ℕ
   pub ready : List ℕ
@@ -47,6 +45,5 @@ pub record HasLast (shop : Shop) (j : ℕ) (s : PlacementState) : Type 0 where
 -- whatever was placed before the last step of j, at which j was ready and its machine free at these
 -- times, t is the placement of that
 abbrev pub TakesBack : Shop → ℕ → ℕ → ℕ → PlacementState → PlacementState → Type 0
-TakesBack shop j ready free s t =
-    (p : Placing) → IsPlacement shop (place_next shop p j) s → ready ≡ p.ready j
+TakesBack shop j ready free s t = (p : Placing) → IsPlacement shop (place_next shop p j) s → ready ≡ p.ready j
     → free ≡ p.free (machine_of shop j (p.steps j)) → IsPlacement shop p t

@@ -1,11 +1,8 @@
--- The job shop: instances, feasible tables of starts, their ends, and the least end (disjunctive
--- model).
---     Shop, ShopJob                  an instance: its machines and jobs; a job: release and route
---     Starts                         a table: a start for each operation (j, k), step k of job j
---     IsFeasible shop starts         the table keeps releases, routes and machines
---     end_of shop starts             when the last operation ends, 0 if there is none
---     IsLeast shop c
---         c is the end of a feasible table, and no feasible table ends before it
+-- The job shop: instances, feasible tables of starts, their ends, and the least end (disjunctive model).
+--     Shop, ShopJob           an instance: its machines and jobs; a job: release and route
+--     Starts                  a table: a start for each operation (j, k), step k of job j
+--     IsFeasible shop starts  the table keeps releases, routes and machines
+--     IsLeast shop c          c is the end of a feasible table, and no feasible table ends before it
 use Rattle.std.specs.Prelude.{◌≡◌, ℕ, zero, suc, ◌+◌, ◌≤◌, ◌<◌, max, ◌⊎◌, List, [], length, map, slice_index_or, sum_by}
 use Rattle.std.specs.List.{range_with_len}
 use Rattle.shop_model.specs.declared.ops.Op.{Op}

@@ -1,22 +1,17 @@
--- Words (job sequences, permutations with repetition): the order in which operations are
--- dispatched, and the table that a word places.
---     count_of j w                   how often job j stands in the word w
---     IsWord shop w, IsFull shop w
---         no job stands in w more often than it has steps; each just that often
---     Placing, placing shop w
---         the state once the operations of w are placed, in the order of w
---     placed shop w                  the table that w places
---     rows_of shop starts            a table as rows: for each job the starts of its steps
---     start_jobs shop                the start word: job 0 for all its steps, then job 1, and so on
---     IsUnder shop w starts          the table keeps the order of w on each machine
-use Rattle.std.specs.Prelude.{◌≡◌, ℕ, ◌+◌, ◌≤◌, max, List, [], ◌∷◌, ◌++◌, length, count_by, fold}
-use Rattle.std.specs.Prelude.{map, flat_map, replicate, ◌==◌, if◌then◌else◌}
-use Rattle.std.specs.List.{range_with_len}
-use Rattle.shop_model.specs.Shop.{Shop, Starts, route_of, release_of, machine_of, time_of}
-use Rattle.shop_model.specs.Shop.{IsOperation, IsFeasible, finish_of}
+-- Words (job sequences, permutations with repetition): the order in which operations are dispatched, and the table that
+-- a word places.
+--     count_of j w                  how often job j stands in the word w
+--     IsWord shop w, IsFull shop w  no job stands in w more often than it has steps; each just that often
+--     Placing, placing shop w       the state once the operations of w are placed, in the order of w
+--     placed shop w                 the table that w places
+--     rows_of shop starts           a table as rows: for each job the starts of its steps
+--     start_jobs shop               the start word: job 0 for all its steps, then job 1, and so on
+use Rattle.std.specs.Prelude.{◌≡◌, ℕ, ◌+◌, ◌≤◌, max, List, [], ◌∷◌, ◌++◌, length, count_by, fold, map, flat_map}
+use Rattle.std.specs.{Prelude.{replicate, ◌==◌, if◌then◌else◌}, List.range_with_len}
+use Rattle.shop_model.specs.Shop.{Shop, Starts, route_of, release_of, machine_of, time_of, IsOperation, IsFeasible}
+use Rattle.shop_model.specs.Shop.{finish_of}
 
--- The n-th entry of j in a word stands for step n of j, so the word's operations of j are the steps
--- below this.
+-- The n-th entry of j in a word stands for step n of j, so the word's operations of j are the steps below this.
 abbrev pub count_of : ℕ → List ℕ → ℕ
 count_of j w = count_by (λ i. i == j) w
 
@@ -63,13 +58,11 @@ placing shop w = fold (place_next shop) (none_placed shop) w
 abbrev pub placed : Shop → List ℕ → Starts
 placed shop w = (placing shop w).begins
 
--- Each operation of w ends not later than any operation of its machine begins that stands later in
--- w or isn't in w.
+-- Each operation of w ends not later than any operation of its machine begins that stands later in w or isn't in w.
 pub record IsUnder (shop : Shop) (w : List ℕ) (starts : Starts) : Type 0 where
   pub feasible : IsFeasible shop starts
-  pub first : (v : List ℕ) (j : ℕ) (later : List ℕ) → w ≡ v ++ j ∷ later
-      → (i l : ℕ) → IsOperation shop i l → count_of i (v ++ j ∷ []) ≤ l
-      → machine_of shop i l ≡ machine_of shop j (count_of j v)
+  pub first : (v : List ℕ) (j : ℕ) (later : List ℕ) → w ≡ v ++ j ∷ later → (i l : ℕ) → IsOperation shop i l
+      → count_of i (v ++ j ∷ []) ≤ l → machine_of shop i l ≡ machine_of shop j (count_of j v)
       → finish_of shop starts j (count_of j v) ≤ starts i l
 
 abbrev pub rows_of : Shop → Starts → List (List ℕ)

@@ -2,5 +2,4 @@ pub mod Steps
 pub mod Spans
 pub mod ClearSpans
 pub mod FirstFaults
-pub mod NonePlaced
 pub mod Entries

@@ -1,7 +1,6 @@
 // The table that a word places.
-ghost use Rattle.std.specs.Prelude.{◌≡◌, IfOk, map};
+ghost use Rattle.std.specs.Prelude.{◌≡◌, [], IfOk, length, map, replicate};
 ghost use Rattle.shop_model.specs.Word.{IsFull, placed, rows_of};
-ghost use Rattle.shop_model.specs.inner.NonePlaced.{no_starts};
 ghost use Rattle.shop_model.specs.Placed.{IsPlacedBy, AllEndSoon};
 
 use crate::instances::Instance;
@@ -12,7 +11,7 @@ use std::alloc::{AllocError as NoMemory, Global};
 
 /// Makes an empty row for each job, with room for its steps. Fails with `NoMemory` if memory runs out.
 fn empty_rows(alloc: Global, instance: &Instance) -> Result<Vec<Vec<u64>>, NoMemory>
-    ensures { IfOk result (λ v. map (λ r. r.items) v.items ≡ no_starts instance.now) }
+    ensures { IfOk result (λ v. map (λ r. r.items) v.items ≡ replicate (length instance.now.jobs) []) }
 {
     let mut rows = Vec::with_capacity(alloc, instance.jobs())?;
     for j in 0..instance.jobs() {

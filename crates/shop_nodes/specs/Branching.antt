@@ -1,9 +1,9 @@
 -- Branching on the conflict set (Giffler and Thompson 1960).
+pub use Rattle.shop_bound.specs.Conflicts.{open_jobs, next_machine, next_head, next_end, chosen_of, conflicts_with}
+pub use Rattle.shop_bound.specs.Conflicts.{conflict_among, conflict}
 use Rattle.std.specs.Prelude.{ℕ, if◌then◌else◌, List, [], ◌∷◌, ◌++◌, map, nat_le}
 use Rattle.shop_model.specs.Shop.{Shop}
 use Rattle.shop_bound.specs.Bound.{lb}
-pub use Rattle.shop_bound.specs.Conflicts.{open_jobs, next_machine, next_head, next_end, chosen_of, conflicts_with}
-pub use Rattle.shop_bound.specs.Conflicts.{conflict_among, conflict}
 
 -- x before the first element whose key isn't below its own: ties keep their places
 abbrev pub insert_by : {A : Type 0} → (A → ℕ) → A → List A → List A

@@ -1,31 +1,24 @@
--- Where a walk halted. What waited there is kept short: how many entries of the path its words begin
--- with, and the job that follows; closed children are only counted.
---     word_at word o                         the word that an open child stands for
---     last_of n xs                           the last n elements
---     waiting_words shop word x              the words that an entry stands for: closed ones are
---                                            the last children of what they begin with
---     stack_words shop word stack            all that waits, the last entry first
---     IsOpen shop word o                     the word of o is one of the instance, no longer than
---                                            word and a job, with its bound
---     IsClosed shop best word n count        the last count children of the first n entries of
---                                            word have bounds that reach the best
---     IsWaiting shop best word x             the entry is an open child or closed ones, told
---                                            rightly
---     halted_words shop h                    the words of what waited where a walk halted, if
---                                            anything did
---     IsHalt shop best h                     all that waited is told rightly
---     AreHalted shop best h                  where a walk halted, all that waited is told rightly
+-- Where a walk halted. What waited there is kept short: how many entries of the path its words begin with, and the job
+-- that follows; closed children are only counted.
+--     word_at word o               the word that an open child stands for
+--     last_of n xs                 the last n elements
+--     waiting_words shop word x    the words that an entry stands for: closed ones are the last children of what they
+--                                  begin with
+--     stack_words shop word stack  all that waits, the last entry first
+--     IsOpen shop word o           the word of o is one of the instance, no longer than word and a job, with its bound
+--     IsClosed shop best word n count
+--                                  the last count children of the first n entries of word have bounds that reach the
+--                                  best
+--     IsWaiting shop best word x   the entry is an open child or closed ones, told rightly
+--     halted_words shop h          the words of what waited where a walk halted, if anything did
+--     IsHalt shop best h           all that waited is told rightly
+--     AreHalted shop best h        where a walk halted, all that waited is told rightly
 use Rattle.std.specs.Prelude.{◌≡◌, ℕ, ◌-◌, ◌≤◌, ◌<◌, Option, Some, None, List, [], ◌∷◌, ◌++◌, length, take, drop}
-use Rattle.std.specs.Arc.{arc_slice_items}
-use Rattle.std.specs.List.{AllByRecursion}
-use Rattle.shop_model.specs.Shop.{Shop, operation_count}
-use Rattle.shop_model.specs.Word.{IsWord}
+use Rattle.std.specs.{Arc.arc_slice_items, List.AllByRecursion}
+use Rattle.shop_model.specs.{Shop.{Shop, operation_count}, Word.IsWord}
 use Rattle.shop_bound.specs.Bound.{lb}
-use Rattle.shop_nodes.specs.Branching.{branch}
-use Rattle.shop_nodes.specs.declared.halts.Halt.{Halt}
-use Rattle.shop_nodes.specs.declared.halts.Open.{Open}
-use Rattle.shop_nodes.specs.declared.halts.Waiting.{Waiting}
-use Rattle.shop_nodes.specs.declared.halts.Waiting.TheVariants.{Child, Rest}
+use Rattle.shop_nodes.specs.{Branching.branch, declared.halts.Halt.Halt, declared.halts.Open.Open}
+use Rattle.shop_nodes.specs.{declared.halts.Waiting.Waiting, declared.halts.Waiting.TheVariants.{Child, Rest}}
 
 abbrev pub word_at : List ℕ → Open → List ℕ
 word_at word o = take o.depth word ++ o.job ∷ []

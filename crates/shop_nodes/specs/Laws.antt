@@ -1,18 +1,10 @@
 -- What branching and the search of a piece keep.
---     HasBetter shop words starts              some table under one of the words ends no later
---                                              than this one
---     IsBestOf shop opening best found         the best is the opening one where nothing was
---                                              found, and else the bound
---                                              of a full word
---     LosesNoTable, SearchesLoseNoTable        the laws of branching, and of the search of a piece
+--     HasBetter shop words starts  some table under one of the words ends no later than this one
 use Rattle.std.specs.Prelude.{◌≡◌, ℕ, ◌≤◌, ◌⊎◌, Option, Some, None, List, Contains}
-use Rattle.shop_model.specs.Shop.{Shop, Starts, end_of}
-use Rattle.shop_model.specs.Word.{IsWord, IsFull, IsUnder}
+use Rattle.shop_model.specs.{Shop.{Shop, Starts, end_of}, Word.{IsWord, IsFull, IsUnder}}
 use Rattle.shop_bound.specs.Bound.{lb}
-use Rattle.shop_nodes.specs.Branching.{branch}
-use Rattle.shop_nodes.specs.Walking.{Walk, sheet}
+use Rattle.shop_nodes.specs.{Branching.branch, Walking.{Walk, sheet}}
 
--- some table under one of the words ends no later
 pub record HasBetter (shop : Shop) (words : List (List ℕ)) (starts : Starts) : Type 0 where
   pub word : List ℕ
   pub member : Contains words word
@@ -31,8 +23,7 @@ pub record HasBetterChild (shop : Shop) (w : List ℕ) (starts : Starts) : Type 
 
 -- each table under w has one under some child that ends no later
 abbrev pub HaveBetterChildren : Shop → List ℕ → List (List ℕ) → Type 0
-HaveBetterChildren shop w children = (starts : Starts) → IsUnder shop w starts
-    → HasBetter shop children starts
+HaveBetterChildren shop w children = (starts : Starts) → IsUnder shop w starts → HasBetter shop children starts
 
 -- each table under a word that isn't full has a better child
 abbrev pub LosesNoTable : Type 0
@@ -54,8 +45,7 @@ pub record KeepsPiece (shop : Shop) (piece : List (List ℕ)) (opening : ℕ) (s
   pub found : IsBestOf shop opening s.best s.found
   pub best : s.best ≤ opening
   pub left : AreWords shop s.left
-  -- each table under a word of the piece ends at the best or later, or no earlier than one under a
-  -- word left
+  -- each table under a word of the piece ends at the best or later, or no earlier than one under a word left
   pub tables : (starts : Starts) → HasBetter shop piece starts → (s.best ≤ end_of shop starts)
       ⊎ HasBetter shop s.left starts
 

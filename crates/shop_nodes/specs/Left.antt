@@ -6,11 +6,8 @@
 use Rattle.std.specs.Prelude.{ℕ, Option, List, ◌++◌, map}
 use Rattle.shop_model.specs.Shop.{Shop}
 use Rattle.shop_bound.specs.Bound.{lb}
-use Rattle.shop_nodes.specs.Halts.{halted_words, AreHalted}
-use Rattle.shop_nodes.specs.Nodes.{words_of, AreNodes}
-use Rattle.shop_nodes.specs.Pieces.{words_below}
-use Rattle.shop_nodes.specs.declared.halts.Halt.{Halt}
-use Rattle.shop_nodes.specs.declared.nodes.Node.{Node}
+use Rattle.shop_nodes.specs.{Halts.{halted_words, AreHalted}, Nodes.{words_of, AreNodes}, Pieces.words_below}
+use Rattle.shop_nodes.specs.{declared.halts.Halt.Halt, declared.nodes.Node.Node}
 
 pub record Leaving : Type 0 where
   pub shop : Shop

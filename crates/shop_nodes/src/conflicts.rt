@@ -2,7 +2,7 @@
 ghost use Rattle.std.specs.Prelude.{◌≡◌, IfOk};
 ghost use Rattle.shop_model.specs.Word.{IsWord, IsFull};
 ghost use Rattle.shop_nodes.specs.Branching.{conflict as conflict_set};
-ghost use Rattle.shop_nodes.specs.inner.Choosing.{IsChosen, IsNextOf, conflicting_with};
+ghost use Rattle.shop_nodes.specs.inner.Choosing.{IsNext, IsChosen, placing_of, conflicting_with};
 
 use crate::next_operations::{NextOperation, Placed};
 use shop_model::{Instance, Placement, Word};
@@ -34,7 +34,7 @@ fn conflicting(
     placed: &Placed,
     chosen: NextOperation,
 ) -> Result<Vec<usize>, NoMemory>
-    requires { IsNextOf placed.now chosen.job chosen }
+    requires { IsNext placed.now.instance.now (placing_of placed.now) chosen.job chosen }
     ensures { IfOk result (λ v. v.items ≡ conflicting_with placed.now chosen.job) }
 {
     let mut jobs = Vec::new(alloc);

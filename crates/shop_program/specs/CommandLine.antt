@@ -1,30 +1,21 @@
 -- The command line, in clap's words of a simple command.
---     command_line formats orders      the command: what a parse reads of it
---     IsLineOf words args              the arguments are those that clap reads of the words by
---                                      this command
---     IsUnread words                   there are none
-use Rattle.std.specs.Prelude.{◌≡◌, ◌≤◌, ◌⊎◌, ℕ, true, false, Bool, List, [], ◌∷◌, Option, Some, map}
-use Rattle.std.specs.Prelude.{codes, option_map, string_bytes}
-use Rattle.std.specs.Str.Parse.{IsNumeral, digits_value, without_leading_plus}
-use Rattle.clap.specs.Words.{App, Row, Rule, Text, app_of, first_of, one_of, new_app}
-use Rattle.clap.specs.Words.{new_rule, subcommand_of, takes, with_rule, with_subcommand}
-use Rattle.clap.specs.declared.builder.action.ArgAction.TheVariants.{SetTrue}
-use Rattle.clap.specs.declared.builder.command.Command.{Command}
-use Rattle.clap.specs.declared.builder.command.Command.TheViews.{out-Command}
+--     command_line formats orders  the command: what a parse reads of it
+--     IsLineOf words args          the arguments are those that clap reads of the words by this command
+--     IsUnread words               there are none
+use Rattle.std.specs.Prelude.{◌≡◌, ◌≤◌, ◌⊎◌, ℕ, true, false, Bool, List, [], ◌∷◌, Option, Some, map, codes, option_map}
+use Rattle.std.specs.{Prelude.string_bytes, Str.Parse.{IsNumeral, digits_value, without_leading_plus}}
+use Rattle.clap.specs.Words.{App, Row, Rule, Text, app_of, first_of, one_of, new_app, new_rule, subcommand_of, takes}
+use Rattle.clap.specs.{Words.{with_rule, with_subcommand}, declared.builder.action.ArgAction.TheVariants.SetTrue}
+use Rattle.clap.specs.{declared.builder.command.Command.Command, declared.builder.command.Command.TheViews.out-Command}
 use Rattle.clap.specs.declared.builder.value_parser.ValueParser.{ValueParser}
 use Rattle.clap.specs.declared.builder.value_parser.ValueParser.TheVariants.{Unsigned, Names}
 use Rattle.shop_runs.specs.Limits.{IsPlanWithin}
-use Rattle.shop_runs.specs.declared.plans.TheConstants.{MAX_ROUNDS, MAX_BUDGET, MAX_PIECE}
-use Rattle.shop_runs.specs.Orders.{order_word}
-use Rattle.shop_runs.specs.declared.plans.Order.TheVariants.{Kept, Bound}
-use Rattle.shop_runs.specs.declared.plans.Plan.{Plan}
-use Rattle.shop_runs.specs.declared.plans.TheConstants.{MAX_WORKERS}
-use Rattle.shop_text.specs.Formats.{word_of}
-use Rattle.shop_text.specs.declared.formats.Format.TheVariants.{Orlib, Taillard, Routes}
-use Rattle.shop_program.specs.declared.line_faults.LineFault.{LineFault}
-use Rattle.shop_program.specs.declared.line_faults.LineFault.TheVariants.{NoMemory, Usage}
-use Rattle.shop_program.specs.declared.arguments.Args.{Args}
+use Rattle.shop_runs.specs.declared.plans.TheConstants.{MAX_ROUNDS, MAX_BUDGET, MAX_PIECE, MAX_WORKERS}
+use Rattle.shop_runs.specs.{Orders.order_word, declared.plans.Order.TheVariants.{Kept, Bound}, declared.plans.Plan.Plan}
+use Rattle.shop_text.specs.{Formats.word_of, declared.formats.Format.TheVariants.{Orlib, Taillard, Routes}}
 use Rattle.shop_program.specs.declared.arguments.Args.TheVariants.{List as ListNames, Check, Solve}
+use Rattle.shop_program.specs.declared.line_faults.LineFault.TheVariants.{NoMemory, Usage}
+use Rattle.shop_program.specs.{declared.line_faults.LineFault.LineFault, declared.arguments.Args.Args}
 
 -- ---- the command
 

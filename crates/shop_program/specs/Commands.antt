@@ -1,20 +1,10 @@
 -- What `list` and `check` do to standard input and output.
---     Streams                                 standard input and output
---     Opens                                   what opening a path may give
---     IsRunOn opens file old new result Runs  a command was run on the text of FILE
---     ListsFrom, ChecksFrom                   what a command did to a source and a sink, with its
---                                             status
-use Rattle.std.specs.Prelude.{◌≡◌, ℕ, ◌⊎◌, Bool, List, Option, Some, None, Result, Ok, Err}
-use Rattle.std.specs.Prelude.{string_bytes}
-use Rattle.std.specs.declared.string.String.{String}
-use Rattle.std.specs.declared.alloc.Global.{Global}
-use Rattle.shop_engine.specs.declared.args.ListArgs.{ListArgs}
-use Rattle.shop_engine.specs.declared.args.CheckArgs.{CheckArgs}
-use Rattle.shop_engine.specs.declared.faults.Fault.{Fault}
-use Rattle.shop_engine.specs.declared.faults.Fault.TheVariants.{ReadFailed}
-use Rattle.shop_engine.specs.Devices.{Device}
-use Rattle.shop_engine.specs.Listing.{IsListing}
-use Rattle.shop_engine.specs.Checking.{IsChecking}
+--     ListsFrom, ChecksFrom  what a command did to a source and a sink, with its status
+use Rattle.std.specs.Prelude.{◌≡◌, ℕ, ◌⊎◌, Bool, List, Option, Some, None, Result, Ok, Err, string_bytes}
+use Rattle.std.specs.{declared.string.String.String, declared.alloc.Global.Global}
+use Rattle.shop_engine.specs.{declared.args.ListArgs.ListArgs, declared.args.CheckArgs.CheckArgs}
+use Rattle.shop_engine.specs.{declared.faults.Fault.Fault, declared.faults.Fault.TheVariants.ReadFailed, Devices.Device}
+use Rattle.shop_engine.specs.{Listing.IsListing, Checking.IsChecking}
 use Rattle.shop_program.specs.Statuses.{status_of_verdict}
 
 -- standard input and standard output

@@ -2,17 +2,11 @@
 -- opening a path may give.
 use Rattle.std.specs.Prelude.{◌≡◌, ℕ, ◌⊎◌, List, Result, Ok, Err}
 use Rattle.clap.specs.Words.{Text}
-use Rattle.shop_engine.specs.declared.args.SolveArgs.{SolveArgs}
-use Rattle.shop_engine.specs.declared.faults.Fault.{Fault}
-use Rattle.shop_engine.specs.Devices.{Device}
-use Rattle.shop_engine.specs.Asking.{name_in}
-use Rattle.shop_engine.specs.Headline.{IsRightOf, IsDeterminedOf, WhereKnown}
-use Rattle.shop_engine.specs.Solving.{IsSolving}
-use Rattle.shop_program.specs.CommandLine.{IsLineOf, IsUnread}
-use Rattle.shop_program.specs.declared.arguments.Args.{Args}
+use Rattle.shop_engine.specs.{declared.args.SolveArgs.SolveArgs, declared.faults.Fault.Fault, Devices.Device}
+use Rattle.shop_engine.specs.{Asking.name_in, Headline.{IsRightOf, IsDeterminedOf, WhereKnown}, Solving.IsSolving}
+use Rattle.shop_program.specs.{CommandLine.{IsLineOf, IsUnread}, declared.arguments.Args.Args}
 use Rattle.shop_program.specs.declared.arguments.Args.TheVariants.{List as ListNames, Check, Solve}
-use Rattle.shop_program.specs.Statuses.{status_of}
-use Rattle.shop_program.specs.Commands.{Streams, Opens, IsRunOn, ListsFrom, ChecksFrom}
+use Rattle.shop_program.specs.{Statuses.status_of, Commands.{Streams, Opens, IsRunOn, ListsFrom, ChecksFrom}}
 
 -- what `solve` did to a source and a sink
 pub record HasSolved (args : SolveArgs) (sink sink' : Device) (result : Result (Unit {0}) Fault)
@@ -76,5 +70,4 @@ pub record IsWordless (old new : Streams) (status : ℕ) : Type 0 where
 
 -- and on some words
 abbrev pub IsStart : Opens → Streams → Streams → ℕ → Type 0
-IsStart opens old new status =
-    IsWordless old new status ⊎ ((words : List Text) × IsEnd opens words old new status)
+IsStart opens old new status = IsWordless old new status ⊎ ((words : List Text) × IsEnd opens words old new status)

@@ -1,8 +1,8 @@
 -- Exit statuses: 0 done, 1 an infeasible schedule, 2 a faulty command line or a call for help, 3 a
 -- text that is refused, 4 a device that failed, 5 want of memory.
+use Rattle.shop_engine.specs.declared.faults.Fault.TheVariants as engine
 use Rattle.std.specs.Prelude.{ℕ, Bool, true, false}
 use Rattle.shop_engine.specs.declared.faults.Fault.{Fault}
-use Rattle.shop_engine.specs.declared.faults.Fault.TheVariants as engine
 use Rattle.shop_program.specs.declared.line_faults.LineFault.{LineFault}
 use Rattle.shop_program.specs.declared.line_faults.LineFault.TheVariants.{NoMemory, Usage}
 

@@ -1,8 +1,7 @@
 -- The answer of a plan: what stands after its rounds.
 use Rattle.std.specs.Prelude.{ℕ, zero, suc, List, [], ◌∷◌}
 use Rattle.shop_model.specs.Shop.{Shop}
-use Rattle.shop_runs.specs.Plans.{Planned}
-use Rattle.shop_runs.specs.Round.{Stand, least_bound, round, opening, makespan_of}
+use Rattle.shop_runs.specs.{Plans.Planned, Round.{Stand, least_bound, round, opening, makespan_of}}
 
 -- what stands after n rounds, or as soon as nothing is open
 abbrev pub unless_closed : List (List ℕ) → Stand → (Stand → Stand) → Stand

@@ -1,18 +1,12 @@
 -- What an entry of a round says.
-use Rattle.std.specs.Prelude.{◌≡◌, ℕ, ◌<◌, Bool, true, [], length, slice_index_or, ◌==◌}
 use Rattle.std.proofs.Props.{props}
-use Rattle.shop_runs.specs.Round.{Told, sheet_in}
-use Rattle.shop_nodes.specs.Nodes.{words_of}
-use Rattle.shop_runs.specs.Nodes.{told_of}
-use Rattle.shop_nodes.specs.declared.sheets.Sheet.{Sheet}
-use Rattle.shop_runs.specs.declared.entries.Kind.{Kind}
-use Rattle.shop_runs.specs.declared.entries.Kind.TheVariants.{Done, Passed}
-use Rattle.shop_runs.specs.declared.rounds.Round.{Round}
+use Rattle.std.specs.Prelude.{◌≡◌, ℕ, ◌<◌, Bool, true, [], length, slice_index_or, ◌==◌}
+use Rattle.shop_runs.specs.{Round.{Told, sheet_in}, Nodes.told_of, declared.entries.Kind.Kind}
+use Rattle.shop_runs.specs.{declared.entries.Kind.TheVariants.{Done, Passed}, declared.rounds.Round.Round}
+use Rattle.shop_nodes.specs.{Nodes.words_of, declared.sheets.Sheet.Sheet}
 
 abbrev pub told : Round → Told
-told r =
-    told_of r.instance.now r.word r.best r.bound r.budget r.pieces.items r.rest.items r.rounds
-    r.nodes
+told r = told_of r.instance.now r.word r.best r.bound r.budget r.pieces.items r.rest.items r.rounds r.nodes
 
 -- the n-th piece ends at the opening bound
 abbrev pub is_hit : Told → ℕ → Bool
@@ -24,8 +18,7 @@ TellsHit r n s = is_hit r n ≡ (s.makespan == r.bound)
 
 -- the sheet is of a piece of the round, from its instance, opening best and budget
 abbrev pub IsOf : Told → Sheet → Type 0
-IsOf r s = (s.instance.now ≡ r.shop) × (s.best ≡ r.best) × (s.budget ≡ r.budget)
-    × (s.number < length r.pieces)
+IsOf r s = (s.instance.now ≡ r.shop) × (s.best ≡ r.best) × (s.budget ≡ r.budget) × (s.number < length r.pieces)
     × (words_of s.piece.now.nodes.items ≡ slice_index_or r.pieces s.number [])
 
 -- a piece of the round that a lower one, which ends at the opening bound, lets pass

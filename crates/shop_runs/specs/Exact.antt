@@ -1,12 +1,7 @@
 -- A search is exact: with enough rounds it ends, and with more rounds its makespan is no greater.
---     with_rounds plan n           the plan, with n rounds
---     IsSolved shop s              no word is open, and the makespan is least
---     SearchesEnd, MoreRoundsAreNoWorse, SolvedStays      the laws
 use Rattle.std.specs.Prelude.{◌≡◌, ℕ, ◌≤◌, []}
 use Rattle.shop_model.specs.Shop.{Shop, IsLeast}
-use Rattle.shop_runs.specs.Plans.{Planned}
-use Rattle.shop_runs.specs.Round.{Stand, makespan_of}
-use Rattle.shop_runs.specs.Answers.{answer}
+use Rattle.shop_runs.specs.{Plans.Planned, Round.{Stand, makespan_of}, Answers.answer}
 
 -- the plan, with n rounds
 abbrev pub with_rounds : Planned → ℕ → Planned
@@ -25,11 +20,9 @@ SearchesEnd = (shop : Shop) (plan : Planned) → 1 ≤ plan.budget → 1 ≤ pla
 -- more rounds never end at a greater makespan
 abbrev pub MoreRoundsAreNoWorse : Type 0
 MoreRoundsAreNoWorse = (shop : Shop) (plan : Planned) (n m : ℕ) → n ≤ m
-    → makespan_of shop (answer shop (with_rounds plan m))
-    ≤ makespan_of shop (answer shop (with_rounds plan n))
+    → makespan_of shop (answer shop (with_rounds plan m)) ≤ makespan_of shop (answer shop (with_rounds plan n))
 
 -- once no word is open, further rounds change nothing
 abbrev pub SolvedStays : Type 0
-SolvedStays = (shop : Shop) (plan : Planned) (n m : ℕ) → n ≤ m
-    → (answer shop (with_rounds plan n)).open_words ≡ []
+SolvedStays = (shop : Shop) (plan : Planned) (n m : ℕ) → n ≤ m → (answer shop (with_rounds plan n)).open_words ≡ []
     → answer shop (with_rounds plan m) ≡ answer shop (with_rounds plan n)

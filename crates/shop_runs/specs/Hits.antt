@@ -1,14 +1,10 @@
 -- Which pieces of a round end at the opening bound, in number order.
---     hits_of_round r     for each piece whether it ends at the opening bound
---     is_hit_in hits n    piece n ends at the opening bound
---     IsHitOrEnd hits n   n is the number of a piece that does, or the number of all pieces
---     IsLeastHit hits n   n is the least number of a piece that does; where none does, the number
---                         of all pieces
-use Rattle.std.specs.Prelude.{◌≡◌, ℕ, ◌<◌, ◌≤◌, List, length, map, Bool, true, false, ◌==◌, ◌⊎◌}
-use Rattle.std.specs.Prelude.{slice_index_or}
-use Rattle.shop_runs.specs.Round.{Told, sheet_in}
-use Rattle.shop_runs.specs.Entries.{told}
-use Rattle.shop_runs.specs.declared.rounds.Round.{Round}
+--     hits_of_round r    for each piece whether it ends at the opening bound
+--     is_hit_in hits n   piece n ends at the opening bound
+--     IsHitOrEnd hits n  n is the number of a piece that does, or the number of all pieces
+--     IsLeastHit hits n  n is the least number of a piece that does; where none does, the number of all pieces
+use Rattle.std.specs.Prelude.{◌≡◌, ℕ, ◌<◌, ◌≤◌, List, length, map, Bool, true, false, ◌==◌, ◌⊎◌, slice_index_or}
+use Rattle.shop_runs.specs.{Round.{Told, sheet_in}, Entries.told, declared.rounds.Round.Round}
 
 abbrev pub hits_in : Told → List Bool
 hits_in r = map (λ piece. (sheet_in r piece).best == r.bound) r.pieces

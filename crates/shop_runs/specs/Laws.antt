@@ -1,18 +1,12 @@
 -- No optimum is lost through the rounds.
---     IsStanding shop s      the best word is full, the open ones are words, and their bounds are
---                            below the makespan
---     IsRound r              the opening best is full, all are words, and the opening bound is at
---                            most each of their bounds
---     PiecesAreAll, OpeningCovers, CutsCover, GatheringCovers, RoundsKeepTheCover,
---     CountsStaySmall        the laws
+--     IsStanding shop s  the best word is full, the open ones are words, and their bounds are below the makespan
+--     IsRound r          the opening best is full, all are words, and the opening bound is at most each of their bounds
 use Rattle.std.specs.Prelude.{◌≡◌, ℕ, ◌+◌, ◌*◌, ◌<◌, ◌≤◌, List, ◌++◌, length, flat_map, Contains}
-use Rattle.shop_model.specs.Shop.{Shop}
-use Rattle.shop_model.specs.Word.{IsFull}
+use Rattle.shop_model.specs.{Shop.Shop, Word.IsFull}
 use Rattle.shop_bound.specs.Bound.{lb}
 use Rattle.shop_nodes.specs.Laws.{AreWords}
-use Rattle.shop_runs.specs.Plans.{Planned}
-use Rattle.shop_runs.specs.Round.{Stand, Told, pieces_of, rest_of, words_of_round, cut_of}
-use Rattle.shop_runs.specs.Round.{gathered, round, opening, makespan_of, Covers}
+use Rattle.shop_runs.specs.{Plans.Planned, Round.{Stand, Told, pieces_of, rest_of, words_of_round, cut_of, gathered}}
+use Rattle.shop_runs.specs.Round.{round, opening, makespan_of, Covers}
 
 pub record IsStanding (shop : Shop) (s : Stand) : Type 0 where
   pub full : IsFull shop s.word
@@ -44,8 +38,7 @@ CoversInRound r = IsRound r × Covers r.shop r.best (words_of_round r)
 
 -- what is cut from a standing that covers does so, in either order
 abbrev pub CutsCover : Type 0
-CutsCover = (shop : Shop) (plan : Planned) (s : Stand) → StandsCovering shop s
-    → CoversInRound (cut_of shop plan s)
+CutsCover = (shop : Shop) (plan : Planned) (s : Stand) → StandsCovering shop s → CoversInRound (cut_of shop plan s)
 
 -- what is gathered of a round that covers does so
 abbrev pub GatheringCovers : Type 0

@@ -1,7 +1,6 @@
 -- The limits of a plan, and of what a run counts.
 use Rattle.std.specs.Prelude.{ℕ, ◌*◌, ◌≤◌}
-use Rattle.shop_runs.specs.declared.plans.TheConstants.{MAX_BUDGET, MAX_PIECE, MAX_PIECES}
-use Rattle.shop_runs.specs.declared.plans.TheConstants.{MAX_ROUNDS}
+use Rattle.shop_runs.specs.declared.plans.TheConstants.{MAX_BUDGET, MAX_PIECE, MAX_PIECES, MAX_ROUNDS}
 
 -- 0 to 100,000 rounds, budgets from 1 to 10,000,000, pieces from 1 to 1,000
 abbrev pub IsPlanWithin : ℕ → ℕ → ℕ → Type 0

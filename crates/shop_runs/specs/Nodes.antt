@@ -1,9 +1,7 @@
 -- A round as contracts see it, by its fields.
 use Rattle.std.specs.Prelude.{ℕ, ◌+◌, ◌&&◌, Bool, true, List, [], ◌∷◌, map, All, ◌==◌}
 use Rattle.shop_model.specs.Shop.{Shop}
-use Rattle.shop_nodes.specs.Nodes.{words_of, AreNodes}
-use Rattle.shop_nodes.specs.declared.nodes.Node.{Node}
-use Rattle.shop_nodes.specs.declared.pieces.Piece.{Piece}
+use Rattle.shop_nodes.specs.{Nodes.{words_of, AreNodes}, declared.nodes.Node.Node, declared.pieces.Piece.Piece}
 use Rattle.shop_runs.specs.Round.{Told}
 
 -- the words of each piece

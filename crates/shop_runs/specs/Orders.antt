@@ -1,7 +1,6 @@
 -- The words of orders.
 use Rattle.std.specs.Prelude.{◌≢◌, List, ℕ, codes}
-use Rattle.shop_runs.specs.declared.plans.Order.{Order}
-use Rattle.shop_runs.specs.declared.plans.Order.TheVariants.{Kept, Bound}
+use Rattle.shop_runs.specs.{declared.plans.Order.Order, declared.plans.Order.TheVariants.{Kept, Bound}}
 
 -- the word for an order on the command line
 abbrev pub order_word : Order → List ℕ

@@ -1,7 +1,6 @@
 -- A plan as its numbers and its order.
 use Rattle.std.specs.Prelude.{◌≡◌, ℕ}
-use Rattle.shop_runs.specs.declared.plans.Order.{Order}
-use Rattle.shop_runs.specs.declared.plans.Plan.{Plan}
+use Rattle.shop_runs.specs.{declared.plans.Order.Order, declared.plans.Plan.Plan}
 
 pub record Planned : Type 0 where
   pub rounds : ℕ

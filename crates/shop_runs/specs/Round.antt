@@ -1,18 +1,13 @@
--- Rounds of a branch and bound over words, whose plan of pieces, budgets and rounds is this
--- project's own.
-use Rattle.std.specs.Prelude.{ℕ, zero, suc, ◌+◌, ◌-◌, ◌*◌, ◌≤◌, ◌⊎◌, min, Bool, true, false, Option}
-use Rattle.std.specs.Prelude.{Some, None, List, [], ◌∷◌, ◌++◌, take, drop, map, sum_by}
-use Rattle.std.specs.Prelude.{fold, flat_map, nat_lt, ◌==◌, if◌then◌else◌, unwrap_or}
-use Rattle.shop_model.specs.Shop.{Shop, Starts, end_of, IsFeasible}
-use Rattle.shop_model.specs.Word.{start_jobs}
-use Rattle.shop_bound.specs.Bound.{lb}
-use Rattle.shop_nodes.specs.Branching.{sort_by}
+-- Rounds of a branch and bound over words, whose plan of pieces, budgets and rounds is this project's own.
 pub use Rattle.shop_nodes.specs.Pieces.{words_below}
-use Rattle.shop_nodes.specs.Walking.{Walk, sheet}
-use Rattle.shop_nodes.specs.Laws.{HasBetter}
 pub use Rattle.shop_runs.specs.Plans.{Planned}
-use Rattle.shop_runs.specs.declared.plans.TheConstants.{MAX_PIECES}
-use Rattle.shop_runs.specs.declared.plans.Order.{Order}
+use Rattle.std.specs.Prelude.{ℕ, zero, suc, ◌+◌, ◌-◌, ◌*◌, ◌≤◌, ◌⊎◌, min, Bool, true, false, Option, Some, None, List}
+use Rattle.std.specs.Prelude.{[], ◌∷◌, ◌++◌, take, drop, map, sum_by, fold, flat_map, nat_lt, ◌==◌, if◌then◌else◌}
+use Rattle.std.specs.Prelude.{unwrap_or}
+use Rattle.shop_model.specs.{Shop.{Shop, Starts, end_of, IsFeasible}, Word.start_jobs}
+use Rattle.shop_bound.specs.Bound.{lb}
+use Rattle.shop_nodes.specs.{Branching.sort_by, Walking.{Walk, sheet}, Laws.HasBetter}
+use Rattle.shop_runs.specs.{declared.plans.TheConstants.MAX_PIECES, declared.plans.Order.Order}
 use Rattle.shop_runs.specs.declared.plans.Order.TheVariants.{Kept, Bound}
 
 -- Where a run stands: the best word, the open words, the rounds done and the nodes counted.

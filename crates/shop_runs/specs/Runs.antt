@@ -1,14 +1,9 @@
 -- Answers of a run.
-use Rattle.std.specs.Prelude.{◌≡◌, length}
-use Rattle.shop_model.specs.Shop.{Shop, IsFeasible, end_of}
-use Rattle.shop_model.specs.Checking.{HasShape, starts_of}
-use Rattle.shop_model.specs.Word.{placed, rows_of}
 pub use Rattle.shop_runs.specs.Plans.{planned, IsPlanMadeOf}
-use Rattle.shop_runs.specs.declared.plans.Plan.{Plan}
-use Rattle.shop_runs.specs.Round.{Stand, makespan_of}
-use Rattle.shop_runs.specs.Answers.{answer, bound_of}
-use Rattle.shop_runs.specs.Trust.{IsTrustworthy}
-use Rattle.shop_runs.specs.declared.runs.Answer.{Answer}
+use Rattle.std.specs.Prelude.{◌≡◌, length}
+use Rattle.shop_model.specs.{Shop.{Shop, IsFeasible, end_of}, Checking.{HasShape, starts_of}, Word.{placed, rows_of}}
+use Rattle.shop_runs.specs.{declared.plans.Plan.Plan, Round.{Stand, makespan_of}, Answers.{answer, bound_of}}
+use Rattle.shop_runs.specs.{Trust.IsTrustworthy, declared.runs.Answer.Answer}
 
 -- the answer says what stands
 pub record Says (shop : Shop) (s : Stand) (a : Answer) : Type 0 where

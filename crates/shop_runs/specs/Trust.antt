@@ -1,16 +1,10 @@
 -- What an answer says of all tables.
---     IsTrustworthy ..           what the answer says of all tables is so
---     AnswersAreTrustworthy      the law
 use Rattle.std.specs.Prelude.{◌≡◌, ℕ, ◌≤◌, List, length}
-use Rattle.shop_model.specs.Shop.{Shop, Starts, IsFeasible, end_of, IsLeast}
-use Rattle.shop_model.specs.Word.{placed, IsFull}
-use Rattle.shop_runs.specs.Plans.{Planned}
-use Rattle.shop_runs.specs.Round.{makespan_of}
-use Rattle.shop_runs.specs.Answers.{answer, bound_of}
+use Rattle.shop_model.specs.{Shop.{Shop, Starts, IsFeasible, end_of, IsLeast}, Word.{placed, IsFull}}
+use Rattle.shop_runs.specs.{Plans.Planned, Round.makespan_of, Answers.{answer, bound_of}}
 
 -- what an answer says of all tables is so
-pub record IsTrustworthy (shop : Shop) (word : List ℕ) (makespan lower open_nodes : ℕ)
-    : Type 0 where
+pub record IsTrustworthy (shop : Shop) (word : List ℕ) (makespan lower open_nodes : ℕ) : Type 0 where
   -- the word is full, and its table is feasible and ends at the makespan
   pub full : IsFull shop word
   pub feasible : IsFeasible shop (placed shop word)

@@ -1,6 +1,5 @@
 pub mod NodeLists
 pub mod Outcomes
-pub mod Closing
 pub mod KeptStacks
 pub mod OpenNodes
 pub mod BoundRows

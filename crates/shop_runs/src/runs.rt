@@ -31,9 +31,10 @@ pub(crate) struct OpenRun {
 
 impl OpenRun {
     ghost use Rattle.shop_runs.specs.Standings.{IsStandingOf, stands};
-    ghost use Rattle.shop_runs.specs.inner.Searches.{IsSearchAt, IsSearchOf, IsFront};
-    ghost use Rattle.shop_runs.specs.inner.Closing.{IsNextSearch};
-    ghost use Rattle.shop_runs.specs.inner.Closing.{IsAtAnswer};
+    ghost use Rattle.shop_runs.specs.inner.Searches.{stand_of, IsSearchAt, IsSearchOf, IsFront};
+    ghost use Rattle.shop_runs.specs.Plans.{planned};
+    ghost use Rattle.shop_runs.specs.Round.{round as next_round};
+    ghost use Rattle.shop_runs.specs.Answers.{answer as answer_of_plan};
 
     /// Makes the run at `standing`, whose open nodes it stores in `order`. Fails with `NoMemory` if memory runs out.
     pub(crate) fn of(
@@ -112,7 +113,8 @@ impl OpenRun {
         requires layout { IfSome kept (λ l. l ≡ instance.now) }
         requires rounds { self.rounds < plan.now.rounds }
         requires search { IsSearchOf instance.now plan.now.order self }
-        ensures next { IfOk result (λ p. IsNextSearch instance.now plan.now self p.0) }
+        ensures next { IfOk result (λ p. IsSearchAt instance.now plan.now.order
+            (next_round instance.now (planned plan.now) (stand_of self)) p.0) }
         ensures layout { IfOk result (λ p. p.1 ≡ instance.now) }
     {
         let opening = self.makespan;
@@ -154,7 +156,8 @@ impl OpenRun {
         crew: &mut C,
     ) -> Result<OpenRun, NoMemory>
         requires { C.ready }
-        ensures { IfOk result (λ t. IsAtAnswer instance.now plan.now t) }
+        ensures { IfOk result (λ t. IsSearchAt instance.now plan.now.order
+            (answer_of_plan instance.now (planned plan.now)) t) }
     {
         let start = Standing::start(alloc, instance)?;
         let mut search = OpenRun::of(alloc, instance, plan.order, start)?;

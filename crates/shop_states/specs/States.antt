@@ -1,21 +1,17 @@
 -- What a state of a word is known by.
---     IsOfSomeWord P                 P holds of some word
---     HasSoleCandidate shop P job    P holds of some word whose conflict set is one job
---     CanDispatch shop P job bound   P holds of some word, which can go on with the job and has this
---                                    bound
---     HasListed shop P is cs bound   P holds of some word of this bound, whose candidates with own
---                                    numbers below some limit these are
---     Settles shop w bound top cs    the child by a candidate is bounded by the greater of the word's
---                                    bound and its own number, where `top` is no more than that
---     TellsBoundBelow limit bound    the bound where it is below the limit, and else nothing
---     ListsBelow shop w limit is     the candidates of a conflict set, in order, but for n jobs with
---                                    which the bound reaches the limit
-use Rattle.std.specs.Prelude.{◌≡◌, ◌≤◌, ◌<◌, ℕ, zero, suc, max, Option, Some, None, List, [], ◌∷◌}
-use Rattle.std.specs.Prelude.{◌++◌, All}
-use Rattle.shop_model.specs.Shop.{Shop}
-use Rattle.shop_model.specs.Word.{IsWord}
-use Rattle.shop_bound.specs.Bound.{lb}
-use Rattle.shop_bound.specs.Conflicts.{conflict}
+--     IsOfSomeWord P                P holds of some word
+--     HasSoleCandidate shop P job   P holds of some word whose conflict set is one job
+--     CanDispatch shop P job bound  P holds of some word, which can go on with the job and has this bound
+--     HasListed shop P is cs bound  P holds of some word of this bound, whose candidates with own numbers below some
+--                                   limit these are
+--     Settles shop w bound top cs   the child by a candidate is bounded by the greater of the word's bound and its own
+--                                   number, where `top` is no more than that
+--     TellsBoundBelow limit bound   the bound where it is below the limit, and else nothing
+--     ListsBelow shop w limit is    the candidates of a conflict set, in order, but for n jobs with which the bound
+--                                   reaches the limit
+use Rattle.std.specs.Prelude.{◌≡◌, ◌≤◌, ◌<◌, ℕ, zero, suc, max, Option, Some, None, List, [], ◌∷◌, ◌++◌, All}
+use Rattle.shop_model.specs.{Shop.Shop, Word.IsWord}
+use Rattle.shop_bound.specs.{Bound.lb, Conflicts.conflict}
 use Rattle.shop_states.specs.declared.dispatching.Candidate.{Candidate}
 
 pub record IsOfSomeWord (P : List ℕ → Type 0) : Type 0 where
@@ -33,12 +29,10 @@ pub record CanDispatch (shop : Shop) (P : List ℕ → Type 0) (job bound : ℕ)
   pub fits : IsWord shop (word ++ job ∷ [])
   pub bound_is : bound ≡ lb shop word
 
--- the bound if it is below the limit
 abbrev pub TellsBoundBelow : ℕ → ℕ → Option ℕ → Type 0
 TellsBoundBelow limit bound (Some b) = (b ≡ bound) × (b < limit)
 TellsBoundBelow limit bound None = limit ≤ bound
 
--- each job is listed, or the bound of the word that goes on with it reaches the limit
 pub data ListsBelow (shop : Shop) (word : List ℕ) (limit : ℕ) (is : Candidate → Type 0)
     : List ℕ → List Candidate → ℕ → Type 0 where
   none : ListsBelow shop word limit is [] [] zero
@@ -47,7 +41,6 @@ pub data ListsBelow (shop : Shop) (word : List ℕ) (limit : ℕ) (is : Candidat
   closed : {js : List ℕ} {cs : List Candidate} {n : ℕ} (j : ℕ) → limit ≤ lb shop (word ++ j ∷ [])
       → ListsBelow shop word limit is js cs n → ListsBelow shop word limit is (j ∷ js) cs (suc n)
 
--- some word's candidates
 pub record HasListed (shop : Shop) (P : List ℕ → Type 0) (is : List ℕ → Candidate → Type 0)
     (cs : List Candidate) (bound : ℕ) : Type 0 where
   pub word : List ℕ
@@ -58,5 +51,4 @@ pub record HasListed (shop : Shop) (P : List ℕ → Type 0) (is : List ℕ → 
   pub bound_is : bound ≡ lb shop word
 
 abbrev pub Settles : Shop → List ℕ → ℕ → ℕ → List Candidate → Type 0
-Settles shop w bound top cs = All (λ c. top ≤ max bound c.own
-    → lb shop (w ++ c.job ∷ []) ≡ max bound c.own) cs
+Settles shop w bound top cs = All (λ c. top ≤ max bound c.own → lb shop (w ++ c.job ∷ []) ≡ max bound c.own) cs

@@ -1,6 +1,6 @@
 // Lists a word's candidates: the jobs of its conflict set, each with a lower bound of the word extended by that job.
 ghost use Rattle.std.specs.Prelude.{◌≡◌, ℕ, ◌+◌, ◌*◌, ◌^◌, ◌≤◌, ◌<◌, List, [], ◌∷◌, ◌++◌, length, map};
-ghost use Rattle.std.specs.Prelude.{slice_index, vec_capacity};
+ghost use Rattle.std.specs.Prelude.{vec_capacity};
 ghost use Rattle.shop_model.specs.Shop.{Shop};
 ghost use Rattle.shop_states.specs.inner.Candidates.{AreCandidatesOf, CanGather, CanList};
 ghost use Rattle.shop_states.specs.inner.Candidates.{IsChosenBy};

@@ -1,6 +1,6 @@
 // Places the operations of a word, in the order of its jobs. What is kept of a job is the index of its next leg (its
 // first unplaced operation, or the end of its route), since the legs of a route lie side by side in memory.
-ghost use Rattle.std.specs.Prelude.{◌≡◌, ℕ, ◌<◌, ◌≤◌, length, slice_index, take};
+ghost use Rattle.std.specs.Prelude.{◌≡◌, ◌≤◌, length, take};
 ghost use Rattle.shop_model.specs.Word.{IsWord, none_placed, placing};
 ghost use Rattle.shop_states.specs.inner.PlacedNexts.{AreBegun, IsPlacedAt};
 

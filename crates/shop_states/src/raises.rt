@@ -7,7 +7,7 @@ ghost use Rattle.shop_states.specs.inner.RaiseCalls.{CanRaise, HasRaised};
 ghost use Rattle.shop_states.specs.inner.Raises.{AreWaiting, HasBlocks, IsPosition, IsRaisable};
 ghost use Rattle.shop_states.specs.inner.Raises.{IsOnMachine, Raises, SetsEndAt};
 ghost use Rattle.shop_states.specs.inner.RisingLists.{IsIn};
-ghost use Rattle.shop_states.specs.inner.Watchers.{AreKnown, Notes, Sees, Watches, no_floor};
+ghost use Rattle.shop_states.specs.inner.Watchers.{AreKnown, Notes, Sees};
 ghost use Rattle.shop_states.specs.inner.MachineRaises.{AreListed};
 
 use crate::dispatches::{Dispatch, MOST_MARKED};

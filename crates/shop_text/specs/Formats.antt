@@ -1,20 +1,13 @@
--- The three formats: `orlib` (OR-Library, jobshop1), `routes` (the same with releases and routes of
--- any length), and `taillard` (two matrices, of times and of machines counted from 1; the bounds in
--- its size line are read past).
-use Rattle.std.specs.Prelude.{◌≢◌, ℕ, ◌-◌, ◌*◌, ◌%◌, Bool, true, false, not, ◌&&◌, ◌||◌, ◌==◌}
-use Rattle.std.specs.Prelude.{nat_le, nat_lt, if◌then◌else◌, List, [], ◌∷◌, length, map}
-use Rattle.std.specs.Prelude.{slice_index, take, drop, codes, Option, Some, None}
-use Rattle.std.specs.List.{list_all, zip}
-use Rattle.std.specs.Str.{bytes_eq}
-use Rattle.shop_model.specs.declared.limits.TheConstants.{MAX_JOBS, MAX_MACHINES, MAX_STEPS}
-use Rattle.shop_model.specs.declared.limits.TheConstants.{MAX_TIME}
-use Rattle.shop_model.specs.declared.ops.Op.{Op}
-use Rattle.shop_model.specs.Shop.{Shop, ShopJob}
-use Rattle.shop_text.specs.Lines.{Line, Words}
-use Rattle.shop_text.specs.declared.formats.Format.{Format}
+-- The three formats: `orlib` (OR-Library, jobshop1), `routes` (the same with releases and routes of any length), and
+-- `taillard` (two matrices, of times and of machines counted from 1; the bounds in its size line are read past).
+use Rattle.std.specs.Prelude.{◌≢◌, ℕ, ◌-◌, ◌*◌, ◌%◌, Bool, true, false, not, ◌&&◌, ◌||◌, ◌==◌, nat_le, nat_lt}
+use Rattle.std.specs.Prelude.{if◌then◌else◌, List, [], ◌∷◌, length, map, slice_index, take, drop, codes, Option, Some}
+use Rattle.std.specs.{Prelude.None, List.{list_all, zip}, Str.bytes_eq}
+use Rattle.shop_model.specs.declared.limits.TheConstants.{MAX_JOBS, MAX_MACHINES, MAX_STEPS, MAX_TIME}
+use Rattle.shop_model.specs.{declared.ops.Op.Op, Shop.{Shop, ShopJob}}
+use Rattle.shop_text.specs.{Lines.{Line, Words}, declared.formats.Format.Format}
 use Rattle.shop_text.specs.declared.formats.Format.TheVariants.{Orlib, Taillard, Routes}
-use Rattle.shop_text.specs.Grammar.{Row, Grammar, LineFault, WrongShape, WrongSize, WrongRow}
-use Rattle.shop_text.specs.Grammar.{WrongMachine, WrongTime}
+use Rattle.shop_text.specs.Grammar.{Row, Grammar, LineFault, WrongShape, WrongSize, WrongRow, WrongMachine, WrongTime}
 
 -- ---- names
 

@@ -1,23 +1,15 @@
--- The grammar of whole texts, over their numbered lines that aren't blank, and the one fault of
--- every other text. (The form is that of the OR-Library file jobshop1 and of the texts by
--- Taillard's name, in this project's own format.)
---     Entry, Part
---         a number line with the text lines before it; a part is a list of these
---     IsPart grammar part
---         the part is whole, and none of its lines is refused
---     IsGood grammar lines parts
---         the lines are these parts, one or more, and text lines alone after them
---     IsFault grammar last lines fault
---         the lines begin some list of parts, and the next line, or the end, is refused
-use Rattle.std.specs.Prelude.{◌≡◌, ℕ, ◌+◌, ◌<◌, ◌⊎◌, Bool, false, IsTrue, List, [], ◌∷◌, ◌++◌}
-use Rattle.std.specs.Prelude.{length, map, Option, Some, None, if◌then◌else◌}
-use Rattle.std.specs.List.{flat_map, AllByRecursion}
+-- The grammar of whole texts, over their numbered lines that aren't blank, and the one fault of every other text. (The
+-- form is that of the OR-Library file jobshop1 and of the texts by Taillard's name, in this project's own format.)
+--     Entry, Part                       a number line with the text lines before it; a part is a list of these
+--     IsPart grammar part               the part is whole, and none of its lines is refused
+--     IsGood grammar lines parts        the lines are these parts, one or more, and text lines alone after them
+--     IsFault grammar last lines fault  the lines begin some list of parts, and the next line, or the end, is refused
+use Rattle.std.specs.Prelude.{◌≡◌, ℕ, ◌+◌, ◌<◌, ◌⊎◌, Bool, false, IsTrue, List, [], ◌∷◌, ◌++◌, length, map, Option}
+use Rattle.std.specs.{Prelude.{Some, None, if◌then◌else◌}, List.{flat_map, AllByRecursion}}
 use Rattle.shop_model.specs.Shop.{Shop}
-use Rattle.shop_text.specs.Lines.{Line, Blank, Numbers, Words, Numbered}
-use Rattle.shop_text.specs.declared.faults.ReadFault.{ReadFault}
-use Rattle.shop_text.specs.declared.faults.ReadFault.TheVariants.{NoInstance, Truncated, BadShape}
-use Rattle.shop_text.specs.declared.faults.ReadFault.TheVariants.{BadSize, BadRow, BadMachine}
-use Rattle.shop_text.specs.declared.faults.ReadFault.TheVariants.{BadTime}
+use Rattle.shop_text.specs.{Lines.{Line, Blank, Numbers, Words, Numbered}, declared.faults.ReadFault.ReadFault}
+use Rattle.shop_text.specs.declared.faults.ReadFault.TheVariants.{NoInstance, Truncated, BadShape, BadSize, BadRow}
+use Rattle.shop_text.specs.declared.faults.ReadFault.TheVariants.{BadMachine, BadTime}
 
 -- why a line is refused: a size line by its count or its sizes, a row, a machine, a time
 pub data LineFault : Type 0 where

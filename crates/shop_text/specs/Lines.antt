@@ -1,14 +1,10 @@
 -- A text as numbered lines of tokens.
 --     lines_of text        the lines: what LF ends, and what follows the last LF unless it is empty
 --     tokens_of bytes      the longest runs of bytes that are no separators
---     Line, line_of
---         a line is blank, or numbers alone, or a text line of words; `Numbered`: with its number
---     numbered_lines text
---         the lines that aren't blank, each with its number; lines count from 1, blank ones too
-use Rattle.std.specs.Prelude.{ℕ, ◌+◌, ◌-◌, ◌*◌, Bool, true, false, not, ◌||◌, ◌==◌, if◌then◌else◌}
-use Rattle.std.specs.Prelude.{List, [], ◌∷◌, map, filter, fold}
-use Rattle.std.specs.List.{slice_split, list_all, enumerate_from}
-use Rattle.std.specs.Char.{is_ascii_digit}
+--     Line, line_of        a line is blank, or numbers alone, or a text line of words; `Numbered`: with its number
+--     numbered_lines text  the lines that aren't blank, each with its number; lines count from 1, blank ones too
+use Rattle.std.specs.Prelude.{ℕ, ◌+◌, ◌-◌, ◌*◌, Bool, true, false, not, ◌||◌, ◌==◌, if◌then◌else◌, List, [], ◌∷◌, map}
+use Rattle.std.specs.{Prelude.{filter, fold}, List.{slice_split, list_all, enumerate_from}, Char.is_ascii_digit}
 
 abbrev pub is_line_feed : ℕ → Bool
 is_line_feed b = b == 10

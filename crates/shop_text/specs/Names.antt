@@ -1,16 +1,10 @@
 -- Named instances, as readers give them.
---     shops_of named                     what stands in a list of named instances
---     IsRead grammar text result          what reading a text answers
---     IsPick named name result           the first instance of a name
-use Rattle.std.specs.Prelude.{◌≡◌, ◌⊎◌, ℕ, ◌<◌, List, [], ◌∷◌, length, map, find, Option, Some}
-use Rattle.std.specs.Prelude.{None, Result, Ok, Err, Vec, string_bytes}
-use Rattle.std.specs.Borrow.{Bor}
-use Rattle.std.specs.Str.{bytes_eq}
-use Rattle.std.specs.declared.alloc.Global.{Global}
-use Rattle.shop_text.specs.Texts.{NamedShop, IsText, IsTextFault, OrNoMemory}
-use Rattle.shop_text.specs.Grammar.{Grammar}
-use Rattle.shop_text.specs.declared.names.Named.{Named}
-use Rattle.shop_text.specs.declared.faults.ReadFault.{ReadFault}
+--     shops_of named              what stands in a list of named instances
+--     IsRead grammar text result  what reading a text answers
+use Rattle.std.specs.Prelude.{◌≡◌, ◌⊎◌, ℕ, ◌<◌, List, [], ◌∷◌, length, map, find, Option, Some, None, Result, Ok, Err}
+use Rattle.std.specs.{Prelude.{Vec, string_bytes}, Borrow.Bor, Str.bytes_eq, declared.alloc.Global.Global}
+use Rattle.shop_text.specs.{Texts.{NamedShop, IsText, IsTextFault, OrNoMemory}, Grammar.Grammar}
+use Rattle.shop_text.specs.{declared.names.Named.Named, declared.faults.ReadFault.ReadFault}
 use Rattle.shop_text.specs.declared.faults.ReadFault.TheVariants.{NoMemory, NoSuchName}
 
 abbrev pub shop_of_named : Named → NamedShop
@@ -27,10 +21,8 @@ IsRead grammar text (Err fault) = OrNoMemory (IsTextFault grammar) text fault
 
 -- What `IsRead` says of a text that has a fault: it is answered by it, unless memory runs out.
 abbrev pub FaultIsAnswered : Grammar → Type 0
-FaultIsAnswered grammar =
-    (text : List ℕ) (fault : ReadFault) (result : Result (Vec Named Global) ReadFault)
-    → IsTextFault grammar text fault → IsRead grammar text result
-    → (result ≡ Err fault) ⊎ (result ≡ Err NoMemory)
+FaultIsAnswered grammar = (text : List ℕ) (fault : ReadFault) (result : Result (Vec Named Global) ReadFault)
+    → IsTextFault grammar text fault → IsRead grammar text result → (result ≡ Err fault) ⊎ (result ≡ Err NoMemory)
 
 -- the first instance of the name, or where no name is given the first one
 abbrev pub first_of : List NamedShop → Option NamedShop

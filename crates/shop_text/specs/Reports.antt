@@ -1,6 +1,5 @@
 -- What a report is made of.
-use Rattle.shop_text.specs.Writing.{Reported}
-use Rattle.shop_text.specs.declared.reports.Report.{Report}
+use Rattle.shop_text.specs.{Writing.Reported, declared.reports.Report.Report}
 
 abbrev pub reported : Report → Reported
 reported r = record {

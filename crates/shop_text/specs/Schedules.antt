@@ -1,21 +1,15 @@
--- Schedule texts: a line for each job, in order; lines that don't begin with the token `job` are
--- skipped.
---     counted_lines text           the lines whose first token is exactly `job`, with their numbers
---     starts_in j steps tokens     the starts of a line of job j, if it is one
---     IsTable shop text rows       the text gives this table, one row a job
+-- Schedule texts: a line for each job, in order; lines that don't begin with the token `job` are skipped.
+--     counted_lines text        the lines whose first token is exactly `job`, with their numbers
+--     starts_in j steps tokens  the starts of a line of job j, if it is one
+--     IsTable shop text rows    the text gives this table, one row a job
 --     IsTableFault shop text fault the one fault of a text that gives none
 --     IsTableRead shop text result what reading a text answers
-use Rattle.std.specs.Prelude.{◌≡◌, ℕ, ◌+◌, ◌-◌, ◌<◌, ◌≤◌, ◌⊎◌, Bool, false, not, ◌&&◌, ◌==◌, nat_lt}
-use Rattle.std.specs.Prelude.{nat_le, if◌then◌else◌, List, [], ◌∷◌, ◌++◌, length, map, filter, take}
-use Rattle.std.specs.Prelude.{Option, Some, None, Result, Ok, Err, codes}
-use Rattle.std.specs.List.{list_all, enumerate_from}
-use Rattle.std.specs.Str.{bytes_eq}
-use Rattle.shop_model.specs.declared.limits.TheConstants.{MAX_START}
-use Rattle.shop_text.specs.declared.limits.TheConstants.{MAX_TEXT}
-use Rattle.shop_model.specs.Shop.{Shop, route_of}
-use Rattle.shop_text.specs.Lines.{lines_of, tokens_of, is_empty, is_number, value_of}
-use Rattle.shop_text.specs.Texts.{IsTooLong, OrNoMemory}
-use Rattle.shop_text.specs.declared.faults.ReadFault.{ReadFault}
+use Rattle.std.specs.Prelude.{◌≡◌, ℕ, ◌+◌, ◌-◌, ◌<◌, ◌≤◌, ◌⊎◌, Bool, false, not, ◌&&◌, ◌==◌, nat_lt, nat_le}
+use Rattle.std.specs.Prelude.{if◌then◌else◌, List, [], ◌∷◌, ◌++◌, length, map, filter, take, Option, Some, None, Result}
+use Rattle.std.specs.{Prelude.{Ok, Err, codes}, List.{list_all, enumerate_from}, Str.bytes_eq}
+use Rattle.shop_model.specs.{declared.limits.TheConstants.MAX_START, Shop.{Shop, route_of}}
+use Rattle.shop_text.specs.{declared.limits.TheConstants.MAX_TEXT, Lines.{lines_of, tokens_of, is_empty, is_number}}
+use Rattle.shop_text.specs.{Lines.value_of, Texts.{IsTooLong, OrNoMemory}, declared.faults.ReadFault.ReadFault}
 use Rattle.shop_text.specs.declared.faults.ReadFault.TheVariants.{NoMemory, BadTable}
 
 abbrev pub Tokens : Type 0
@@ -99,23 +93,18 @@ IsTableRead shop text (Err fault) = OrNoMemory (IsTableFault shop) text fault
 
 -- A text gives one table at most, has one fault at most, and never both.
 pub record OneTable (shop : Shop) : Type 0 where
-  pub one_table : (text : List ℕ) (rows others : List (List ℕ)) → IsTable shop text rows
-      → IsTable shop text others
+  pub one_table : (text : List ℕ) (rows others : List (List ℕ)) → IsTable shop text rows → IsTable shop text others
       → rows ≡ others
-  pub one_fault : (text : List ℕ) (x y : ReadFault) → IsTableFault shop text x
-      → IsTableFault shop text y → x ≡ y
+  pub one_fault : (text : List ℕ) (x y : ReadFault) → IsTableFault shop text x → IsTableFault shop text y → x ≡ y
   pub not_both : (text : List ℕ) (rows : List (List ℕ)) (x : ReadFault) → IsTable shop text rows
       → IsTableFault shop text x → ⊥
 
 -- Each text gives some table, or has some fault.
 abbrev pub SomeTable : Shop → Type 0
-SomeTable shop =
-    (text : List ℕ) → ((rows : List (List ℕ)) × IsTable shop text rows)
-    ⊎ ((x : ReadFault) × IsTableFault shop text x)
+SomeTable shop = (text : List ℕ)
+    → ((rows : List (List ℕ)) × IsTable shop text rows) ⊎ ((x : ReadFault) × IsTableFault shop text x)
 
 -- What `IsTableRead` says of a text that has a fault: it is answered by it, unless memory runs out.
 abbrev pub TableFaultIsAnswered : Shop → Type 0
-TableFaultIsAnswered shop =
-    (text : List ℕ) (found : ReadFault) (result : Result (List (List ℕ)) ReadFault)
-    → IsTableFault shop text found → IsTableRead shop text result
-    → (result ≡ Err found) ⊎ (result ≡ Err NoMemory)
+TableFaultIsAnswered shop = (text : List ℕ) (found : ReadFault) (result : Result (List (List ℕ)) ReadFault)
+    → IsTableFault shop text found → IsTableRead shop text result → (result ≡ Err found) ⊎ (result ≡ Err NoMemory)

@@ -1,8 +1,6 @@
 -- Parts of the three formats in plain words.
-use Rattle.std.specs.Prelude.{◌≡◌, ℕ, ◌*◌, ◌<◌, ◌≤◌, ◌↔◌, List, [], ◌∷◌, ◌++◌, length}
-use Rattle.std.specs.List.{AllByRecursion}
-use Rattle.shop_model.specs.declared.limits.TheConstants.{MAX_JOBS, MAX_MACHINES, MAX_STEPS}
-use Rattle.shop_model.specs.declared.limits.TheConstants.{MAX_TIME}
+use Rattle.std.specs.{Prelude.{◌≡◌, ℕ, ◌*◌, ◌<◌, ◌≤◌, ◌↔◌, List, [], ◌∷◌, ◌++◌, length}, List.AllByRecursion}
+use Rattle.shop_model.specs.declared.limits.TheConstants.{MAX_JOBS, MAX_MACHINES, MAX_STEPS, MAX_TIME}
 use Rattle.shop_text.specs.Grammar.{Row, Entry, Part, AreText, IsPart}
 use Rattle.shop_text.specs.Formats.{jobs_in, machines_in, orlib, routes, taillard}
 
@@ -17,16 +15,14 @@ pub record IsSize (jobs machines : ℕ) : Type 0 where
 abbrev pub ArePairs : ℕ → Row → Type 0
 ArePairs machines [] = Unit {0}
 ArePairs machines (machine ∷ []) = ⊥
-ArePairs machines (machine ∷ time ∷ rest) = (machine < machines) × (time ≤ MAX_TIME)
-    × ArePairs machines rest
+ArePairs machines (machine ∷ time ∷ rest) = (machine < machines) × (time ≤ MAX_TIME) × ArePairs machines rest
 
 -- a row of `orlib`: a machine and a time for each machine
 pub record IsOrlibRow (machines : ℕ) (row : Row) : Type 0 where
   pub len : length row ≡ 2 * machines
   pub pairs : ArePairs machines row
 
--- a row of `routes`: a release within the limit of times, then as many pairs as a route may have
--- steps
+-- a row of `routes`: a release within the limit of times, then as many pairs as a route may have steps
 pub record IsRoutesRow (machines : ℕ) (row : Row) : Type 0 where
   pub release : ℕ
   pub rest : Row
@@ -40,8 +36,7 @@ pub record IsRowLine (IsRow : Row → Type 0) (e : Entry) : Type 0 where
   pub no_text : e.before ≡ []
   pub is_row : IsRow e.row
 
--- text lines and a size line of two numbers, jobs and machines within the limits; then a row for
--- each job
+-- text lines and a size line of two numbers, jobs and machines within the limits; then a row for each job
 pub record IsPartOfRows (IsRow : ℕ → Row → Type 0) (part : Part) : Type 0 where
   pub first : Entry
   pub rows : List Entry
@@ -67,11 +62,9 @@ IsMachineNumber machines number = (1 ≤ number) × (number ≤ machines)
 -- text lines before the first row alone
 abbrev pub IsMatrix : (Row → Type 0) → List Entry → Type 0
 IsMatrix IsRow [] = Unit {0}
-IsMatrix IsRow (top ∷ rows) = AreText top.before × IsRow top.row
-    × AllByRecursion (IsRowLine IsRow) rows
+IsMatrix IsRow (top ∷ rows) = AreText top.before × IsRow top.row × AllByRecursion (IsRowLine IsRow) rows
 
--- text lines and a size line of 2 to 6 numbers; then a matrix of times and one of machines, a row
--- for each job in each
+-- text lines and a size line of 2 to 6 numbers; then a matrix of times and one of machines, a row for each job in each
 pub record IsTaillardPart (part : Part) : Type 0 where
   pub first : Entry
   pub times : List Entry
@@ -84,8 +77,7 @@ pub record IsTaillardPart (part : Part) : Type 0 where
   pub times_count : length times ≡ jobs_in first.row
   pub machines_count : length machines ≡ jobs_in first.row
   pub are_times : IsMatrix (IsRowOf IsTime (machines_in first.row)) times
-  pub are_machines : IsMatrix (IsRowOf (IsMachineNumber (machines_in first.row))
-      (machines_in first.row)) machines
+  pub are_machines : IsMatrix (IsRowOf (IsMachineNumber (machines_in first.row)) (machines_in first.row)) machines
 
 -- the parts that the grammar has of these formats are just these
 abbrev pub OrlibShape : Type 0

@@ -1,14 +1,10 @@
 -- Instance texts: what a text is read as, and the one fault of a text that isn't read.
-use Rattle.std.specs.Prelude.{◌≡◌, ℕ, ◌+◌, ◌≤◌, ◌<◌, ◌⊎◌, Bool, if◌then◌else◌, List, [], ◌∷◌}
-use Rattle.std.specs.Prelude.{length, is_some}
-use Rattle.std.specs.List.{list_any, filter_map, flat_map}
-use Rattle.std.specs.Fmt.{decimal}
-use Rattle.shop_text.specs.declared.limits.TheConstants.{MAX_TEXT}
-use Rattle.shop_model.specs.Shop.{Shop}
-use Rattle.shop_text.specs.Lines.{Numbered, lines_of, numbered_lines}
-use Rattle.shop_text.specs.Grammar.{Grammar, Part, entry_rows, IsGood, IsFault}
-use Rattle.shop_text.specs.declared.faults.ReadFault.{ReadFault}
+use Rattle.std.specs.Prelude.{◌≡◌, ℕ, ◌+◌, ◌≤◌, ◌<◌, ◌⊎◌, Bool, if◌then◌else◌, List, [], ◌∷◌, length, is_some}
+use Rattle.std.specs.{List.{list_any, filter_map, flat_map}, Fmt.decimal}
+use Rattle.shop_text.specs.{declared.limits.TheConstants.MAX_TEXT, Lines.{Numbered, lines_of, numbered_lines}}
+use Rattle.shop_text.specs.{Grammar.{Grammar, Part, entry_rows, IsGood, IsFault}, declared.faults.ReadFault.ReadFault}
 use Rattle.shop_text.specs.declared.faults.ReadFault.TheVariants.{NoMemory, TooLong}
+use Rattle.shop_model.specs.Shop.{Shop}
 
 pub record NamedShop : Type 0 where
   pub name : List ℕ
@@ -74,8 +70,7 @@ IsTextFault grammar text fault = IsTooLong text fault ⊎ HasLineFault grammar t
 abbrev pub OrNoMemory : (List ℕ → ReadFault → Type 0) → List ℕ → ReadFault → Type 0
 OrNoMemory IsBad text fault = ((fault ≡ NoMemory) × (length text ≤ MAX_TEXT)) ⊎ IsBad text fault
 
--- A text is good for one list of named instances at most, and has one fault at most, and never
--- both.
+-- A text is good for one list of named instances at most, and has one fault at most, and never both.
 pub record OneReading (grammar : Grammar) : Type 0 where
   pub one_list : (text : List ℕ) (shops others : List NamedShop)
       → IsText grammar text shops → IsText grammar text others → shops ≡ others
@@ -87,8 +82,7 @@ pub record OneReading (grammar : Grammar) : Type 0 where
 -- some list of named instances, or some fault
 abbrev pub HasReading : Grammar → List ℕ → Type 0
 HasReading grammar text =
-    ((shops : List NamedShop) × IsText grammar text shops)
-    ⊎ ((fault : ReadFault) × IsTextFault grammar text fault)
+    ((shops : List NamedShop) × IsText grammar text shops) ⊎ ((fault : ReadFault) × IsTextFault grammar text fault)
 
 -- Each text is good for some list of named instances, or has some fault.
 abbrev pub SomeReading : Grammar → Type 0

@@ -6,21 +6,14 @@
 --     text_with_gantt reported gantt       a report, and its Gantt text where that is asked for
 --     list_text named              a line for each instance
 --     verdict_text verdict         the line of a verdict
-use Rattle.std.specs.Prelude.{◌≡◌, ℕ, zero, suc, ◌-◌, ◌*◌, ◌≤◌, ◌<◌, max, Bool, ◌&&◌, ◌==◌, nat_le}
-use Rattle.std.specs.Prelude.{nat_lt, List, [], ◌∷◌, ◌++◌, length, map, flat_map, find}
-use Rattle.std.specs.Prelude.{slice_index_or, codes, if◌then◌else◌}
-use Rattle.std.specs.List.{range_with_len, enumerate_from, list_any, join_with_byte}
-use Rattle.std.specs.Option.{option_map_or}
-use Rattle.std.specs.Int.{div_ceil}
-use Rattle.std.specs.Fmt.{decimal}
-use Rattle.shop_model.specs.Shop.{Shop, Starts, route_of, machine_of, IsOperation, IsFeasible}
-use Rattle.shop_model.specs.Shop.{finish_of, end_of}
-use Rattle.shop_model.specs.Checking.{starts_of}
-use Rattle.shop_model.specs.declared.checking.Verdict.{Verdict}
-use Rattle.shop_model.specs.declared.checking.Verdict.TheVariants.{Feasible, WrongSize, Unreleased}
-use Rattle.shop_model.specs.declared.checking.Verdict.TheVariants.{Early, Overlap}
-use Rattle.shop_text.specs.Texts.{NamedShop}
-use Rattle.shop_text.specs.Schedules.{Tokens}
+use Rattle.std.specs.Prelude.{◌≡◌, ℕ, zero, suc, ◌-◌, ◌*◌, ◌≤◌, ◌<◌, max, Bool, ◌&&◌, ◌==◌, nat_le, nat_lt, List, []}
+use Rattle.std.specs.Prelude.{◌∷◌, ◌++◌, length, map, flat_map, find, slice_index_or, codes, if◌then◌else◌}
+use Rattle.std.specs.{List.{range_with_len, enumerate_from, list_any, join_with_byte}, Option.option_map_or}
+use Rattle.std.specs.{Int.div_ceil, Fmt.decimal}
+use Rattle.shop_model.specs.Shop.{Shop, Starts, route_of, machine_of, IsOperation, IsFeasible, finish_of, end_of}
+use Rattle.shop_model.specs.{Checking.starts_of, declared.checking.Verdict.Verdict}
+use Rattle.shop_model.specs.declared.checking.Verdict.TheVariants.{Feasible, WrongSize, Unreleased, Early, Overlap}
+use Rattle.shop_text.specs.{Texts.NamedShop, Schedules.Tokens}
 
 abbrev pub printed_line : Tokens → List ℕ
 printed_line tokens = join_with_byte 32 tokens ++ 10 ∷ []
@@ -135,8 +128,7 @@ text_with_gantt r g = report_text r ++ (if g then gantt_text r.shop (starts_of r
 -- In a feasible table the job of an operation is shown at each instant at which its machine serves
 -- it, and a dot is shown where a machine serves none.
 pub record ShowsTheJob : Type 0 where
-  pub served : (shop : Shop) (starts : Starts) → IsFeasible shop starts → (instant j k : ℕ)
-      → IsOperation shop j k
+  pub served : (shop : Shop) (starts : Starts) → IsFeasible shop starts → (instant j k : ℕ) → IsOperation shop j k
       → starts j k ≤ instant → instant < finish_of shop starts j k
       → shown_at shop starts (machine_of shop j k) instant ≡ character_of j
   pub idle : (shop : Shop) (starts : Starts) (machine instant : ℕ)

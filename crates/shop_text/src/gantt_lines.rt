@@ -1,9 +1,9 @@
 // The characters that a machine's line of a Gantt text shows.
-ghost use Rattle.std.specs.Prelude.{◌≡◌, ◌<◌, ◌≤◌, length};
+ghost use Rattle.std.specs.Prelude.{◌≡◌, ◌<◌, ◌≤◌, ◌&&◌, nat_le, nat_lt, length};
 ghost use Rattle.shop_model.specs.Shop.{IsFeasible};
 ghost use Rattle.shop_model.specs.Checking.{HasShape, starts_of};
 ghost use Rattle.shop_text.specs.Writing.{character_of, shown_cells};
-ghost use Rattle.shop_text.specs.inner.Cells.{is_column, AllEndWithin, ShowsJob, ShowsWhere};
+ghost use Rattle.shop_text.specs.inner.Cells.{AllEndWithin, ShowsJob, ShowsWhere};
 
 use shop_model::{Instance, Table};
 
@@ -25,7 +25,7 @@ fn character(j: usize) -> u8
 fn show(cells: &mut [u8], from: usize, to: usize, character: u8)
     requires order { from ≤ to }
     requires within { to ≤ length cells.old }
-    ensures { ShowsWhere cells.old cells.new character (is_column from to) }
+    ensures { ShowsWhere cells.old cells.new character (λ column. nat_le from column && nat_lt column to) }
 {
     for column in from..to {
         cells[column] = character;

@@ -2,8 +2,7 @@
 ghost use Rattle.std.specs.Prelude.{◌≡◌, ◌<◌, ◌++◌, IfOk, OnOk};
 ghost use Rattle.shop_model.specs.Shop.{IsFeasible};
 ghost use Rattle.shop_model.specs.Checking.{HasShape, starts_of};
-ghost use Rattle.shop_text.specs.Writing.{unit_of, gantt_text};
-ghost use Rattle.shop_text.specs.inner.Printing.{cells_text};
+ghost use Rattle.shop_text.specs.Writing.{printed_line, cells_line, unit_of, gantt_text};
 
 use crate::gantt_lines::show_machine;
 use crate::limits::MAX_COLUMNS;
@@ -26,7 +25,7 @@ fn write_machine(
     machine: usize,
     cells: &[u8],
 ) -> Result<(), NoMemory>
-    ensures { OnOk result (out.new.items ≡ out.old.items ++ cells_text machine cells.now) }
+    ensures { OnOk result (out.new.items ≡ out.old.items ++ printed_line (cells_line machine cells.now)) }
 {
     let begin = format!(in alloc; "machine {machine} |")?;
     out.extend_from_slice(begin.as_bytes())?;

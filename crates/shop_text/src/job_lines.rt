@@ -1,10 +1,10 @@
 // The lines of jobs in a schedule text.
-ghost use Rattle.std.specs.Prelude.{◌≡◌, ◌≤◌, ℕ, List, ◌∷◌, codes};
+ghost use Rattle.std.specs.Prelude.{◌≡◌, ◌≤◌, ℕ, List, ◌∷◌, codes, IfOk};
 ghost use Rattle.std.specs.Str.{bytes_eq};
 ghost use Rattle.shop_text.specs.Lines.{tokens_of};
 ghost use Rattle.shop_text.specs.Schedules.{is_label, starts_of_tokens, row_in};
 ghost use Rattle.shop_text.specs.inner.LineReading.{number_in};
-ghost use Rattle.shop_text.specs.inner.ScheduleReading.{FollowsJob, IsStartOf, IsRowRead};
+ghost use Rattle.shop_text.specs.inner.ScheduleReading.{FollowsJob, IsStartOf, row_read};
 
 use crate::lines::{next_number, next_token, number_of};
 use shop_model::{Instance, MAX_JOBS, MAX_START};
@@ -58,7 +58,7 @@ fn start_of(number: Option<u64>) -> Option<u64>
 /// Reads the starts behind the label of a line; `None` unless they are `steps` starts and nothing else. Fails with
 /// `NoMemory` if memory runs out.
 fn starts_behind(alloc: Global, steps: usize, behind: &[u8]) -> Result<Option<Vec<u64>>, NoMemory>
-    ensures { IsRowRead result (starts_of_tokens steps (tokens_of behind.now)) }
+    ensures { IfOk result (λ row. row_read row ≡ starts_of_tokens steps (tokens_of behind.now)) }
 {
     let mut starts = Vec::with_capacity(alloc, steps)?;
     let mut rest = behind;
@@ -86,7 +86,7 @@ pub(crate) fn row_behind(
     j: usize,
     behind: &[u8],
 ) -> Result<Option<Vec<u64>>, NoMemory>
-    ensures { IsRowRead result (row_in instance.now j (codes "job" ∷ tokens_of behind.now)) }
+    ensures { IfOk result (λ row. row_read row ≡ row_in instance.now j (codes "job" ∷ tokens_of behind.now)) }
 {
     if j >= instance.jobs() {
         return Ok(None);

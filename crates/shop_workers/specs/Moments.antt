@@ -3,12 +3,11 @@
 --     Somebody views Q       Q of the view of some seat that wasn't joined away
 --     Knows hits words v     what this view says is true of the words
 --     IsLawful hits s        the moment is one that a board can be in
-use Rattle.std.specs.Prelude.{◌≡◌, ℕ, suc, ◌<◌, ◌≤◌, List, length, Bool, true, ◌⊎◌, slice_index}
 use mathlib.Core.Option.{some}
 use lib.ListN.{get_elem?}
+use Rattle.std.specs.Prelude.{◌≡◌, ℕ, suc, ◌<◌, ◌≤◌, List, length, Bool, true, ◌⊎◌, slice_index}
 use Rattle.atomic_table.specs.Table.{State}
-use Rattle.shop_workers.specs.declared.views.View.{View}
-use Rattle.shop_workers.specs.Views.{has, once}
+use Rattle.shop_workers.specs.{declared.views.View.View, Views.{has, once}}
 use Rattle.shop_runs.specs.Hits.{is_hit_in, IsHitOrEnd}
 
 abbrev pub hit_word : List Bool → List ℕ → ℕ
@@ -38,8 +37,7 @@ pub record IsLawful (hits : List Bool) (s : State (Unit {0}) View) : Type 0 wher
   pub flag : (n : ℕ) → n < length hits → (slice_index s.words n ≡ 0) ⊎ (slice_index s.words n ≡ 1)
   pub won : (n : ℕ) → IsClaimed hits s.words n → Somebody s.views (λ v. has v.mine n ≡ true)
   pub hit : IsHitOrEnd hits (hit_word hits s.words)
-  pub marked : (hit_word hits s.words ≡ length hits)
-      ⊎ Somebody s.views (λ v. has v.done (hit_word hits s.words) ≡ true)
+  pub marked : (hit_word hits s.words ≡ length hits) ⊎ Somebody s.views (λ v. has v.done (hit_word hits s.words) ≡ true)
   pub knows : (id : ℕ) (v : View) → IsLive s.views id v → Knows hits s.words v
   pub apart : (a b : ℕ) (v w : View) (n : ℕ) → IsLive s.views a v → IsLive s.views b w
       → has v.mine n ≡ true → has w.mine n ≡ true → a ≡ b

@@ -3,9 +3,7 @@
 --     hits_of board         which pieces of its round end at the opening bound
 --     IsSeatOf board seat   the seat is of this board
 use Rattle.std.specs.Prelude.{◌≡◌, List, Bool}
-use Rattle.shop_workers.specs.declared.views.View.{View}
-use Rattle.shop_workers.specs.declared.boards.Board.{Board}
-use Rattle.shop_workers.specs.declared.boards.Seat.{Seat}
+use Rattle.shop_workers.specs.{declared.views.View.View, declared.boards.Board.Board, declared.boards.Seat.Seat}
 
 abbrev pub knows : Seat → View
 knows s = s.seat.me.0

@@ -6,8 +6,7 @@
 --     ArePieces hits xs   the numbers in xs are those of pieces
 --     HasAll v            the seat won each piece
 --     HasAsMany v         the seat won as many pieces as there are
-use Rattle.std.specs.Prelude.{◌≡◌, ℕ, ◌<◌, List, [], ◌∷◌, length, Bool, true, ◌&&◌, not, ◌==◌, ◌⊎◌}
-use Rattle.std.specs.List.{list_any}
+use Rattle.std.specs.{Prelude.{◌≡◌, ℕ, ◌<◌, List, [], ◌∷◌, length, Bool, true, ◌&&◌, not, ◌==◌, ◌⊎◌}, List.list_any}
 use Rattle.shop_runs.specs.Hits.{is_hit_in}
 use Rattle.shop_workers.specs.declared.views.View.{View}
 
@@ -19,8 +18,7 @@ once [] = true
 once (x ∷ xs) = not (has xs x) && once xs
 
 abbrev pub HasServed : View → Type 0
-HasServed v = (n : ℕ) → has v.mine n ≡ true → is_hit_in v.hits n ≡ true → (has v.done n ≡ true)
-    ⊎ (v.low < n)
+HasServed v = (n : ℕ) → has v.mine n ≡ true → is_hit_in v.hits n ≡ true → (has v.done n ≡ true) ⊎ (v.low < n)
 
 abbrev pub ArePieces : List Bool → List ℕ → Type 0
 ArePieces hits xs = (n : ℕ) → has xs n ≡ true → n < length hits

@@ -4,17 +4,14 @@
 --     IsDecided won hits n v   a claim of the piece was won, or lost
 use Rattle.std.specs.Prelude.{◌≡◌, ℕ, List, Bool, true, MatchBool}
 use Rattle.atomic_table.specs.Table.{State}
-use Rattle.shop_workers.specs.declared.views.View.{View}
-use Rattle.shop_workers.specs.Views.{has}
-use Rattle.shop_workers.specs.Moments.{IsLive, Somebody, IsLawful}
+use Rattle.shop_workers.specs.{declared.views.View.View, Views.has, Moments.{IsLive, Somebody, IsLawful}}
 
 abbrev pub IsOnlyWinner : List Bool → ℕ → View → Type 0
 IsOnlyWinner hits n v = (s : State (Unit {0}) View) (seat other : ℕ) (w : View) → IsLawful hits s
     → IsLive s.views seat v → IsLive s.views other w → has w.mine n ≡ true → other ≡ seat
 
 abbrev pub HasWinner : List Bool → ℕ → View → Type 0
-HasWinner hits n v = (s : State (Unit {0}) View) (seat : ℕ) → IsLawful hits s
-    → IsLive s.views seat v
+HasWinner hits n v = (s : State (Unit {0}) View) (seat : ℕ) → IsLawful hits s → IsLive s.views seat v
     → Somebody s.views (λ w. has w.mine n ≡ true)
 
 abbrev pub IsDecided : Bool → List Bool → ℕ → View → Type 0

@@ -1,25 +1,18 @@
 -- What a worker does with its seat, whose view was v and is w.
---     Grows v w               what the seat knew it still knows
---     IsKnown v n             the piece is claimed, as far as the seat knows
---     numbers_of entries      the numbers of their pieces
---     IsServed r w kind       a piece that was searched and ends at the opening bound was marked;
---                             one that was passed was passed by a number that is at least the
---                             seat's least
---     AreWon r v w entries    in number order, one for each piece that the seat won since, all
---                             served, and passed behind one that ends at the opening bound
---     BringsWon r v w b       AreWon of the entries, unless memory was refused
---     IsAllKnown n w          each piece below n is claimed, as far as the seat knows
-use Rattle.std.specs.Prelude.{◌≡◌, ℕ, ◌<◌, ◌≤◌, List, ◌++◌, map, reverse, All, true, ◌⊎◌, IfOk}
-use Rattle.std.specs.List.{AllPairs}
+--     Grows v w             what the seat knew it still knows
+--     IsKnown v n           the piece is claimed, as far as the seat knows
+--     numbers_of entries    the numbers of their pieces
+--     IsServed r w kind     a piece that was searched and ends at the opening bound was marked; one that was passed was
+--                           passed by a number that is at least the seat's least
+--     AreWon r v w entries  in number order, one for each piece that the seat won since, all served, and passed behind
+--                           one that ends at the opening bound
+--     BringsWon r v w b     AreWon of the entries, unless memory was refused
+--     IsAllKnown n w        each piece below n is claimed, as far as the seat knows
+use Rattle.std.specs.{Prelude.{◌≡◌, ℕ, ◌<◌, ◌≤◌, List, ◌++◌, map, reverse, All, true, ◌⊎◌, IfOk}, List.AllPairs}
 use Rattle.std.specs.List.Sorted.{IsStrictlyIncreasing}
-use Rattle.shop_runs.specs.Round.{Told}
-use Rattle.shop_runs.specs.Entries.{number_of, is_hit}
-use Rattle.shop_runs.specs.declared.entries.Entry.{Entry}
-use Rattle.shop_runs.specs.declared.entries.Kind.{Kind}
-use Rattle.shop_runs.specs.declared.entries.Kind.TheVariants.{Done, Passed}
-use Rattle.shop_workers.specs.declared.views.View.{View}
-use Rattle.shop_workers.specs.Views.{has}
-use Rattle.shop_workers.specs.Entries.{OfRound, Brought, LetsPass}
+use Rattle.shop_runs.specs.{Round.Told, Entries.{number_of, is_hit}, declared.entries.Entry.Entry}
+use Rattle.shop_runs.specs.{declared.entries.Kind.Kind, declared.entries.Kind.TheVariants.{Done, Passed}}
+use Rattle.shop_workers.specs.{declared.views.View.View, Views.has, Entries.{OfRound, Brought, LetsPass}}
 
 pub record Grows (v w : View) : Type 0 where
   pub hits : w.hits ≡ v.hits

@@ -1,11 +1,11 @@
 // A worker that claims pieces on a board and searches those that it wins.
-ghost use Rattle.std.specs.Prelude.{◌≡◌, ◌<◌, length, OnOk};
+ghost use Rattle.std.specs.Prelude.{◌≡◌, ◌<◌, length, IfOk, OnOk};
 ghost use Rattle.shop_runs.specs.Entries.{told};
 ghost use Rattle.shop_runs.specs.Hits.{hits_of_round};
 ghost use Rattle.shop_workers.specs.Views.{HasServed};
 ghost use Rattle.shop_workers.specs.Seats.{knows, hits_of, IsSeatOf};
 ghost use Rattle.shop_workers.specs.Works.{Grows, IsKnown, IsAllKnown, BringsWon};
-ghost use Rattle.shop_workers.specs.inner.Turns.{BringsTurn};
+ghost use Rattle.shop_workers.specs.inner.Turns.{TakesTurn};
 
 use crate::boards::{Board, Seat};
 use crate::gates::SeatGate;
@@ -31,8 +31,8 @@ fn claim_and_search<'r, P: PieceSearch<'r>, G: SeatGate>(
     ensures grows { Grows (knows seat.old) (knows seat.new) }
     ensures round { P.searched searcher.new ≡ P.searched searcher.old }
     ensures claimed { IsKnown (knows seat.new) number }
-    ensures entry { BringsTurn (told (P.searched searcher.old)) number (knows seat.old)
-        (knows seat.new) result }
+    ensures entry { IfOk result (TakesTurn (told (P.searched searcher.old)) number (knows seat.old)
+        (knows seat.new)) }
 {
     let low = board.look(seat);
     if !board.claim(seat, number) {

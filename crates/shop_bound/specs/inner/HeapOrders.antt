@@ -1,7 +1,5 @@
 -- The orders of the two heaps of a queue; a heap has the greatest element on top.
-use Rattle.std.specs.Prelude.{ℕ}
-use Rattle.std.specs.declared.cmp.Ordering.{Ordering}
-use Rattle.std.specs.declared.cmp.Reverse.{Reverse}
+use Rattle.std.specs.{Prelude.ℕ, declared.cmp.Ordering.Ordering, declared.cmp.Reverse.Reverse}
 use Rattle.std.specs.Ordering.{nat_cmp, ordering_then}
 
 -- the head and the position of an operation to come; the tail and the position of one that waits

@@ -6,11 +6,9 @@
 --     HaveRoom shop lists            each machine has a list, with room for all of its operations
 --     HaveRoomFor lists rest         each list has room for the operations of this rest of a route
 --     KeepRoom old new               no list has less room than before
-use Rattle.std.specs.Prelude.{◌≡◌, ℕ, ◌+◌, ◌≤◌, ◌<◌, ◌==◌, cond, List, [], length, map, sum_by}
-use Rattle.std.specs.Prelude.{slice_index_or, Vec, vec_capacity}
-use Rattle.std.specs.declared.alloc.Global.{Global}
-use Rattle.shop_model.specs.declared.ops.Op.{Op}
-use Rattle.shop_model.specs.Shop.{Shop}
+use Rattle.std.specs.Prelude.{◌≡◌, ℕ, ◌+◌, ◌≤◌, ◌<◌, ◌==◌, cond, List, [], length, map, sum_by, slice_index_or, Vec}
+use Rattle.std.specs.{Prelude.vec_capacity, declared.alloc.Global.Global}
+use Rattle.shop_model.specs.{declared.ops.Op.Op, Shop.Shop}
 use Rattle.shop_bound.specs.declared.triples.Triple.{Triple}
 
 abbrev pub visits : ℕ → List Op → ℕ
@@ -35,8 +33,7 @@ pub record HaveRoom (shop : Shop) (lists : List (Vec Triple Global)) : Type 0 wh
 
 abbrev pub HaveRoomFor : List (Vec Triple Global) → List Op → Type 0
 HaveRoomFor lists rest = (m : ℕ) → m < length lists
-    → length (slice_index_or (rows_in lists) m []) + visits m rest
-    ≤ slice_index_or (rooms_in lists) m 0
+    → length (slice_index_or (rows_in lists) m []) + visits m rest ≤ slice_index_or (rooms_in lists) m 0
 
 abbrev pub KeepRoom : List (Vec Triple Global) → List (Vec Triple Global) → Type 0
 KeepRoom old new = (m : ℕ) → slice_index_or (rooms_in old) m 0 ≤ slice_index_or (rooms_in new) m 0

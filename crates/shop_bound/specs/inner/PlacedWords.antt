@@ -1,8 +1,6 @@
 -- Placements that some word has.
 use Rattle.std.specs.Prelude.{ℕ, List}
-use Rattle.shop_model.specs.Shop.{Shop}
-use Rattle.shop_model.specs.Word.{IsWord, placing}
-use Rattle.shop_model.specs.Placements.{PlacementState, IsPlacement}
+use Rattle.shop_model.specs.{Shop.Shop, Word.{IsWord, placing}, Placements.{PlacementState, IsPlacement}}
 
 -- the placement is that of a word of the instance
 pub record IsOfWord (shop : Shop) (s : PlacementState) : Type 0 where

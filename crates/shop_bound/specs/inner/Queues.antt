@@ -3,12 +3,10 @@
 --                                    those that wait are released by the clock
 --     IsNextRelease cs head          `head` is the least head to come; none where none is to come
 --     IsFirst hs i                   i is served next of those that wait; none where none waits
-use Rattle.std.specs.Prelude.{◌≡◌, ℕ, ◌+◌, ◌<◌, ◌≤◌, ◌⊎◌, ◌==◌, true, cond, Option, Some, None}
-use Rattle.std.specs.Prelude.{List, ◌∷◌, length, sum_by, slice_index_or, All, IsPermutation}
+use Rattle.std.specs.Prelude.{◌≡◌, ℕ, ◌+◌, ◌<◌, ◌≤◌, ◌⊎◌, ◌==◌, true, cond, Option, Some, None, List, ◌∷◌, length}
+use Rattle.std.specs.Prelude.{sum_by, slice_index_or, All, IsPermutation}
 use Rattle.std.specs.BinaryHeap.{heap_items, heap_len, heap_capacity}
-use Rattle.shop_bound.specs.declared.queues.Queue.{Queue}
-use Rattle.shop_bound.specs.declared.works.Work.{Work}
-use Rattle.shop_bound.specs.inner.HeapOrders.{Coming, Waiting}
+use Rattle.shop_bound.specs.{declared.queues.Queue.Queue, declared.works.Work.Work, inner.HeapOrders.{Coming, Waiting}}
 use Rattle.shop_bound.specs.inner.Serving.{work_at, undone_of}
 
 -- the position of an operation to come, and of one that waits
@@ -34,10 +32,8 @@ pub record IsInLine (ws : List Work) (clock : ℕ) (h : Waiting) : Type 0 where
 pub record AreQueued (ws : List Work) (clock : ℕ) (cs : List Coming) (hs : List Waiting) : Type 0 where
   pub coming : All (IsToCome ws) cs
   pub waiting : All (IsInLine ws clock) hs
-  pub once : (k : ℕ) → k < length ws
-      → times coming_place k cs + times waiting_place k hs ≡ undone_of (work_at ws k)
-  pub passed : (k : ℕ) → k < length ws → (work_at ws k).done ≡ true
-      → (work_at ws k).triple.head ≤ clock
+  pub once : (k : ℕ) → k < length ws → times coming_place k cs + times waiting_place k hs ≡ undone_of (work_at ws k)
+  pub passed : (k : ℕ) → k < length ws → (work_at ws k).done ≡ true → (work_at ws k).triple.head ≤ clock
 
 -- IsQueue, with room for all operations to wait
 pub record IsQueue (ws : List Work) (clock : ℕ) (q : Queue) : Type 0 where

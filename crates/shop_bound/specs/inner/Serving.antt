@@ -1,9 +1,7 @@
 -- Operations served by Jackson's rule: what was spent on each, and what a turn does.
-use Rattle.std.specs.Prelude.{◌≡◌, ℕ, ◌+◌, ◌<◌, ◌≤◌, ◌⊎◌, max, true, false, nat_le, cond, List}
-use Rattle.std.specs.Prelude.{length, map, sum_by, slice_index_or}
-use Rattle.shop_bound.specs.declared.triples.Triple.{Triple}
-use Rattle.shop_bound.specs.declared.works.Work.{Work}
-use Rattle.shop_bound.specs.OneMachine.{one, greatest_of}
+use Rattle.std.specs.Prelude.{◌≡◌, ℕ, ◌+◌, ◌<◌, ◌≤◌, ◌⊎◌, max, true, false, nat_le, cond, List, length, map, sum_by}
+use Rattle.std.specs.Prelude.{slice_index_or}
+use Rattle.shop_bound.specs.{declared.triples.Triple.Triple, declared.works.Work.Work, OneMachine.{one, greatest_of}}
 use Rattle.shop_bound.specs.inner.Thresholds.{no_triple, is_above, span_above}
 
 abbrev pub no_work : Work
@@ -39,23 +37,19 @@ pub record IsServed (n : ℕ) (ws : List Work) (clock i : ℕ) : Type 0 where
   pub lowest : (k : ℕ) → k < i → (work_at ws k).done ≡ false → (work_at ws k).triple.head ≤ clock
       → (work_at ws k).triple.tail < (work_at ws i).triple.tail
 
--- The turn from the clock on stops at its end, or at the next release (of the first n) if that
--- comes first.
+-- The turn from the clock on stops at its end, or at the next release (of the first n) if that comes first.
 pub record IsStop (n : ℕ) (ws : List Work) (clock end stop : ℕ) : Type 0 where
   pub later : clock ≤ stop
   pub by_end : stop ≤ end
-  pub by_release : (k : ℕ) → k < n → clock < (work_at ws k).triple.head
-      → stop ≤ (work_at ws k).triple.head
+  pub by_release : (k : ℕ) → k < n → clock < (work_at ws k).triple.head → stop ≤ (work_at ws k).triple.head
   pub reason : (stop ≡ end) ⊎ ((k : ℕ) × (k < n) × (clock < (work_at ws k).triple.head)
       × ((work_at ws k).triple.head ≡ stop))
 
--- of the first n, the least release of those that are not done, all of which are later than the
--- clock
+-- of the first n, the least release of those that are not done, all of which are later than the clock
 pub record IsRelease (n : ℕ) (ws : List Work) (clock ready : ℕ) : Type 0 where
   pub later : clock < ready
   pub least : (k : ℕ) → k < n → (work_at ws k).done ≡ false → ready ≤ (work_at ws k).triple.head
-  pub reason : (k : ℕ) × (k < n) × ((work_at ws k).done ≡ false)
-      × ((work_at ws k).triple.head ≡ ready)
+  pub reason : (k : ℕ) × (k < n) × ((work_at ws k).done ≡ false) × ((work_at ws k).triple.head ≡ ready)
 
 -- the clock where one waits then or all are done, else the next release
 abbrev pub IsReady : List Work → ℕ → ℕ → Type 0
@@ -77,15 +71,13 @@ worked head tail ws = sum_by (spent_above head tail) ws
 pub record IsBusy (ws : List Work) (clock tail : ℕ) : Type 0 where
   pub from : ℕ
   pub before : from ≤ clock
-  pub waiting : (i : ℕ) → Waits ws clock i → tail ≤ (work_at ws i).triple.tail
-      → from ≤ (work_at ws i).triple.head
+  pub waiting : (i : ℕ) → Waits ws clock i → tail ≤ (work_at ws i).triple.tail → from ≤ (work_at ws i).triple.head
   pub enough : clock ≤ from + worked from tail ws
 
 -- what holds before each turn
 pub record IsRun (ws : List Work) (clock best : ℕ) : Type 0 where
   pub spent : (i : ℕ) → i < length ws → (work_at ws i).spent ≤ (work_at ws i).triple.time
-  pub done : (i : ℕ) → i < length ws → (work_at ws i).done ≡ true
-      → (work_at ws i).spent ≡ (work_at ws i).triple.time
+  pub done : (i : ℕ) → i < length ws → (work_at ws i).done ≡ true → (work_at ws i).spent ≡ (work_at ws i).triple.time
   pub within : clock ≤ greatest_of (λ t. t.head) (triples_of ws) + worked 0 0 ws
   pub busy : (tail : ℕ) → IsBusy ws clock tail
   pub no_sooner : (head tail : ℕ) → head + worked head tail ws ≤ max clock head

@@ -1,8 +1,7 @@
 -- The span of the operations above two thresholds.
 use Rattle.std.specs.Prelude.{ℕ, ◌+◌, Bool, ◌&&◌, ◌==◌, nat_le, if◌then◌else◌, List, length, filter, sum_by}
 use Rattle.std.specs.Prelude.{slice_index_or}
-use Rattle.shop_bound.specs.declared.triples.Triple.{Triple}
-use Rattle.shop_bound.specs.OneMachine.{greatest_of}
+use Rattle.shop_bound.specs.{declared.triples.Triple.Triple, OneMachine.greatest_of}
 
 -- the triple's head and tail are at least `head` and `tail`
 abbrev pub is_above : ℕ → ℕ → Triple → Bool
@@ -10,9 +9,8 @@ is_above head tail t = nat_le head t.head && nat_le tail t.tail
 
 -- head plus the times of the operations above both plus tail; 0 where no operation is above both
 abbrev pub span_above : List Triple → ℕ → ℕ → ℕ
-span_above ts head tail =
-    if length (filter (is_above head tail) ts) == 0 then 0 else head + sum_by (λ t. t.time)
-    (filter (is_above head tail) ts) + tail
+span_above ts head tail = if length (filter (is_above head tail) ts) == 0 then 0 else
+    head + sum_by (λ t. t.time) (filter (is_above head tail) ts) + tail
 
 abbrev pub no_triple : Triple
 no_triple = record { head = 0; time = 0; tail = 0 }

@@ -1,13 +1,8 @@
 -- The operations of a machine that a word leaves, as a program lists them.
 use Rattle.std.specs.Prelude.{◌≡◌, ℕ, ◌≤◌, ◌<◌, max, List, [], ◌++◌, length, slice_index, slice_index_or}
-use Rattle.shop_model.specs.declared.limits.TheConstants.{MAX_START, MAX_STEPS, MAX_TIME}
-use Rattle.shop_model.specs.declared.ops.Op.{Op}
-use Rattle.shop_model.specs.Shop.{Shop, no_op, greatest_below}
-use Rattle.shop_model.specs.Word.{Placing}
-use Rattle.shop_bound.specs.Bound.{waiting, waiting_from, triples_on}
-use Rattle.shop_model.specs.Placements.{PlacementState, IsPlacement}
-use Rattle.shop_bound.specs.OneMachine.{one}
-use Rattle.shop_bound.specs.declared.triples.Triple.{Triple}
+use Rattle.shop_model.specs.{declared.limits.TheConstants.{MAX_START, MAX_STEPS, MAX_TIME}, declared.ops.Op.Op}
+use Rattle.shop_model.specs.{Shop.{Shop, no_op, greatest_below}, Word.Placing, Placements.{PlacementState, IsPlacement}}
+use Rattle.shop_bound.specs.{Bound.{waiting, waiting_from, triples_on}, OneMachine.one, declared.triples.Triple.Triple}
 
 -- the triples on machine m of one job, whose route goes on by these operations
 abbrev pub unplaced_from : ℕ → List ℕ → ℕ → List Op → List Triple
@@ -23,8 +18,7 @@ abbrev pub AreUnplaced : Shop → PlacementState → List (List Triple) → Type
 AreUnplaced shop s lists = (p : Placing) → IsPlacement shop p s → (m : ℕ) → m < shop.machines
     → slice_index_or lists m [] ≡ triples_on m (waiting shop p)
 
--- the rest of a route is on machines that are there and takes times that can be added to all that
--- is ready and free
+-- the rest of a route is on machines that are there and takes times that can be added to all that is ready and free
 pub record CanGoOn (free : List ℕ) (ready : ℕ) (rest : List Op) : Type 0 where
   pub short : length rest ≤ MAX_STEPS
   pub on_machines : (k : ℕ) → k < length rest → (slice_index_or rest k no_op).machine < length free

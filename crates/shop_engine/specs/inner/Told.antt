@@ -1,7 +1,6 @@
 -- What is reported of an answer that a run gave.
 use Rattle.std.specs.Prelude.{◌<◌, ◌^◌}
-use Rattle.shop_text.specs.Texts.{NamedShop}
-use Rattle.shop_text.specs.Writing.{Reported}
+use Rattle.shop_text.specs.{Texts.NamedShop, Writing.Reported}
 use Rattle.shop_runs.specs.declared.runs.Answer.{Answer}
 
 abbrev pub told_by : NamedShop → Answer → Reported

@@ -2,16 +2,12 @@
 --     CanOwn value greatest rows owns  rows of whole blocks have room in `owns` for their own spans
 --     WritesOwnSpans value rows ..     `new` has the own span of each operation that waits
 --     rank_of count p                  the rank of place p in `count` blocks
---     AreClocks .. count xs j          the clock in each column before j blocks down, with all served
---                                      by rank from 0 on
---     AreLoadsBefore                   the loads before each column
+--     AreClocks .. count xs j          the clock in each column before j blocks down, with all served by rank from 0 on
 --     AreLoadsBehind                   the loads behind j blocks down each column
-use Rattle.std.specs.Prelude.{◌≡◌, ℕ, ◌+◌, ◌*◌, ◌/◌, ◌%◌, ◌<◌, max, List, length, map, take, drop}
-use Rattle.std.specs.Prelude.{slice_index, slice_set, get_or}
-use Rattle.shop_lanes.specs.Rows.{Lane, lanes, lanes_in, by_columns}
-use Rattle.shop_lanes.specs.Spans.{span, FitOwnSpans}
-use Rattle.shop_lanes.specs.declared.lane_rows.LaneRows.{LaneRows}
-use Rattle.shop_lanes.specs.declared.owning.ColumnEnds.{ColumnEnds}
+use Rattle.std.specs.Prelude.{◌≡◌, ℕ, ◌+◌, ◌*◌, ◌/◌, ◌%◌, ◌<◌, max, List, length, map, take, drop, slice_index}
+use Rattle.std.specs.Prelude.{slice_set, get_or}
+use Rattle.shop_lanes.specs.{Rows.{Lane, lanes, lanes_in, by_columns}, Spans.{span, FitOwnSpans}}
+use Rattle.shop_lanes.specs.{declared.lane_rows.LaneRows.LaneRows, declared.owning.ColumnEnds.ColumnEnds}
 use Rattle.shop_lanes.specs.inner.Passes.{clock_after, eight}
 
 abbrev pub rank_of : ℕ → ℕ → ℕ
@@ -19,9 +15,6 @@ rank_of count p = p % 8 * count + p / 8
 
 abbrev pub AreClocks : {B : Type 0} → (B → List ℕ) → ℕ → List Lane → ℕ → B → Type 0
 AreClocks numbers count xs j clocks = numbers clocks ≡ eight (λ k. clock_after 1 0 (take (k * count + j) xs))
-
-abbrev pub AreLoadsBefore : {B : Type 0} → (B → List ℕ) → ℕ → List Lane → B → Type 0
-AreLoadsBefore numbers count xs most = numbers most ≡ eight (λ k. span 1 0 (take (k * count) xs))
 
 -- `end` is the greatest end behind rank r; any number up to the clock if nothing waits there
 abbrev pub IsLoadBehind : List Lane → ℕ → ℕ → Type 0
@@ -33,10 +26,9 @@ pub record AreLoadsBehind {B : Type 0} (numbers : B → List ℕ) (count : ℕ) 
   pub each : (k : ℕ) → k < 8 → IsLoadBehind xs (k * count + j) (get_or (numbers behind) k 0)
 
 -- when the columns begin and end, and the greatest ends before and behind them
-pub record AreEnds {B : Type 0} (numbers : B → List ℕ) (count : ℕ) (xs : List Lane) (ends : ColumnEnds B)
-    : Type 0 where
+pub record AreEnds {B : Type 0} (numbers : B → List ℕ) (count : ℕ) (xs : List Lane) (ends : ColumnEnds B) : Type 0 where
   pub begins : AreClocks numbers count xs 0 ends.begins
-  pub before : AreLoadsBefore numbers count xs ends.before
+  pub before : numbers ends.before ≡ eight (λ k. span 1 0 (take (k * count) xs))
   pub clocks : AreClocks numbers count xs count ends.clocks
   pub behind : AreLoadsBehind numbers count xs count ends.behind
 

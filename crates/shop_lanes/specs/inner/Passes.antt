@@ -4,18 +4,13 @@
 --     column count xs k              of lanes in order of rank, column k of `count` blocks
 --     eight f                        the numbers that a function gives for each of eight columns
 use Rattle.std.specs.Prelude.{◌≡◌, ◌≢◌, ℕ, ◌+◌, ◌*◌, ◌-◌, ◌%◌, take, drop, replicate, ◌<◌, ◌≤◌, length, max, List, []}
-use Rattle.std.specs.Prelude.{◌∷◌, if◌then◌else◌, nat_le, get_or}
-use Rattle.std.specs.Simd.Lanes.{zip2}
-use Rattle.shop_lanes.specs.Eights.{first_of, added, waiting, AddsFit}
-use Rattle.shop_lanes.specs.Rows.{Lane}
-use Rattle.shop_lanes.specs.Spans.{span}
+use Rattle.std.specs.{Prelude.{◌∷◌, if◌then◌else◌, nat_le, get_or}, Simd.Lanes.zip2}
+use Rattle.shop_lanes.specs.{Eights.{first_of, added, waiting, AddsFit}, Rows.Lane, Spans.span}
 
 abbrev pub clock_after : ℕ → ℕ → List Lane → ℕ
 clock_after least start [] = start
 clock_after least start (x ∷ xs) =
-    if nat_le least x.head
-    then clock_after least (start + x.time) xs
-    else clock_after least start xs
+    if nat_le least x.head then clock_after least (start + x.time) xs else clock_after least start xs
 
 abbrev pub column : ℕ → List Lane → ℕ → List Lane
 column count xs k = take count (drop (k * count) xs)
@@ -34,25 +29,21 @@ abbrev pub times_served : {B : Type 0} → (B → List ℕ) → B → B → B �
 times_served numbers heads times least = waiting (first_of (numbers least)) (numbers heads) (numbers times)
 
 -- no sum is above what a lane holds
-pub record FitServed {B : Type 0} (limit : ℕ) (numbers : B → List ℕ)
-    (heads times tails least clocks : B) : Type 0 where
+pub record FitServed {B : Type 0} (limit : ℕ) (numbers : B → List ℕ) (heads times tails least clocks : B) : Type 0 where
   pub clocks_fit : AddsFit limit (numbers clocks) (times_served numbers heads times least)
-  pub ends_fit : AddsFit limit (added (numbers clocks) (times_served numbers heads times least))
-      (numbers tails)
+  pub ends_fit : AddsFit limit (added (numbers clocks) (times_served numbers heads times least)) (numbers tails)
 
 -- a block served: the clocks afterwards, and when each lane ends with its tail
 pub record AreTailed {B : Type 0} (numbers : B → List ℕ) (heads times tails least clocks : B)
     (served : B × B) : Type 0 where
-  pub clocks_are : numbers served.0
-      ≡ added (numbers clocks) (times_served numbers heads times least)
+  pub clocks_are : numbers served.0 ≡ added (numbers clocks) (times_served numbers heads times least)
   pub ends_are : numbers served.1
       ≡ waiting (first_of (numbers least)) (numbers heads) (added (numbers served.0) (numbers tails))
 
 -- a block served: the clocks afterwards, and the greatest end so far in each column
 pub record AreServed {B : Type 0} (numbers : B → List ℕ) (heads times tails least clocks most : B)
     (served : B × B) : Type 0 where
-  pub clocks_are : numbers served.0
-      ≡ added (numbers clocks) (times_served numbers heads times least)
+  pub clocks_are : numbers served.0 ≡ added (numbers clocks) (times_served numbers heads times least)
   pub most_are : numbers served.1 ≡ zip2 max (numbers most)
       (waiting (first_of (numbers least)) (numbers heads) (added (numbers served.0) (numbers tails)))
 

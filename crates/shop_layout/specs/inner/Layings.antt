@@ -1,18 +1,15 @@
 -- How the operations of an instance are put at their positions.
---     AreCells lists n cells blocks  the first n lists stand in the cells, each in its blocks, down
---                                    their columns
+--     AreCells lists n cells blocks  the first n lists stand in the cells, each in its blocks, down their columns
 --     AreAdded list count n ..       the first n places of a list's blocks were added to cells
 --     AreApart slots                 no two are the same step of a job
 --     HaveRoom lists n blocks        each of the first n lists has room in its blocks
---     AreNoted n first count ..      the places of the first n of a machine's slots were written,
---                                    and nothing else
+--     AreNoted n first count ..      the places of the first n of a machine's slots were written, and nothing else
 --     ArePlaces shop lists n ..      the places of the slots of the first n machines
 --     place_after n rows slot        the place of the step behind the slot's, or n if there is none
 use Rattle.std.specs.Prelude.{◌≡◌, ℕ, ◌+◌, ◌*◌, ◌/◌, ◌%◌, ◌≤◌, ◌<◌, List, [], length, slice_index, slice_index_or}
 use Rattle.shop_lanes.specs.Rows.{place_at_rank}
 use Rattle.shop_model.specs.Shop.{Shop, route_of}
-use Rattle.shop_layout.specs.Positions.{place_in, place_or, position_at_rank}
-use Rattle.shop_layout.specs.declared.slots.Slot.{Slot}
+use Rattle.shop_layout.specs.{Positions.{place_in, place_or, position_at_rank}, declared.slots.Slot.Slot}
 
 -- what stands at padding
 abbrev pub no_slot : Slot
@@ -25,8 +22,7 @@ AreShorter n lists = (m : ℕ) → length (slice_index_or lists m []) ≤ n
 -- each of the first n places of `count` blocks has what the list has at its rank, or no slot
 pub record AreAdded (list : List Slot) (count n : ℕ) (old new : List Slot) : Type 0 where
   pub long : length new ≡ length old + n
-  pub before : (q : ℕ) → q < length old
-      → slice_index_or new q no_slot ≡ slice_index_or old q no_slot
+  pub before : (q : ℕ) → q < length old → slice_index_or new q no_slot ≡ slice_index_or old q no_slot
   pub at : (p : ℕ) → p < n → slice_index_or new (length old + p) no_slot
       ≡ slice_index_or list (p % 8 * count + p / 8) no_slot
 
@@ -35,13 +31,11 @@ pub record IsListIn (cells : List Slot) (blocks : List ℕ) (m : ℕ) (slots : L
   pub room : 8 * slice_index blocks m + length slots ≤ 8 * slice_index blocks (m + 1)
   pub at : (i : ℕ) (d : Slot) → i < length slots
       → slice_index_or cells (position_at_rank blocks m i) no_slot ≡ slice_index_or slots i d
-  pub padding : (i : ℕ) → length slots ≤ i
-      → 8 * slice_index blocks m + i < 8 * slice_index blocks (m + 1)
+  pub padding : (i : ℕ) → length slots ≤ i → 8 * slice_index blocks m + i < 8 * slice_index blocks (m + 1)
       → slice_index_or cells (position_at_rank blocks m i) no_slot ≡ no_slot
   pub within : 8 * slice_index blocks (m + 1) ≤ length cells
 
-pub record AreCells (lists : List (List Slot)) (n : ℕ) (cells : List Slot)
-    (blocks : List ℕ) : Type 0 where
+pub record AreCells (lists : List (List Slot)) (n : ℕ) (cells : List Slot) (blocks : List ℕ) : Type 0 where
   pub machines : length blocks ≡ n + 1
   pub from_0 : slice_index blocks 0 ≡ 0
   pub whole : length cells ≡ 8 * slice_index blocks n
@@ -68,26 +62,21 @@ abbrev pub HaveRoom : List (List Slot) → ℕ → List ℕ → Type 0
 HaveRoom lists n blocks = (m : ℕ) → m < n
     → 8 * slice_index blocks m + length (slice_index_or lists m []) ≤ 8 * slice_index blocks (m + 1)
 
-pub record AreNoted (n first count : ℕ) (slots : List Slot) (old new : List (List ℕ))
-    : Type 0 where
+pub record AreNoted (n first count : ℕ) (slots : List Slot) (old new : List (List ℕ)) : Type 0 where
   pub long : length new ≡ length old
   pub rows : (j : ℕ) → length (slice_index_or new j []) ≡ length (slice_index_or old j [])
   pub noted : (i : ℕ) (d : Slot) → i < n
-      → place_in new (slice_index_or slots i d).job (slice_index_or slots i d).step
-      ≡ first + place_at_rank count i
+      → place_in new (slice_index_or slots i d).job (slice_index_or slots i d).step ≡ first + place_at_rank count i
   pub others : (j k : ℕ)
-      → ((i : ℕ) (d : Slot) → i < n → (slice_index_or slots i d).job ≡ j
-      → (slice_index_or slots i d).step ≡ k → ⊥)
+      → ((i : ℕ) (d : Slot) → i < n → (slice_index_or slots i d).job ≡ j → (slice_index_or slots i d).step ≡ k → ⊥)
       → place_in new j k ≡ place_in old j k
 
 pub record ArePlaces (shop : Shop) (lists : List (List Slot)) (blocks : List ℕ) (n : ℕ)
-    (rows : List (List ℕ))
-    : Type 0 where
+    (rows : List (List ℕ)) : Type 0 where
   pub shape : HasRoutes shop rows
   pub each : (m i : ℕ) (d : Slot) → m < n → i < length (slice_index_or lists m [])
       → place_in rows (slice_index_or (slice_index_or lists m []) i d).job
       (slice_index_or (slice_index_or lists m []) i d).step ≡ position_at_rank blocks m i
 
--- the place of the step after the slot's
 abbrev pub place_after : ℕ → List (List ℕ) → Slot → ℕ
 place_after n rows s = place_or n rows s.job (s.step + 1)

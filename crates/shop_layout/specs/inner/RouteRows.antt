@@ -4,11 +4,9 @@
 --     AreFirsts legs places firsts   where the legs of each job begin among those of all
 --     AreBehind jobs steps firsts .. at each position where the legs behind its operation begin
 --     IsBehind l behind              the same of a layout, where an operation stands
-use Rattle.std.specs.Prelude.{◌≡◌, ℕ, ◌+◌, ◌*◌, ◌%◌, ◌<◌, ◌^◌, All, List, [], flat_map, length, take}
-use Rattle.std.specs.Prelude.{slice_index, slice_index_or}
-use Rattle.shop_layout.specs.Legs.{leg_index}
-use Rattle.shop_layout.specs.Positions.{LayoutState}
-use Rattle.shop_layout.specs.declared.legs.Leg.{Leg}
+use Rattle.std.specs.Prelude.{◌≡◌, ℕ, ◌+◌, ◌*◌, ◌%◌, ◌<◌, ◌^◌, All, List, [], flat_map, length, take, slice_index}
+use Rattle.std.specs.Prelude.{slice_index_or}
+use Rattle.shop_layout.specs.{Legs.leg_index, Positions.LayoutState, declared.legs.Leg.Leg}
 
 pub record AreSmallRows (l : LayoutState) : Type 0 where
   pub jobs : 4 * length l.jobs < 2 ^ 64

@@ -1,6 +1,5 @@
 -- What stands in a list of vectors.
-use Rattle.std.specs.Prelude.{List, Vec, map}
-use Rattle.std.specs.declared.alloc.Global.{Global}
+use Rattle.std.specs.{Prelude.{List, Vec, map}, declared.alloc.Global.Global}
 
 abbrev pub items_in : {A : Type 0} → List (Vec A Global) → List (List A)
 items_in vectors = map (λ v. v.items) vectors

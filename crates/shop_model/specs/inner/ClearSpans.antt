@@ -1,10 +1,7 @@
 -- Spans that overlap with no other.
 use Rattle.std.specs.Prelude.{◌≡◌, ℕ, ◌+◌, ◌≤◌, ◌<◌, ◌⊎◌, List, [], length, slice_index_or}
-use Rattle.shop_model.specs.declared.spans.Occupied.{Occupied}
-use Rattle.shop_model.specs.Shop.{Shop, route_of, IsOperation}
-use Rattle.shop_model.specs.Checking.{starts_of}
-use Rattle.shop_model.specs.inner.FirstFaults.{IsApartAfter}
-use Rattle.shop_model.specs.inner.Spans.{span_at, IsInTurn}
+use Rattle.shop_model.specs.{declared.spans.Occupied.Occupied, Shop.{Shop, route_of, IsOperation}, Checking.starts_of}
+use Rattle.shop_model.specs.{inner.FirstFaults.IsApartAfter, inner.Spans.{span_at, IsInTurn}}
 
 -- one span is on a lower machine, or ends not later
 abbrev pub EndsNotAfter : Occupied → Occupied → Type 0
@@ -32,13 +29,11 @@ ArePartedSpans a b = a.machine ≡ b.machine → (a.finish ≤ b.start) ⊎ (b.f
 pub record IsClearOf (spans : List Occupied) (a : Occupied) : Type 0 where
   pub index : ℕ
   pub is : (d : Occupied) → slice_index_or spans index d ≡ a
-  pub parted : (n : ℕ) (d : Occupied) → n < length spans → (n ≡ index → ⊥)
-      → ArePartedSpans a (slice_index_or spans n d)
+  pub parted : (n : ℕ) (d : Occupied) → n < length spans → (n ≡ index → ⊥) → ArePartedSpans a (slice_index_or spans n d)
 
 -- so is each of these
 abbrev pub AreClearOf : List Occupied → List Occupied → Type 0
-AreClearOf spans clear = (k : ℕ) (d : Occupied) → k < length clear
-    → IsClearOf spans (slice_index_or clear k d)
+AreClearOf spans clear = (k : ℕ) (d : Occupied) → k < length clear → IsClearOf spans (slice_index_or clear k d)
 
 -- each operation with one of these spans is apart from all later ones
 abbrev pub AreOfApart : Shop → List (List ℕ) → List Occupied → Type 0

@@ -1,18 +1,12 @@
 -- From when to when each operation takes its machine.
 use Rattle.std.specs.Prelude.{◌≡◌, ℕ, ◌+◌, ◌≤◌, ◌<◌, ◌⊎◌, List, [], length, map, flat_map, slice_index, slice_index_or}
 use Rattle.std.specs.List.{range_with_len}
-use Rattle.shop_model.specs.declared.ops.Op.{Op}
-use Rattle.shop_model.specs.declared.spans.Occupied.{Occupied}
-use Rattle.shop_model.specs.Shop.{Shop, route_of}
+use Rattle.shop_model.specs.{declared.ops.Op.Op, declared.spans.Occupied.Occupied, Shop.{Shop, route_of}}
 use Rattle.shop_model.specs.inner.Steps.{machine_at, finish_at}
 
 -- step k of a job
 abbrev pub span_at : List Op → List ℕ → ℕ → Occupied
-span_at route row k = record {
-  machine = machine_at route k;
-  start = slice_index row k;
-  finish = finish_at route row k;
-}
+span_at route row k = record { machine = machine_at route k; start = slice_index row k; finish = finish_at route row k }
 
 -- those of a job, and those of all jobs
 abbrev pub spans_at : List Op → List ℕ → List Occupied

@@ -1,8 +1,7 @@
 -- The operations of one job against its row of starts.
-use Rattle.std.specs.Prelude.{◌≡◌, ℕ, zero, suc, ◌+◌, ◌≤◌, ◌<◌, ◌⊎◌, List, length, slice_index}
-use Rattle.std.specs.Prelude.{slice_index_or, Option, Some, None}
-use Rattle.shop_model.specs.declared.limits.TheConstants.{MAX_TIME, MAX_START}
-use Rattle.shop_model.specs.declared.ops.Op.{Op}
+use Rattle.std.specs.Prelude.{◌≡◌, ℕ, zero, suc, ◌+◌, ◌≤◌, ◌<◌, ◌⊎◌, List, length, slice_index, slice_index_or, Option}
+use Rattle.std.specs.Prelude.{Some, None}
+use Rattle.shop_model.specs.{declared.limits.TheConstants.{MAX_TIME, MAX_START}, declared.ops.Op.Op}
 use Rattle.shop_model.specs.Shop.{no_op, greatest_below}
 
 -- the machine and the end of step k
@@ -25,10 +24,8 @@ pub record AreSmall (route : List Op) (row : List ℕ) : Type 0 where
 
 -- the first step that begins too early, if one does
 abbrev pub TellsEarlyStep : ℕ → List Op → List ℕ → Option ℕ → Type 0
-TellsEarlyStep release route row None = (k : ℕ) → k < length route
-    → earliest_at release route row k ≤ slice_index row k
-TellsEarlyStep release route row (Some k) = (k < length route)
-    × (slice_index row k < earliest_at release route row k)
+TellsEarlyStep release route row None = (k : ℕ) → k < length route → earliest_at release route row k ≤ slice_index row k
+TellsEarlyStep release route row (Some k) = (k < length route) × (slice_index row k < earliest_at release route row k)
     × ((l : ℕ) → l < k → earliest_at release route row l ≤ slice_index row l)
 
 -- the step keeps clear of what is on this machine from start to finish
@@ -41,8 +38,7 @@ abbrev pub TellsFirstClash : ℕ → ℕ → ℕ → List Op → List ℕ → �
 TellsFirstClash machine start finish route row from None =
     (k : ℕ) → from ≤ k → k < length route → IsClear machine start finish route row k
 TellsFirstClash machine start finish route row from (Some k) = (from ≤ k) × (k < length route)
-    × (machine ≡ machine_at route k) × (slice_index row k < finish)
-    × (start < finish_at route row k)
+    × (machine ≡ machine_at route k) × (slice_index row k < finish) × (start < finish_at route row k)
     × ((l : ℕ) → from ≤ l → l < k → IsClear machine start finish route row l)
 
 -- the greatest end of a step, 0 if there is none
@@ -51,8 +47,7 @@ end_at route row = greatest_below (length route) (λ k. finish_at route row k)
 
 -- each step ends not later than the next one begins
 abbrev pub KeepsOrder : List Op → List ℕ → Type 0
-KeepsOrder route row = (k : ℕ) → k + 1 < length route
-    → finish_at route row k ≤ slice_index row (k + 1)
+KeepsOrder route row = (k : ℕ) → k + 1 < length route → finish_at route row k ≤ slice_index row (k + 1)
 
 -- each step of one job keeps clear of each step of another
 abbrev pub AreClear : List Op → List ℕ → List Op → List ℕ → Type 0

@@ -1,22 +1,15 @@
 -- The next operations of the jobs after a word, and the choice among them, job by job.
---     IsNext shop p j n              n is the next operation of job j: its machine, its head, and
---                                    when it can end
---     IsNextIfAny shop w j result    the next operation of job j after w, or none where no step is
---                                    left
---     is_in_conflict n chosen        n is the chosen one, or is on its machine and can begin before
---                                    that can end
---     open_below shop p n            the jobs below n with steps left, in order
---     IsChoice shop p js chosen      the next operation of the chosen one of these jobs, or none
---                                    where there is no job
---     placing_of placed              the placing of the word
---     IsChosen placed chosen         the choice among all jobs with steps left
---     IsNextOf placed j n            n is the next operation of job j
---     conflicting_with placed c      the jobs whose next operations conflict with that of job c
-use Rattle.std.specs.Prelude.{◌≡◌, ℕ, ◌≤◌, Bool, ◌==◌, ◌&&◌, ◌||◌, Option, Some, None, List, []}
-use Rattle.std.specs.Prelude.{◌∷◌, length, filter, nat_lt}
-use Rattle.std.specs.List.{range_with_len}
-use Rattle.shop_model.specs.Shop.{Shop, route_of, IsOperation}
-use Rattle.shop_model.specs.Word.{Placing, placing}
+--     IsNext shop p j n            n is the next operation of job j: its machine, its head, and when it can end
+--     IsNextIfAny shop w j result  the next operation of job j after w, or none where no step is left
+--     is_in_conflict n chosen      n is the chosen one, or is on its machine and can begin before that can end
+--     open_below shop p n          the jobs below n with steps left, in order
+--     IsChoice shop p js chosen    the next operation of the chosen one of these jobs, or none where there is no job
+--     placing_of placed            the placing of the word
+--     IsChosen placed chosen       the choice among all jobs with steps left
+--     conflicting_with placed c    the jobs whose next operations conflict with that of job c
+use Rattle.std.specs.Prelude.{◌≡◌, ℕ, ◌≤◌, Bool, ◌==◌, ◌&&◌, ◌||◌, Option, Some, None, List, [], ◌∷◌, length, filter}
+use Rattle.std.specs.{Prelude.nat_lt, List.range_with_len}
+use Rattle.shop_model.specs.{Shop.{Shop, route_of, IsOperation}, Word.{Placing, placing}}
 use Rattle.shop_nodes.specs.Branching.{open_jobs, next_machine, next_head, next_end, chosen_of, conflicts_with}
 use Rattle.shop_nodes.specs.declared.next_operations.NextOperation.{NextOperation}
 use Rattle.shop_nodes.specs.declared.next_operations.Placed.{Placed}
@@ -51,9 +44,6 @@ abbrev pub IsChosen : Placed → Option NextOperation → Type 0
 IsChosen placed chosen =
     let shop = placed.instance.now
     in let p = placing_of placed in IsChoice shop p (open_jobs shop p) chosen
-
-abbrev pub IsNextOf : Placed → ℕ → NextOperation → Type 0
-IsNextOf placed j n = IsNext placed.instance.now (placing_of placed) j n
 
 abbrev pub conflicting_with : Placed → ℕ → List ℕ
 conflicting_with placed c =

@@ -8,14 +8,10 @@
 --     IsHaltWithin h              and those of what waited where a walk halted
 --     AreSharable nodes           the words of the nodes can share their jobs
 use Rattle.std.specs.Prelude.{ℕ, ◌≤◌, Option, Some, None, List, [], ◌∷◌, ◌++◌, length, All, filter, nat_lt}
-use Rattle.std.specs.Arc.{arc_slice_items}
-use Rattle.std.specs.List.{AllByRecursion}
+use Rattle.std.specs.{Arc.arc_slice_items, List.AllByRecursion}
 use Rattle.shop_model.specs.SharedWords.{CanBeShared}
-use Rattle.shop_nodes.specs.Halts.{word_at}
-use Rattle.shop_nodes.specs.declared.halts.Halt.{Halt}
-use Rattle.shop_nodes.specs.declared.halts.Waiting.{Waiting}
-use Rattle.shop_nodes.specs.declared.halts.Waiting.TheVariants.{Child, Rest}
-use Rattle.shop_nodes.specs.declared.nodes.Node.{Node}
+use Rattle.shop_nodes.specs.{Halts.word_at, declared.halts.Halt.Halt, declared.halts.Waiting.Waiting}
+use Rattle.shop_nodes.specs.{declared.halts.Waiting.TheVariants.{Child, Rest}, declared.nodes.Node.Node}
 
 abbrev pub nodes_below : ℕ → List Node → List Node
 nodes_below c nodes = filter (λ n. nat_lt n.bound c) nodes

@@ -1,6 +1,5 @@
 -- Where a node is put among nodes in order of their bounds.
---     IsPlaceFor bound nodes i     all nodes before place i have bounds below this one, and the
---                                  node at i, if any, has not
+--     IsPlaceFor bound nodes i  all nodes before place i have bounds below this one, and the node at i, if any, has not
 use Rattle.std.specs.Prelude.{ℕ, ◌≤◌, ◌<◌, List, length, slice_index_or}
 use Rattle.shop_nodes.specs.declared.nodes.Node.{Node}
 

@@ -1,9 +1,7 @@
 -- Arguments of a command, in clap's words, and what is read of them.
 use Rattle.std.specs.Prelude.{◌≡◌, false, Result, Ok, Err}
-use Rattle.clap.specs.Words.{Rule, rule_of}
-use Rattle.clap.specs.declared.builder.arg.Arg.{Arg}
-use Rattle.shop_program.specs.CommandLine.{UnlessNoMemory}
-use Rattle.shop_program.specs.declared.line_faults.LineFault.{LineFault}
+use Rattle.clap.specs.{Words.{Rule, rule_of}, declared.builder.arg.Arg.Arg}
+use Rattle.shop_program.specs.{CommandLine.UnlessNoMemory, declared.line_faults.LineFault.LineFault}
 
 -- an argument of this rule, which isn't global
 abbrev pub IsArgOf : Rule → Arg → Type 0

@@ -1,11 +1,9 @@
 -- A command and the text that it is run on, apart.
 use Rattle.std.specs.Prelude.{ℕ, Result}
-use Rattle.shop_engine.specs.declared.faults.Fault.{Fault}
-use Rattle.shop_engine.specs.Devices.{Device}
+use Rattle.shop_engine.specs.{declared.faults.Fault.Fault, Devices.Device}
 use Rattle.shop_program.specs.declared.arguments.Args.{Args}
 use Rattle.shop_program.specs.declared.arguments.Args.TheVariants.{List as ListNames, Check, Solve}
-use Rattle.shop_program.specs.Commands.{Opens, Path, ListsFrom, ChecksFrom}
-use Rattle.shop_program.specs.Running.{SolvesFrom}
+use Rattle.shop_program.specs.{Commands.{Opens, Path, ListsFrom, ChecksFrom}, Running.SolvesFrom}
 
 -- the path of the text that a command is run on
 abbrev pub file_in : Args → Path

@@ -1,8 +1,6 @@
 -- The pieces below a number, up to the first that ends at the opening bound.
 use Rattle.std.specs.Prelude.{◌≡◌, ℕ, ◌<◌, true, Option, Some, None}
-use Rattle.shop_runs.specs.Round.{Told}
-use Rattle.shop_runs.specs.Entries.{is_hit}
-use Rattle.shop_runs.specs.Crews.{IsEntryOf, NoHitBelow, IsUpToHit}
+use Rattle.shop_runs.specs.{Round.Told, Entries.is_hit, Crews.{IsEntryOf, NoHitBelow, IsUpToHit}}
 use Rattle.shop_runs.specs.declared.entries.Entry.{Entry}
 
 -- the entry of piece n: it was searched, or passed by the first that ends at the opening bound

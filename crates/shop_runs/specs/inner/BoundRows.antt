@@ -1,11 +1,10 @@
 -- A row of stacks, each with the words of one bound.
---     AreEmptyBelow n stacks        there are n places or more, and no stack before the n-th
---     StaysEmpty before after       where there was none before the n-th place, there is none
---     IsFirstFrom stacks n first    no stack from the n-th place up to the first, which has one or
---                                   is the end
---     TakesTop word before after    the top word is taken from the stack at a place, if there is one
-use Rattle.std.specs.Prelude.{◌≡◌, ℕ, ◌<◌, ◌≤◌, List, [], ◌∷◌, Option, Some, None, IsSome}
-use Rattle.std.specs.Prelude.{length, take, drop, slice_index_or}
+--     AreEmptyBelow n stacks      there are n places or more, and no stack before the n-th
+--     StaysEmpty before after     where there was none before the n-th place, there is none
+--     IsFirstFrom stacks n first  no stack from the n-th place up to the first, which has one or is the end
+--     TakesTop word before after  the top word is taken from the stack at a place, if there is one
+use Rattle.std.specs.Prelude.{◌≡◌, ℕ, ◌<◌, ◌≤◌, List, [], ◌∷◌, Option, Some, None, IsSome, length, take, drop}
+use Rattle.std.specs.Prelude.{slice_index_or}
 use Rattle.shop_runs.specs.inner.Stacks.{Place, words_at, nodes_in_row}
 
 abbrev pub AreEmptyBelow : ℕ → List Place → Type 0

@@ -6,8 +6,7 @@
 --     AreLeasts stacked          bottom first: each tells the least bound from itself down
 use Rattle.std.specs.Prelude.{◌≡◌, ℕ, List, [], ◌∷◌, map, reverse}
 use Rattle.shop_nodes.specs.declared.nodes.Node.{Node}
-use Rattle.shop_runs.specs.inner.NodeLists.{least_of_bounds}
-use Rattle.shop_runs.specs.declared.kept_stacks.StackedNode.{StackedNode}
+use Rattle.shop_runs.specs.{inner.NodeLists.least_of_bounds, declared.kept_stacks.StackedNode.StackedNode}
 
 abbrev pub nodes_of : List StackedNode → List Node
 nodes_of stacked = map (λ s. s.node) stacked
@@ -20,8 +19,7 @@ least_in nodes = least_of_bounds 18446744073709551615 nodes
 
 abbrev pub AreLeastsFromTop : List StackedNode → Type 0
 AreLeastsFromTop [] = Unit {0}
-AreLeastsFromTop (s ∷ below) =
-    (s.least ≡ least_in (nodes_of (s ∷ below))) × AreLeastsFromTop below
+AreLeastsFromTop (s ∷ below) = (s.least ≡ least_in (nodes_of (s ∷ below))) × AreLeastsFromTop below
 
 abbrev pub AreLeasts : List StackedNode → Type 0
 AreLeasts stacked = AreLeastsFromTop (reverse stacked)

@@ -1,7 +1,6 @@
 -- Lists of nodes: their least bound, and those of pieces.
 use Rattle.std.specs.Prelude.{ℕ, min, List, map, fold}
-use Rattle.shop_nodes.specs.declared.nodes.Node.{Node}
-use Rattle.shop_nodes.specs.declared.pieces.Piece.{Piece}
+use Rattle.shop_nodes.specs.{declared.nodes.Node.Node, declared.pieces.Piece.Piece}
 
 -- the least of a makespan and the bounds that nodes hold
 abbrev pub least_of_bounds : ℕ → List Node → ℕ

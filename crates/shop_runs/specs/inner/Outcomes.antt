@@ -3,17 +3,12 @@
 --     left_open lefts        those of some sheets, in order
 --     stands_after r o       what stands after the round of this outcome
 --     IsOutcome r o          the outcome is that of the round's sheets
---     TakesIn o s t          the outcome t is o with one more sheet
-use Rattle.std.specs.Prelude.{◌≡◌, ◌+◌, ◌*◌, ◌≤◌, List, [], ◌∷◌, ◌++◌, flat_map, nat_lt}
-use Rattle.std.specs.Prelude.{if◌then◌else◌, unwrap_or}
+use Rattle.std.specs.Prelude.{◌≡◌, ◌+◌, ◌*◌, ◌≤◌, List, [], ◌∷◌, ◌++◌, flat_map, nat_lt, if◌then◌else◌, unwrap_or}
 use Rattle.shop_bound.specs.Bound.{lb}
-use Rattle.shop_nodes.specs.Left.{Leaving, open_nodes}
-use Rattle.shop_nodes.specs.Nodes.{words_of, AreNodes}
-use Rattle.shop_nodes.specs.declared.nodes.Node.{Node}
+use Rattle.shop_nodes.specs.{Left.{Leaving, open_nodes}, Nodes.{words_of, AreNodes}, declared.nodes.Node.Node}
 use Rattle.shop_nodes.specs.declared.sheets.Sheet.{Sheet}
-use Rattle.shop_runs.specs.Round.{Told, Stand, gathered, words_below}
 use Rattle.shop_runs.specs.declared.plans.TheConstants.{MAX_BUDGET, MAX_PIECES}
-use Rattle.shop_runs.specs.declared.outcomes.RoundResult.{RoundResult}
+use Rattle.shop_runs.specs.{declared.outcomes.RoundResult.RoundResult, Round.{Told, Stand, gathered, words_below}}
 
 abbrev pub open_of : Leaving → List Node
 open_of l = open_nodes l.shop l.makespan l.words

@@ -1,37 +1,22 @@
 -- Where a run stands between two rounds.
---     stand_of t                        where run t stands, its open words in the order of the
---                                       next cut
---     IsSearchAt shop order s t         run t stands at s, its open words in this order
---     IsSearchOf shop order t           run t is at a standing of the instance, in this order
---     IsJoined left others t            the open nodes of run t are those left, put before the
---                                       others whose bounds are below the makespan
---     front_of r                        the round without its rest
---     IsFront shop plan t r others      r is the front of what is cut, the others its rest
+--     stand_of t                    where run t stands, its open words in the order of the next cut
+--     IsSearchAt shop order s t     run t stands at s, its open words in this order
+--     IsSearchOf shop order t       run t is at a standing of the instance, in this order
+--     IsJoined left others t        the open nodes of run t are those left, put before the others whose bounds are
+--                                   below the makespan
+--     front_of r                    the round without its rest
+--     IsFront shop plan t r others  r is the front of what is cut, the others its rest
 use Rattle.std.specs.Prelude.{◌≡◌, List, []}
 use Rattle.shop_model.specs.Shop.{Shop}
-use Rattle.shop_nodes.specs.Nodes.{words_of, AreNodes}
-use Rattle.shop_nodes.specs.declared.nodes.Node.{Node}
-use Rattle.shop_runs.specs.Round.{Stand, Told, in_order, makespan_of, cut_of}
-use Rattle.shop_runs.specs.Laws.{IsStanding}
-use Rattle.shop_runs.specs.Entries.{told}
-use Rattle.shop_runs.specs.Plans.{planned}
-use Rattle.shop_nodes.specs.inner.HeldNodes.{nodes_below}
-use Rattle.shop_runs.specs.inner.OpenNodes.{AreBelow}
-use Rattle.shop_runs.specs.inner.Stacks.{put_all_before}
-use Rattle.shop_runs.specs.inner.Stores.{open_list, order_of}
-use Rattle.shop_runs.specs.declared.open_nodes.OpenNodes.{OpenNodes}
-use Rattle.shop_runs.specs.declared.plans.Order.{Order}
-use Rattle.shop_runs.specs.declared.plans.Plan.{Plan}
-use Rattle.shop_runs.specs.declared.rounds.Round.{Round}
+use Rattle.shop_nodes.specs.{Nodes.{words_of, AreNodes}, declared.nodes.Node.Node, inner.HeldNodes.nodes_below}
+use Rattle.shop_runs.specs.{Round.{Stand, Told, in_order, makespan_of, cut_of}, Laws.IsStanding, Entries.told}
+use Rattle.shop_runs.specs.{Plans.planned, inner.OpenNodes.AreBelow, inner.Stacks.put_all_before}
+use Rattle.shop_runs.specs.{inner.Stores.{open_list, order_of}, declared.open_nodes.OpenNodes.OpenNodes}
+use Rattle.shop_runs.specs.{declared.plans.Order.Order, declared.plans.Plan.Plan, declared.rounds.Round.Round}
 use Rattle.shop_runs.specs.declared.runs.OpenRun.{OpenRun}
 
 abbrev pub stand_of : OpenRun → Stand
-stand_of t = record {
-  word = t.word;
-  open_words = words_of (open_list t.open);
-  rounds = t.rounds;
-  nodes = t.nodes;
-}
+stand_of t = record { word = t.word; open_words = words_of (open_list t.open); rounds = t.rounds; nodes = t.nodes }
 
 pub record IsSearchAt (shop : Shop) (order : Order) (s : Stand) (t : OpenRun) : Type 0 where
   pub stands_at : stand_of t ≡ record s { open_words = in_order shop order s.open_words }
@@ -48,14 +33,12 @@ pub record IsSearchOf (shop : Shop) (order : Order) (t : OpenRun) : Type 0 where
 
 pub record IsJoined (left : List Node) (others : OpenNodes) (t : OpenRun) : Type 0 where
   pub kept : order_of t.open ≡ order_of others
-  pub open_nodes : open_list t.open ≡ put_all_before (order_of others) left
-      (nodes_below t.makespan (open_list others))
+  pub open_nodes : open_list t.open ≡ put_all_before (order_of others) left (nodes_below t.makespan (open_list others))
 
 abbrev pub front_of : Told → Told
 front_of r = record r { rest = [] }
 
-pub record IsFront (shop : Shop) (plan : Plan) (t : OpenRun) (r : Round) (others : OpenNodes)
-    : Type 0 where
+pub record IsFront (shop : Shop) (plan : Plan) (t : OpenRun) (r : Round) (others : OpenNodes) : Type 0 where
   pub round : told r ≡ front_of (cut_of shop (planned plan) (stand_of t))
   pub rest : words_of (open_list others) ≡ (cut_of shop (planned plan) (stand_of t)).rest
   pub bounds : AreNodes shop (open_list others)

@@ -1,25 +1,19 @@
 -- Open nodes in the order in which the next cut takes them.
---     words_in block                  the words of a block, from its top down
---     words_on stack                  the words of a stack, from its top down
---     Place                           a place of a row: the stack of a bound, if there is one
---     words_at place                  the words of this stack
---     nodes_of_bound bound words      nodes of these words, of one bound
---     nodes_by_bound entries          the nodes of stacks by bound, in order
---     nodes_in_row bound stacks       the nodes of a row of stacks, the first one of this bound
---     put_before order node nodes     the node before those that the order has behind it
---     put_all_before order ns nodes   each node of ns before those that the order has behind it,
---                                     the last one put first
---     IsNextOf node before after      the first node is taken from the list, if there is one
---     IsTopIfMore word before after   the first word is taken from the list, or nothing is, as there is
---                                     at most one word
-use Rattle.std.specs.Prelude.{◌≡◌, ℕ, suc, ◌≤◌, Option, Some, None, List, [], ◌∷◌, ◌++◌}
-use Rattle.std.specs.Prelude.{map, flat_map, reverse, length}
+--     words_in block                 the words of a block, from its top down
+--     words_on stack                 the words of a stack, from its top down
+--     Place                          a place of a row: the stack of a bound, if there is one
+--     words_at place                 the words of this stack
+--     nodes_of_bound bound words     nodes of these words, of one bound
+--     nodes_by_bound entries         the nodes of stacks by bound, in order
+--     nodes_in_row bound stacks      the nodes of a row of stacks, the first one of this bound
+--     put_before order node nodes    the node before those that the order has behind it
+--     put_all_before order ns nodes  each node of ns before those that the order has behind it, the last one put first
+--     IsNextOf node before after     the first node is taken from the list, if there is one
+--     IsTopIfMore word before after  the first word is taken from the list, or nothing is, as there is at most one word
+use Rattle.std.specs.Prelude.{◌≡◌, ℕ, suc, ◌≤◌, Option, Some, None, List, [], ◌∷◌, ◌++◌, map, flat_map, reverse, length}
 use Rattle.std.specs.Global.{Box}
-use Rattle.shop_nodes.specs.Branching.{insert_by}
-use Rattle.shop_nodes.specs.declared.nodes.Node.{Node}
-use Rattle.shop_runs.specs.declared.stacks.Chunk.{Chunk}
-use Rattle.shop_runs.specs.declared.stacks.Stack.{Stack}
-use Rattle.shop_runs.specs.declared.plans.Order.{Order}
+use Rattle.shop_nodes.specs.{Branching.insert_by, declared.nodes.Node.Node}
+use Rattle.shop_runs.specs.{declared.stacks.Chunk.Chunk, declared.stacks.Stack.Stack, declared.plans.Order.Order}
 use Rattle.shop_runs.specs.declared.plans.Order.TheVariants.{Kept, Bound}
 
 abbrev pub words_in : Chunk → List (List ℕ)
@@ -44,8 +38,7 @@ nodes_by_bound (e ∷ es) = nodes_of_bound e.0 (words_on e.1) ++ nodes_by_bound 
 
 abbrev pub nodes_in_row : ℕ → List Place → List Node
 nodes_in_row bound [] = []
-nodes_in_row bound (s ∷ stacks) =
-    nodes_of_bound bound (words_at s) ++ nodes_in_row (suc bound) stacks
+nodes_in_row bound (s ∷ stacks) = nodes_of_bound bound (words_at s) ++ nodes_in_row (suc bound) stacks
 
 abbrev pub put_before : Order → Node → List Node → List Node
 put_before Kept node nodes = node ∷ nodes

@@ -7,12 +7,10 @@
 --     IsTaken n nodes before after    the first n were taken
 --     IsKeptBelow c before after      those of bounds below c were kept
 use Rattle.std.specs.Prelude.{◌≡◌, ℕ, Option, List, take, drop}
-use Rattle.shop_nodes.specs.declared.nodes.Node.{Node}
+use Rattle.shop_nodes.specs.{declared.nodes.Node.Node, inner.HeldNodes.nodes_below}
 use Rattle.shop_runs.specs.declared.open_nodes.OpenNodes.{OpenNodes}
 use Rattle.shop_runs.specs.declared.open_nodes.OpenNodes.TheVariants.{AsKept, InRow, InMap}
-use Rattle.shop_runs.specs.declared.plans.Order.{Order}
-use Rattle.shop_runs.specs.declared.plans.Order.TheVariants.{Kept, Bound}
-use Rattle.shop_nodes.specs.inner.HeldNodes.{nodes_below}
+use Rattle.shop_runs.specs.{declared.plans.Order.Order, declared.plans.Order.TheVariants.{Kept, Bound}}
 use Rattle.shop_runs.specs.inner.Stacks.{put_before, put_all_before, IsNextOf}
 
 abbrev pub open_list : OpenNodes → List Node
@@ -34,13 +32,11 @@ ArePut nodes before after = (order_of after ≡ order_of before)
     × (open_list after ≡ put_all_before (order_of before) nodes (open_list before))
 
 abbrev pub HasPopped : Option Node → OpenNodes → OpenNodes → Type 0
-HasPopped node before after = (order_of after ≡ order_of before)
-    × IsNextOf node (open_list before) (open_list after)
+HasPopped node before after = (order_of after ≡ order_of before) × IsNextOf node (open_list before) (open_list after)
 
 abbrev pub IsTaken : ℕ → List Node → OpenNodes → OpenNodes → Type 0
 IsTaken n nodes before after = (order_of after ≡ order_of before)
     × (nodes ≡ take n (open_list before)) × (open_list after ≡ drop n (open_list before))
 
 abbrev pub IsKeptBelow : ℕ → OpenNodes → OpenNodes → Type 0
-IsKeptBelow c before after = (order_of after ≡ order_of before)
-    × (open_list after ≡ nodes_below c (open_list before))
+IsKeptBelow c before after = (order_of after ≡ order_of before) × (open_list after ≡ nodes_below c (open_list before))

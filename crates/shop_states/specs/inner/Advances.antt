@@ -5,25 +5,18 @@
 --     CanAdvance greatest l rows ..    some word is kept in lanes that can go on so, to a word whose
 --                                      spans are no more than these ceilings
 --     CanStrike greatest l rows ..     some word is kept in lanes whose conflict set is one job
---     foreseen l heads ends q least    the end of that operation and what else waits there from it on
 --     HasSameRoom old new ..           as many heads, ends and next operations as before
-use Rattle.std.specs.Prelude.{◌≡◌, ℕ, ◌+◌, ◌-◌, max, List, [], ◌∷◌, ◌++◌, length, slice_index}
-use Rattle.std.specs.Prelude.{slice_set}
-use Rattle.shop_lanes.specs.Rows.{Rows}
-use Rattle.shop_lanes.specs.Spans.{span}
-use Rattle.shop_model.specs.Shop.{Shop}
-use Rattle.shop_model.specs.Word.{IsWord}
+use Rattle.std.specs.Prelude.{◌≡◌, ℕ, ◌+◌, ◌-◌, max, List, [], ◌∷◌, ◌++◌, length, slice_index, slice_set}
+use Rattle.shop_lanes.specs.{Rows.Rows, Spans.span}
+use Rattle.shop_model.specs.{Shop.Shop, Word.IsWord}
 use Rattle.shop_bound.specs.Conflicts.{conflict}
-use Rattle.shop_states.specs.inner.Ceilings.{AreChildCeilings}
-use Rattle.shop_states.specs.inner.ChildBounds.{IsLeastAfter}
-use Rattle.shop_layout.specs.Lanes.{lanes_on, rows_of}
+use Rattle.shop_states.specs.{inner.Ceilings.AreChildCeilings, inner.ChildBounds.IsLeastAfter}
 use Rattle.shop_states.specs.inner.LaneStates.{IsKeptInLanes}
-use Rattle.shop_layout.specs.Positions.{LayoutState}
+use Rattle.shop_layout.specs.{Lanes.{lanes_on, rows_of}, Positions.LayoutState}
 
 -- `least` for the operation at a position
 abbrev pub IsLeastAt : Shop → List ℕ → LayoutState → Rows → ℕ → ℕ → ℕ → Type 0
-IsLeastAt shop w l rows job position least =
-    IsLeastAfter shop w l rows job position (slice_index l.machines position)
+IsLeastAt shop w l rows job position least = IsLeastAfter shop w l rows job position (slice_index l.machines position)
     (slice_index rows.heads position + slice_index rows.times position) least
 
 pub record IsAdvancing (greatest : ℕ) (shop : Shop) (w : List ℕ) (l : LayoutState) (rows : Rows)
@@ -32,8 +25,7 @@ pub record IsAdvancing (greatest : ℕ) (shop : Shop) (w : List ℕ) (l : Layout
   pub fits : IsWord shop (w ++ job ∷ [])
   pub foreseen : IsLeastAt shop w l rows job (slice_index nexts job) least
 
-pub record CanGoOn (greatest : ℕ) (l : LayoutState) (rows : Rows) (nexts : List ℕ)
-    (job : ℕ) : Type 0 where
+pub record CanGoOn (greatest : ℕ) (l : LayoutState) (rows : Rows) (nexts : List ℕ) (job : ℕ) : Type 0 where
   pub shop : Shop
   pub word : List ℕ
   pub kept : IsKeptInLanes greatest shop word l rows nexts
@@ -52,9 +44,7 @@ pub record HasSameRoom (old new : Rows) (before after : List ℕ) : Type 0 where
   pub jobs : length new.ends ≡ length old.ends
   pub nexts : length after ≡ length before
 
--- lanes and next operations are those of a word whose conflict set is this job
-pub record CanStrike (greatest : ℕ) (l : LayoutState) (rows : Rows) (nexts : List ℕ)
-    (job : ℕ) : Type 0 where
+pub record CanStrike (greatest : ℕ) (l : LayoutState) (rows : Rows) (nexts : List ℕ) (job : ℕ) : Type 0 where
   pub shop : Shop
   pub word : List ℕ
   pub kept : IsKeptInLanes greatest shop word l rows nexts

@@ -3,15 +3,12 @@
 --                                          bounds and conflict sets are those of the instance given
 use Rattle.std.specs.Prelude.{ℕ, List}
 use Rattle.shop_lanes.specs.Rows.{Rows}
-use Rattle.shop_model.specs.Limits.{IsWithinLimits}
-use Rattle.shop_model.specs.Word.{IsWord}
-use Rattle.shop_bound.specs.Conflicts.{SoleCandidateKeepsBound}
-use Rattle.shop_bound.specs.Renumbered.{AreAlike}
+use Rattle.shop_model.specs.{Limits.IsWithinLimits, Word.IsWord}
+use Rattle.shop_bound.specs.{Conflicts.SoleCandidateKeepsBound, Renumbered.AreAlike}
 use Rattle.shop_layout.specs.LaidOuts.{LaidOutState}
 use Rattle.shop_states.specs.inner.LaneStates.{IsKeptInLanes}
 
-pub record IsKeptFor (greatest : ℕ) (d : LaidOutState) (w : List ℕ) (rows : Rows) (nexts : List ℕ)
-    : Type 0 where
+pub record IsKeptFor (greatest : ℕ) (d : LaidOutState) (w : List ℕ) (rows : Rows) (nexts : List ℕ) : Type 0 where
   pub alike : AreAlike d.asked d.shop
   pub limits : IsWithinLimits d.asked
   pub word : IsWord d.asked w

@@ -1,39 +1,29 @@
 -- The candidates of a word, with what each is known to bring the bound to.
---     own_at l heads q               the own span of the operation at position q on its machine
---     told_at nexts first owns j     the bound that own spans, told from position `first` on, tell
---                                    for job j
---     IsTold nexts first count j     the next operation of job j is among the `count` positions from
---                                    `first` on
+--     own_at l heads q             the own span of the operation at position q on its machine
+--     told_at nexts first owns j   the bound that own spans, told from position `first` on, tell for job j
+--     IsTold nexts first count j   the next operation of job j is among the `count` positions from `first` on
 --     IsCandidateOf shop w l job own the word can go on with the job, and to the bound before `own`
---                                    adds what the own span does
---     ListsOwn limit own js cs n     a candidate for each of the jobs, in order, with its own number,
---                                    but for n jobs whose own numbers reach the limit
---     ListsGathered limit own ..     the candidates of a list of jobs that is gathered
---     CanList greatest l ..          the candidates of the conflict set of some blocks can be listed
---     AreCandidatesOf shop w l ..    the candidates of the conflict set, but for some jobs with which
---                                    the bound reaches the limit
---     CanGather greatest l ..        lanes and next operations are those of some word
---     IsChosenBy .. first            the next operation of the chosen job can end first, on this
---                                    machine, and what waits there with a head below its end is in
---                                    the conflict set
-use Rattle.std.specs.Prelude.{◌≡◌, ℕ, zero, suc, ◌+◌, ◌-◌, ◌*◌, ◌^◌, ◌≤◌, ◌<◌, max, List, []}
-use Rattle.std.specs.Prelude.{◌∷◌, ◌++◌, length, slice_index}
-use Rattle.shop_lanes.specs.Rows.{Rows}
-use Rattle.shop_lanes.specs.Spans.{own_span}
-use Rattle.shop_model.specs.Shop.{Shop}
-use Rattle.shop_model.specs.Word.{IsWord, placing}
-use Rattle.shop_bound.specs.Bound.{lb}
-use Rattle.shop_bound.specs.Conflicts.{conflict}
-use Rattle.shop_states.specs.States.{ListsBelow}
-use Rattle.shop_states.specs.inner.LaneChoices.{AreConflictBlocks, AreNextPlaced, IsJobBelow}
-use Rattle.shop_states.specs.inner.LaneHeads.{AreHeadsAt}
-use Rattle.shop_states.specs.inner.LaneStates.{IsKeptInLanes}
+--                                  adds what the own span does
+--     ListsOwn limit own js cs n   a candidate for each of the jobs, in order, with its own number, but for n jobs
+--                                  whose own numbers reach the limit
+--     ListsGathered limit own ..   the candidates of a list of jobs that is gathered
+--     AreCandidatesOf shop w l ..  the candidates of the conflict set, but for some jobs with which the bound reaches
+--                                  the limit
+--     CanGather greatest l ..      lanes and next operations are those of some word
+--     IsChosenBy .. first          the next operation of the chosen job can end first, on this machine, and what waits
+--                                  there with a head below its end is in the conflict set
+use Rattle.std.specs.Prelude.{◌≡◌, ℕ, zero, suc, ◌+◌, ◌-◌, ◌*◌, ◌^◌, ◌≤◌, ◌<◌, max, List, [], ◌∷◌, ◌++◌, length}
+use Rattle.std.specs.Prelude.{slice_index}
+use Rattle.shop_lanes.specs.{Rows.Rows, Spans.own_span}
+use Rattle.shop_model.specs.{Shop.Shop, Word.{IsWord, placing}}
+use Rattle.shop_bound.specs.{Bound.lb, Conflicts.conflict}
+use Rattle.shop_states.specs.{States.ListsBelow, inner.LaneChoices.{AreConflictBlocks, AreNextPlaced, IsJobBelow}}
+use Rattle.shop_states.specs.{inner.LaneHeads.AreHeadsAt, inner.LaneStates.IsKeptInLanes}
 use Rattle.shop_states.specs.inner.Raises.{HasBlocks, IsInBlocks, IsOnMachine}
-use Rattle.shop_states.specs.inner.RisingLists.{IsGatheredWith, IsIn}
-use Rattle.shop_layout.specs.Positions.{LayoutState, place}
-use Rattle.shop_states.specs.declared.dispatching.Candidate.{Candidate}
+use Rattle.shop_states.specs.{inner.RisingLists.{IsGatheredWith, IsIn}, declared.dispatching.Candidate.Candidate}
 use Rattle.shop_states.specs.declared.lane_choices.ConflictBlocks.{ConflictBlocks}
 use Rattle.shop_states.specs.declared.candidate_lists.FirstEnd.{FirstEnd}
+use Rattle.shop_layout.specs.Positions.{LayoutState, place}
 
 abbrev pub own_at : LayoutState → List ℕ → ℕ → ℕ
 own_at l heads q =
@@ -60,7 +50,6 @@ pub data ListsOwn (limit : ℕ) (own : ℕ → ℕ) : List ℕ → List Candidat
   left_out : {js : List ℕ} {cs : List Candidate} {n : ℕ} (j : ℕ) → limit ≤ own j
       → ListsOwn limit own js cs n → ListsOwn limit own (j ∷ js) cs (suc n)
 
--- jobs that are gathered, and their candidates
 pub record ListsGathered (limit : ℕ) (own : ℕ → ℕ) (IsGathered : List ℕ → Type 0)
     (cs : List Candidate) (others : ℕ) : Type 0 where
   pub jobs : List ℕ

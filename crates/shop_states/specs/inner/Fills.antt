@@ -4,25 +4,17 @@
 --     IsRested heads                 nothing waits anywhere
 --     CanFill greatest shop l rows   all heads of what was placed can be set
 --     HasFilledJob, HasFilled        the heads of a job, or of all jobs, were set
---     IsAtLeg shop l s j index ..    job j is ready for leg `index` in a placement
 --     IsAtSomeLeg, IsOnSomeRoute     so it is after some word; so is some job
---     IsNextSet shop l p j ..        the next operation of job j is told, and its end was set
 --     AreNextsSet shop l p n ..      those of the first n jobs
 use Rattle.std.specs.Prelude.{◌≡◌, ℕ, ◌+◌, ◌≤◌, ◌<◌, ◌^◌, List, length, slice_index}
 use Rattle.shop_lanes.specs.Rows.{Rows}
-use Rattle.shop_model.specs.Limits.{IsWithinLimits}
-use Rattle.shop_model.specs.Shop.{Shop, IsOperation, route_of}
-use Rattle.shop_model.specs.Word.{Placing}
-use Rattle.shop_bound.specs.Conflicts.{next_end}
-use Rattle.shop_bound.specs.Heads.{head_of}
-use Rattle.shop_bound.specs.inner.PlacedWords.{IsOfWord}
+use Rattle.shop_model.specs.{Limits.IsWithinLimits, Shop.{Shop, IsOperation, route_of}, Word.Placing}
 use Rattle.shop_model.specs.Placements.{PlacementState, IsPlacement}
+use Rattle.shop_bound.specs.{Conflicts.next_end, Heads.head_of, inner.PlacedWords.IsOfWord}
 use Rattle.shop_states.specs.inner.LaneHeads.{AreHeadsAt, AreHeadsFit}
-use Rattle.shop_layout.specs.Legs.{leg_index}
-use Rattle.shop_layout.specs.Positions.{LayoutState, place, place_or, first_position, IsLaidOut}
+use Rattle.shop_layout.specs.{Legs.leg_index, Positions.{LayoutState, place, place_or, first_position, IsLaidOut}}
 
-pub record IsStored (shop : Shop) (p : Placing) (l : LayoutState) (old new : List ℕ)
-    (j k : ℕ) : Type 0 where
+pub record IsStored (shop : Shop) (p : Placing) (l : LayoutState) (old new : List ℕ) (j k : ℕ) : Type 0 where
   pub waiting : p.steps j ≤ k → slice_index new (place l j k) ≡ head_of shop p j k + 1
   pub placed : k < p.steps j → slice_index new (place l j k) ≡ slice_index old (place l j k)
 
@@ -42,19 +34,16 @@ pub record AreSameBeside (old new : Rows) : Type 0 where
   pub tails : new.tails ≡ old.tails
   pub positions : length new.heads ≡ length old.heads
 
-pub record HasFilledJob (shop : Shop) (l : LayoutState) (s : PlacementState) (j : ℕ)
-    (old new : Rows) : Type 0 where
+pub record HasFilledJob (shop : Shop) (l : LayoutState) (s : PlacementState) (j : ℕ) (old new : Rows) : Type 0 where
   pub beside : AreSameBeside old new
   pub filled : (p : Placing) → IsPlacement shop p s → (k : ℕ) → IsOperation shop j k
       → IsStored shop p l old.heads new.heads j k
   pub others : (q : ℕ) → ((k : ℕ) → IsOperation shop j k → place l j k ≡ q → ⊥)
       → slice_index new.heads q ≡ slice_index old.heads q
 
-pub record HasFilled (shop : Shop) (l : LayoutState) (s : PlacementState)
-    (old new : Rows) : Type 0 where
+pub record HasFilled (shop : Shop) (l : LayoutState) (s : PlacementState) (old new : Rows) : Type 0 where
   pub beside : AreSameBeside old new
-  pub filled : IsRested old.heads → (p : Placing) → IsPlacement shop p s
-      → AreHeadsAt shop p l new.heads
+  pub filled : IsRested old.heads → (p : Placing) → IsPlacement shop p s → AreHeadsAt shop p l new.heads
 
 -- job j is ready for leg `index`, which is its next one in the placement of a word
 pub record IsAtLeg (shop : Shop) (l : LayoutState) (s : PlacementState) (j index ready : ℕ)
@@ -64,20 +53,17 @@ pub record IsAtLeg (shop : Shop) (l : LayoutState) (s : PlacementState) (j index
   pub ready_is : ready ≡ slice_index s.ready j
   pub free_is : free ≡ s.free
 
-pub record IsAtSomeLeg (shop : Shop) (l : LayoutState) (j index ready : ℕ)
-    (free : List ℕ) : Type 0 where
+pub record IsAtSomeLeg (shop : Shop) (l : LayoutState) (j index ready : ℕ) (free : List ℕ) : Type 0 where
   pub placement : PlacementState
   pub at : IsAtLeg shop l placement j index ready free
 
-pub record IsOnSomeRoute (shop : Shop) (l : LayoutState) (index ready : ℕ)
-    (free : List ℕ) : Type 0 where
+pub record IsOnSomeRoute (shop : Shop) (l : LayoutState) (index ready : ℕ) (free : List ℕ) : Type 0 where
   pub job : ℕ
   pub known : job < length shop.jobs
   pub some : IsAtSomeLeg shop l job index ready free
 
 -- the next operation of job j stands at `position`, and its end was set; where it has none, no end
-pub record IsNextSet (shop : Shop) (l : LayoutState) (p : Placing) (j position : ℕ)
-    (old new : List ℕ) : Type 0 where
+pub record IsNextSet (shop : Shop) (l : LayoutState) (p : Placing) (j position : ℕ) (old new : List ℕ) : Type 0 where
   pub is : position ≡ place_or (first_position l shop.machines) l.places j (p.steps j)
   pub long : length new ≡ length old
   pub next : IsOperation shop j (p.steps j) → slice_index new j ≡ next_end shop p j + 1
@@ -88,10 +74,8 @@ pub record AreNextsSet (shop : Shop) (l : LayoutState) (p : Placing) (n : ℕ)
     (old new ends_before ends_after : List ℕ) : Type 0 where
   pub jobs : length new ≡ length old
   pub long : length ends_after ≡ length ends_before
-  pub are : (j : ℕ) → j < n → slice_index new j
-      ≡ place_or (first_position l shop.machines) l.places j (p.steps j)
+  pub are : (j : ℕ) → j < n → slice_index new j ≡ place_or (first_position l shop.machines) l.places j (p.steps j)
   pub later : (j : ℕ) → n ≤ j → slice_index new j ≡ slice_index old j
-  pub next : (j : ℕ) → j < n → IsOperation shop j (p.steps j)
-      → slice_index ends_after j ≡ next_end shop p j + 1
+  pub next : (j : ℕ) → j < n → IsOperation shop j (p.steps j) → slice_index ends_after j ≡ next_end shop p j + 1
   pub none : (j : ℕ) → (j < n → length (route_of shop j) ≤ p.steps j)
       → slice_index ends_after j ≡ slice_index ends_before j

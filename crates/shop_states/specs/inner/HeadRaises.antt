@@ -24,10 +24,8 @@ no_raise = record { from = 0; to = 0 }
 abbrev pub raise_of : List Raise → ℕ → Raise
 raise_of raises m = slice_index_or raises m no_raise
 
--- where no head rose
 abbrev pub nothing_raised : ℕ → Raise
 nothing_raised greatest = record { from = greatest; to = 0 }
 
--- the raise with one more head in it
 abbrev pub widened : Raise → ℕ → ℕ → Raise
 widened r a b = record { from = min r.from a; to = max r.to b }

@@ -1,41 +1,32 @@
 -- The choice among next operations by lanes.
---     AreNextsOf shop p l nexts      the position of the next operation of each job, or the number
---                                    of all positions
---     IsJobBelow l heads among ..    an operation of job j waits among some positions with a head
---                                    below a limit
+--     AreNextsOf shop p l nexts      the position of the next operation of each job, or the number of all positions
+--     IsJobBelow l heads among ..    an operation of job j waits among some positions with a head below a limit
 --     IsJobAt l ps j                 job j has the operation at one of these positions
---     AreConflictBlocks greatest ..  blocks in which a conflict set can lie, and in some of them the
---                                    positions of heads below an end
+--     AreConflictBlocks greatest ..  blocks in which a conflict set can lie, and in some of them the positions of heads
+--                                    below an end
 --     HaveJobs l positions most      each position has a job, all jobs being below a number
 --     AreNextPlaced l heads nexts    each position has a job, and the next operations have theirs
---     AreEndsAt greatest shop p ..   when the next operations can end
 --     AreNextsAt shop p l nexts ..   heads and next operations are those of placing p
 --     AreChoosable greatest ..       all that the choice by lanes stands on
 use Rattle.std.specs.Prelude.{◌≡◌, ℕ, ◌+◌, ◌*◌, ◌≤◌, ◌<◌, ◌^◌, List, length, slice_index}
-use Rattle.shop_lanes.specs.Marks.{positions_below}
-use Rattle.shop_lanes.specs.Rows.{Rows}
-use Rattle.shop_model.specs.Limits.{IsWithinLimits}
-use Rattle.shop_model.specs.Shop.{Shop, route_of, IsOperation}
-use Rattle.shop_model.specs.Word.{Placing}
+use Rattle.shop_lanes.specs.{Marks.positions_below, Rows.Rows}
+use Rattle.shop_model.specs.{Limits.IsWithinLimits, Shop.{Shop, route_of, IsOperation}, Word.Placing}
 use Rattle.shop_bound.specs.Conflicts.{next_end}
-use Rattle.shop_states.specs.declared.lane_choices.ConflictBlocks.{ConflictBlocks}
-use Rattle.shop_states.specs.inner.LaneHeads.{AreHeadsAt}
+use Rattle.shop_states.specs.{declared.lane_choices.ConflictBlocks.ConflictBlocks, inner.LaneHeads.AreHeadsAt}
 use Rattle.shop_states.specs.inner.RisingLists.{IsIn}
 use Rattle.shop_layout.specs.Positions.{place_or, LayoutState, IsLaidOut, first_position}
 
-pub record AreNextsOf (shop : Shop) (p : Placing) (l : LayoutState)
-    (nexts : List ℕ) : Type 0 where
+pub record AreNextsOf (shop : Shop) (p : Placing) (l : LayoutState) (nexts : List ℕ) : Type 0 where
   pub jobs : length nexts ≡ length shop.jobs
   pub are : (j : ℕ) → j < length shop.jobs
       → slice_index nexts j ≡ place_or (first_position l shop.machines) l.places j (p.steps j)
 
-pub record IsJobBelow (l : LayoutState) (heads : List ℕ) (among : ℕ → Type 0) (limit j : ℕ) : Type 0
-  where
-    pub position : ℕ
-    pub there : among position
-    pub waits : 0 < slice_index heads position
-    pub below : slice_index heads position < limit
-    pub job : slice_index l.jobs position ≡ j
+pub record IsJobBelow (l : LayoutState) (heads : List ℕ) (among : ℕ → Type 0) (limit j : ℕ) : Type 0 where
+  pub position : ℕ
+  pub there : among position
+  pub waits : 0 < slice_index heads position
+  pub below : slice_index heads position < limit
+  pub job : slice_index l.jobs position ≡ j
 
 abbrev pub IsJobAt : LayoutState → List ℕ → ℕ → Type 0
 IsJobAt l ps j = (q : ℕ) × IsIn ps q × (slice_index l.jobs q ≡ j)
@@ -62,22 +53,18 @@ pub record AreNextPlaced (l : LayoutState) (heads nexts : List ℕ) : Type 0 whe
 pub record AreEndsAt (greatest : ℕ) (shop : Shop) (p : Placing) (ends : List ℕ) : Type 0 where
   pub jobs : length ends ≡ length shop.jobs
   pub next : (j : ℕ) → IsOperation shop j (p.steps j) → slice_index ends j ≡ next_end shop p j + 1
-  pub none : (j : ℕ) → j < length shop.jobs → length (route_of shop j) ≤ p.steps j
-      → slice_index ends j ≡ greatest
+  pub none : (j : ℕ) → j < length shop.jobs → length (route_of shop j) ≤ p.steps j → slice_index ends j ≡ greatest
   pub fits : (j : ℕ) → IsOperation shop j (p.steps j) → next_end shop p j + 1 < greatest
 
--- heads and next operations of one placing
-pub record AreNextsAt (shop : Shop) (p : Placing) (l : LayoutState) (nexts : List ℕ)
-    (rows : Rows) : Type 0 where
+pub record AreNextsAt (shop : Shop) (p : Placing) (l : LayoutState) (nexts : List ℕ) (rows : Rows) : Type 0 where
   pub laid : IsLaidOut shop l
   pub limits : IsWithinLimits shop
   pub are : AreNextsOf shop p l nexts
   pub heads : AreHeadsAt shop p l rows.heads
   pub times : rows.times ≡ l.times
 
-pub record AreChoosable (greatest : ℕ) (shop : Shop) (p : Placing) (l : LayoutState)
-    (nexts : List ℕ) (rows : Rows)
-    : Type 0 where
+pub record AreChoosable (greatest : ℕ) (shop : Shop) (p : Placing) (l : LayoutState) (nexts : List ℕ)
+    (rows : Rows) : Type 0 where
   pub at : AreNextsAt shop p l nexts rows
   pub ends : AreEndsAt greatest shop p rows.ends
   pub computable : greatest < 2 ^ 64

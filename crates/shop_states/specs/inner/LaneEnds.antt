@@ -1,22 +1,17 @@
 -- The ends of next operations in lanes.
---     end_at greatest nexts rows j       one more than when the next operation of job j can end
---                                        from its head on, or the greatest number where it has no
---                                        step left
+--     end_at greatest nexts rows j       one more than when the next operation of job j can end from its head on, or
+--                                        the greatest number where it has no step left
 --     AreEndsOf greatest nexts rows      the ends of all jobs in lanes are `end_at`
 --     CanKeepEnds greatest l nexts rows  the end of each job can be set
 --     HasEnds old new                    the ends alone differ
-use Rattle.std.specs.Prelude.{◌≡◌, ℕ, ◌+◌, ◌≤◌, ◌<◌, ◌^◌, List, length, slice_index, if◌then◌else◌}
-use Rattle.std.specs.Prelude.{nat_lt}
+use Rattle.std.specs.Prelude.{◌≡◌, ℕ, ◌+◌, ◌≤◌, ◌<◌, ◌^◌, List, length, slice_index, if◌then◌else◌, nat_lt}
 use Rattle.shop_lanes.specs.Rows.{Rows}
 use Rattle.shop_states.specs.inner.LaneChoices.{AreNextPlaced}
 use Rattle.shop_layout.specs.Positions.{LayoutState}
 
 abbrev pub end_at : ℕ → List ℕ → Rows → ℕ → ℕ
-end_at greatest nexts rows j =
-    if nat_lt (slice_index nexts j) (length rows.heads)
-    then slice_index rows.heads (slice_index nexts j)
-    + slice_index rows.times (slice_index nexts j)
-    else greatest
+end_at greatest nexts rows j = if nat_lt (slice_index nexts j) (length rows.heads)
+    then slice_index rows.heads (slice_index nexts j) + slice_index rows.times (slice_index nexts j) else greatest
 
 -- one end, and all
 abbrev pub IsEndOf : ℕ → List ℕ → Rows → ℕ → Type 0
@@ -25,8 +20,7 @@ IsEndOf greatest nexts rows j = slice_index rows.ends j ≡ end_at greatest next
 abbrev pub AreEndsOf : ℕ → List ℕ → Rows → Type 0
 AreEndsOf greatest nexts rows = (j : ℕ) → j < length nexts → IsEndOf greatest nexts rows j
 
-pub record CanKeepEnds (greatest : ℕ) (l : LayoutState) (nexts : List ℕ)
-    (rows : Rows) : Type 0 where
+pub record CanKeepEnds (greatest : ℕ) (l : LayoutState) (nexts : List ℕ) (rows : Rows) : Type 0 where
   pub placed : AreNextPlaced l rows.heads nexts
   pub positions : length l.following ≡ length rows.heads
   pub ends : length rows.ends ≡ length nexts

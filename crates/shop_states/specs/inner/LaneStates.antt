@@ -5,18 +5,13 @@
 --     HasRoom shop l heads ends nexts      there is room for heads, ends and next operations
 use Rattle.std.specs.Prelude.{◌≡◌, ℕ, ◌<◌, ◌^◌, List, length, slice_index, slice_set}
 use Rattle.shop_lanes.specs.Rows.{Rows, with_end}
-use Rattle.shop_model.specs.Limits.{IsWithinLimits}
-use Rattle.shop_model.specs.Shop.{Shop}
-use Rattle.shop_model.specs.Word.{IsWord, placing}
+use Rattle.shop_model.specs.{Limits.IsWithinLimits, Shop.Shop, Word.{IsWord, placing}}
 use Rattle.shop_bound.specs.Conflicts.{SoleCandidateKeepsBound}
-use Rattle.shop_layout.specs.HeadLimits.{FitsLanes}
-use Rattle.shop_states.specs.inner.LaneChoices.{AreEndsAt, AreNextsOf}
-use Rattle.shop_states.specs.inner.LaneEnds.{end_at}
+use Rattle.shop_layout.specs.{HeadLimits.FitsLanes, Positions.{LayoutState, IsLaidOut, first_position}}
+use Rattle.shop_states.specs.{inner.LaneChoices.{AreEndsAt, AreNextsOf}, inner.LaneEnds.end_at}
 use Rattle.shop_states.specs.inner.LaneHeads.{AreHeadsAt, AreHeadsFit}
-use Rattle.shop_layout.specs.Positions.{LayoutState, IsLaidOut, first_position}
 
-pub record AreHeadsInLanes (greatest : ℕ) (shop : Shop) (w : List ℕ) (l : LayoutState)
-    (rows : Rows) : Type 0 where
+pub record AreHeadsInLanes (greatest : ℕ) (shop : Shop) (w : List ℕ) (l : LayoutState) (rows : Rows) : Type 0 where
   pub limits : IsWithinLimits shop
   pub word : IsWord shop w
   pub laid : IsLaidOut shop l

@@ -3,17 +3,11 @@
 --     AreBegun shop l n legs ..      the first n jobs are at their first legs
 --     IsWordAt shop l legs ..        next legs and times are those of some word
 --     placement_at l legs ready ..   the placement that next legs and times stand for
---     step_at l j i                  the step of job j of which leg i is
-use Rattle.std.specs.Prelude.{◌≡◌, ℕ, ◌-◌, ◌<◌, List, length, map, slice_index}
-use Rattle.std.specs.List.{range_with_len}
-use Rattle.shop_model.specs.Placements.{PlacementState}
-use Rattle.shop_model.specs.Shop.{Shop, release_of}
-use Rattle.shop_model.specs.Word.{Placing, IsWord, placing}
-use Rattle.shop_layout.specs.Legs.{leg_index}
-use Rattle.shop_layout.specs.Positions.{LayoutState}
+use Rattle.std.specs.{Prelude.{◌≡◌, ℕ, ◌-◌, ◌<◌, List, length, map, slice_index}, List.range_with_len}
+use Rattle.shop_model.specs.{Placements.PlacementState, Shop.{Shop, release_of}, Word.{Placing, IsWord, placing}}
+use Rattle.shop_layout.specs.{Legs.leg_index, Positions.LayoutState}
 
-pub record IsPlacedAt (shop : Shop) (p : Placing) (l : LayoutState)
-    (legs ready free : List ℕ) : Type 0 where
+pub record IsPlacedAt (shop : Shop) (p : Placing) (l : LayoutState) (legs ready free : List ℕ) : Type 0 where
   pub next_jobs : length legs ≡ length shop.jobs
   pub jobs : length ready ≡ length shop.jobs
   pub machines : length free ≡ shop.machines
@@ -21,8 +15,7 @@ pub record IsPlacedAt (shop : Shop) (p : Placing) (l : LayoutState)
   pub ready_at : (j : ℕ) → j < length shop.jobs → slice_index ready j ≡ p.ready j
   pub free_at : (m : ℕ) → m < shop.machines → slice_index free m ≡ p.free m
 
-pub record AreBegun (shop : Shop) (l : LayoutState) (n : ℕ) (legs ready : List ℕ)
-    : Type 0 where
+pub record AreBegun (shop : Shop) (l : LayoutState) (n : ℕ) (legs ready : List ℕ) : Type 0 where
   pub next_jobs : length legs ≡ length shop.jobs
   pub jobs : length ready ≡ length shop.jobs
   pub first : (j : ℕ) → j < n → slice_index legs j ≡ leg_index l j 0

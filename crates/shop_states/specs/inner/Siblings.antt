@@ -20,34 +20,24 @@
 --                                    which goes on with these candidates
 --     BoundsRaises l rows old cs ..  each number is at least `least` and the spans that begin within
 --                                    the raise of its machine; b is at least each number
-use Rattle.std.specs.Prelude.{◌≡◌, ℕ, ◌+◌, ◌≤◌, ◌<◌, ◌^◌, ◌⊎◌, List, [], ◌∷◌, ◌++◌, length}
-use Rattle.std.specs.Prelude.{slice_index, slice_index_or}
-use Rattle.shop_lanes.specs.Rows.{Rows}
-use Rattle.shop_lanes.specs.Spans.{spans_between}
-use Rattle.shop_model.specs.Shop.{Shop, machine_of}
-use Rattle.shop_model.specs.Word.{IsWord, placing}
+use Rattle.std.specs.Prelude.{◌≡◌, ℕ, ◌+◌, ◌≤◌, ◌<◌, ◌^◌, ◌⊎◌, List, [], ◌∷◌, ◌++◌, length, slice_index, slice_index_or}
+use Rattle.shop_lanes.specs.{Rows.Rows, Spans.spans_between}
+use Rattle.shop_model.specs.{Shop.{Shop, machine_of}, Word.{IsWord, placing}}
 use Rattle.shop_bound.specs.Bound.{lb}
-use Rattle.shop_layout.specs.Lanes.{lanes_on}
-use Rattle.shop_layout.specs.Positions.{LayoutState, place}
-use Rattle.shop_states.specs.inner.HeadRaises.{Raise, raise_of}
-use Rattle.shop_states.specs.inner.LaneStates.{IsKeptInLanes}
-use Rattle.shop_states.specs.inner.MachineRaises.{AreEmpty}
-use Rattle.shop_states.specs.inner.Raises.{AreInRouteOrder, IsFollowed, IsIndexed, IsPlace}
-use Rattle.shop_states.specs.inner.Raises.{at_in, steps_of}
-use Rattle.shop_states.specs.declared.dispatching.Candidate.{Candidate}
-use Rattle.shop_states.specs.declared.siblings.LateMachine.{LateMachine}
-use Rattle.shop_states.specs.declared.siblings.Latest.{Latest}
+use Rattle.shop_layout.specs.{Lanes.lanes_on, Positions.{LayoutState, place}}
+use Rattle.shop_states.specs.inner.Raises.{AreInRouteOrder, IsFollowed, IsIndexed, IsPlace, at_in, steps_of}
+use Rattle.shop_states.specs.{declared.siblings.LateMachine.LateMachine, declared.dispatching.Candidate.Candidate}
+use Rattle.shop_states.specs.{inner.HeadRaises.{Raise, raise_of}, declared.siblings.Latest.Latest}
+use Rattle.shop_states.specs.{inner.LaneStates.IsKeptInLanes, inner.MachineRaises.AreEmpty}
 
-pub record IsRaisedBehind (l : LayoutState) (at : ℕ → ℕ → Type 0) (old new : ℕ → ℕ)
-    : Type 0 where
+pub record IsRaisedBehind (l : LayoutState) (at : ℕ → ℕ → Type 0) (old new : ℕ → ℕ) : Type 0 where
   pub rises : (q : ℕ) → old q ≤ new q
   pub rests : (q : ℕ) → old q ≡ 0 → new q ≡ 0
   pub order : AreInRouteOrder l new
   pub behind : (j k e : ℕ) → k + 1 < steps_of l j → at (place l j k) e → 0 < old (place l j k)
       → e + slice_index l.times (place l j k) ≤ new (place l j (k + 1))
 
-pub record CanRaiseBehind (greatest : ℕ) (l : LayoutState) (rows : Rows) (at : ℕ → ℕ → Type 0)
-    : Type 0 where
+pub record CanRaiseBehind (greatest : ℕ) (l : LayoutState) (rows : Rows) (at : ℕ → ℕ → Type 0) : Type 0 where
   pub indexed : IsIndexed l (length rows.heads)
   pub followed : IsFollowed l (length rows.heads)
   pub machines : length l.machines ≡ length rows.heads
@@ -58,8 +48,7 @@ pub record CanRaiseBehind (greatest : ℕ) (l : LayoutState) (rows : Rows) (at :
   pub other : ℕ → ℕ
   pub raised : IsRaisedBehind l at (at_in rows.heads) other
   pub fits : (q : ℕ) → 0 < other q → other q + slice_index l.times q ≤ greatest
-  pub ends : (q e : ℕ) → at q e → 0 < slice_index rows.heads q
-      → e + slice_index l.times q ≤ greatest
+  pub ends : (q e : ℕ) → at q e → 0 < slice_index rows.heads q → e + slice_index l.times q ≤ greatest
   pub computable : greatest < 2 ^ 64
 
 pub record RaisesBehind (l : LayoutState) (at : ℕ → ℕ → Type 0) (old new : Rows) : Type 0 where
@@ -83,8 +72,7 @@ pub record IsAmong (cs : List Candidate) (j : ℕ) : Type 0 where
   pub is : job_at cs at ≡ j
 
 abbrev pub end_by : List ℕ → List ℕ → List ℕ → ℕ → ℕ
-end_by heads times nexts j =
-    slice_index heads (slice_index nexts j) + slice_index times (slice_index nexts j)
+end_by heads times nexts j = slice_index heads (slice_index nexts j) + slice_index times (slice_index nexts j)
 
 pub record CanEnd (greatest : ℕ) (l : LayoutState) (heads nexts : List ℕ) (j : ℕ) : Type 0 where
   pub job : j < length nexts
@@ -98,12 +86,10 @@ pub record AreLatest (ends : ℕ → ℕ) (cs : List Candidate) (t : Latest) : T
   pub end : t.end ≡ ends t.job
   pub each : (i : ℕ) → i < length cs → ends (job_at cs i) ≤ t.end
   pub others : (i : ℕ) → i < length cs → (job_at cs i ≡ t.job → ⊥) → ends (job_at cs i) ≤ t.second
-  pub second : (t.second ≡ 0)
-      ⊎ ((j : ℕ) × (IsAmong cs j × ((j ≡ t.job → ⊥) × (t.second ≡ ends j))))
+  pub second : (t.second ≡ 0) ⊎ ((j : ℕ) × (IsAmong cs j × ((j ≡ t.job → ⊥) × (t.second ≡ ends j))))
 
 abbrev pub IsLateIn : ℕ → ℕ → ℕ → ℕ → ℕ → ℕ → ℕ → Type 0
-IsLateIn from to x end second q e = (from ≤ q) × (q < to)
-    × (((q ≡ x) × (e ≡ second)) ⊎ ((q ≡ x → ⊥) × (e ≡ end)))
+IsLateIn from to x end second q e = (from ≤ q) × (q < to) × (((q ≡ x) × (e ≡ second)) ⊎ ((q ≡ x → ⊥) × (e ≡ end)))
 
 abbrev pub IsLateOn : LateMachine → ℕ → ℕ → Type 0
 IsLateOn late = IsLateIn late.from late.to late.last late.latest.end late.latest.second
@@ -130,6 +116,5 @@ pub record BoundsRaises (l : LayoutState) (rows : Rows) (old new : List Raise) (
   pub low : least ≤ b
   pub least_of : (m : ℕ) → m < length cs → least ≤ slice_index cs m
   pub covers : (m : ℕ) → m < length cs
-      → spans_between (raise_of old m).from (raise_of old m).to (lanes_on rows l m)
-      ≤ slice_index cs m
+      → spans_between (raise_of old m).from (raise_of old m).to (lanes_on rows l m) ≤ slice_index cs m
   pub most : (m : ℕ) → m < length cs → slice_index cs m ≤ b

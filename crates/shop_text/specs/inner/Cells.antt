@@ -1,8 +1,6 @@
 -- What the parts of the writer of Gantt texts tell.
-use Rattle.std.specs.Prelude.{◌≡◌, ℕ, zero, suc, ◌*◌, ◌<◌, ◌≤◌, Bool, ◌&&◌, nat_le, nat_lt}
-use Rattle.std.specs.Prelude.{if◌then◌else◌, List, length, slice_index}
-use Rattle.std.specs.List.{range_with_len, list_any}
-use Rattle.std.specs.Int.{div_ceil}
+use Rattle.std.specs.Prelude.{◌≡◌, ℕ, zero, suc, ◌*◌, ◌<◌, ◌≤◌, Bool, if◌then◌else◌, List, length, slice_index}
+use Rattle.std.specs.{List.{range_with_len, list_any}, Int.div_ceil}
 use Rattle.shop_model.specs.Shop.{Shop, Starts, IsOperation, finish_of}
 use Rattle.shop_text.specs.Writing.{character_of, is_served, serves}
 
@@ -11,15 +9,10 @@ abbrev pub serves_below : Shop → Starts → ℕ → ℕ → ℕ → ℕ → Bo
 serves_below shop starts machine instant j steps =
     list_any (is_served shop starts machine instant j) (range_with_len 0 steps)
 
--- a column from one to before another
-abbrev pub is_column : ℕ → ℕ → ℕ → Bool
-is_column from to column = nat_le from column && nat_lt column to
-
 -- the character is shown in the columns whose instants pass the test, and the others stay
 abbrev pub ShowsWhere : List ℕ → List ℕ → ℕ → (ℕ → Bool) → Type 0
-ShowsWhere old new character test =
-    (column : ℕ) → column < length old → slice_index new column
-    ≡ (if test column then character else slice_index old column)
+ShowsWhere old new character test = (column : ℕ) → column < length old
+    → slice_index new column ≡ (if test column then character else slice_index old column)
 
 -- job j is shown in the columns at whose instants the machine serves it
 abbrev pub ShowsJob : Shop → Starts → ℕ → ℕ → ℕ → List ℕ → List ℕ → Type 0
@@ -35,10 +28,8 @@ AllEndWithin shop starts unit columns =
 abbrev pub last_shown : Shop → Starts → ℕ → ℕ → ℕ → ℕ
 last_shown shop starts machine instant zero = 46
 last_shown shop starts machine instant (suc j) =
-    if serves shop starts machine instant j then character_of j
-    else last_shown shop starts machine instant j
+    if serves shop starts machine instant j then character_of j else last_shown shop starts machine instant j
 
 abbrev pub ShowsJobs : Shop → Starts → ℕ → ℕ → List ℕ → ℕ → Type 0
-ShowsJobs shop starts machine unit cells jobs =
-    (column : ℕ) → column < length cells
+ShowsJobs shop starts machine unit cells jobs = (column : ℕ) → column < length cells
     → slice_index cells column ≡ last_shown shop starts machine (column * unit) jobs

@@ -1,17 +1,10 @@
 -- What a draft holds of the number lines that a part has so far.
-use Rattle.std.specs.Prelude.{◌≡◌, ℕ, ◌≤◌, ◌<◌, Bool, false, true, ◌&&◌, nat_lt, List, [], ◌∷◌, ◌++◌}
-use Rattle.std.specs.Prelude.{length, map, take, Option, Some, None, Result, Ok, Err, Vec}
-use Rattle.std.specs.declared.alloc.Global.{Global}
-use Rattle.shop_model.specs.declared.ops.Job.{Job}
-use Rattle.shop_model.specs.Shop.{Shop, ShopJob}
-use Rattle.shop_model.specs.Given.{job_as_given, shop_of_jobs}
-use Rattle.shop_text.specs.Grammar.{Row}
-use Rattle.shop_text.specs.Formats.{grammar_of, jobs_in, machines_in}
-use Rattle.shop_text.specs.inner.Grammars.{fields_of}
-use Rattle.shop_text.specs.inner.LineReading.{Fails}
-use Rattle.shop_text.specs.declared.instance_drafts.Draft.{Draft}
-use Rattle.shop_text.specs.declared.faults.ReadFault.{ReadFault}
-use Rattle.shop_text.specs.declared.faults.ReadFault.TheVariants.{NoMemory}
+use Rattle.std.specs.Prelude.{◌≡◌, ℕ, ◌≤◌, ◌<◌, Bool, false, true, ◌&&◌, nat_lt, List, [], ◌∷◌, ◌++◌, length, map, take}
+use Rattle.std.specs.{Prelude.{Option, Some, None, Result, Ok, Err, Vec}, declared.alloc.Global.Global}
+use Rattle.shop_model.specs.{declared.ops.Job.Job, Shop.{Shop, ShopJob}, Given.{job_as_given, shop_of_jobs}}
+use Rattle.shop_text.specs.{Grammar.Row, Formats.{grammar_of, jobs_in, machines_in}, inner.Grammars.fields_of}
+use Rattle.shop_text.specs.{inner.LineReading.Fails, declared.instance_drafts.Draft.Draft}
+use Rattle.shop_text.specs.{declared.faults.ReadFault.ReadFault, declared.faults.ReadFault.TheVariants.NoMemory}
 use Rattle.shop_text.specs.declared.formats.Format.{Format}
 use Rattle.shop_text.specs.declared.formats.Format.TheVariants.{Orlib, Taillard, Routes}
 
@@ -70,8 +63,7 @@ pub record IsOneMore (p : Format) (rows : List Row) (row : Row) (draft : Draft) 
   pub draft_holds : IsDraft p draft (rows ++ row ∷ [])
 
 -- a row was accepted, it was the last, this is the instance, and nothing is drafted
-pub record IsLastOne (p : Format) (rows : List Row) (row : Row) (draft : Draft)
-    (shop : Shop) : Type 0 where
+pub record IsLastOne (p : Format) (rows : List Row) (row : Row) (draft : Draft) (shop : Shop) : Type 0 where
   pub accepted : (grammar_of p).refuses rows row ≡ None
   pub whole : (grammar_of p).is_whole (rows ++ row ∷ []) ≡ true
   pub shop_is : shop ≡ (grammar_of p).shop (rows ++ row ∷ [])

@@ -1,20 +1,14 @@
 -- What the parts of the readers tell, in the words of the grammar.
-use Rattle.std.specs.Prelude.{◌≡◌, ◌⊎◌, min, ℕ, ◌+◌, ◌<◌, ◌≤◌, ◌==◌, true, false, not, length}
-use Rattle.std.specs.Prelude.{filter, take, get_or}
-use Rattle.std.specs.Prelude.{List, [], ◌∷◌, ◌++◌, map}
-use Rattle.std.specs.Prelude.{if◌then◌else◌, Option, Some, None, Result, Ok, Err, MatchOption}
-use Rattle.std.specs.List.{enumerate_from}
-use Rattle.std.specs.Char.{is_ascii_digit}
-use Rattle.shop_text.specs.Lines.{Line, Blank, Numbers, Words, Numbered, is_left, line_of, lines_of}
-use Rattle.shop_text.specs.Lines.{is_number, value_of, tokens_of}
-use Rattle.shop_text.specs.Grammar.{LineFault, WrongShape, WrongRow, fault_at, Row}
-use Rattle.shop_text.specs.Formats.{grammar_of, is_between, jobs_in, machines_in, size_fault}
-use Rattle.shop_text.specs.Formats.{times_fault, machines_fault}
-use Rattle.shop_text.specs.declared.faults.ReadFault.{ReadFault}
-use Rattle.shop_text.specs.declared.faults.ReadFault.TheVariants.{NoMemory}
-use Rattle.shop_text.specs.declared.formats.Format.{Format}
-use Rattle.shop_text.specs.declared.seen_lines.Seen.{Seen}
 use Rattle.shop_text.specs.declared.seen_lines.Seen.TheVariants as seen
+use Rattle.std.specs.Prelude.{◌≡◌, ◌⊎◌, min, ℕ, ◌+◌, ◌<◌, ◌≤◌, ◌==◌, true, false, not, length, filter, take, get_or}
+use Rattle.std.specs.Prelude.{List, [], ◌∷◌, ◌++◌, map, if◌then◌else◌, Option, Some, None, Result, Ok, Err, MatchOption}
+use Rattle.std.specs.{List.enumerate_from, Char.is_ascii_digit}
+use Rattle.shop_text.specs.Lines.{Line, Blank, Numbers, Words, Numbered, is_left, line_of, lines_of, is_number}
+use Rattle.shop_text.specs.{Lines.{value_of, tokens_of}, Grammar.{LineFault, WrongShape, WrongRow, fault_at, Row}}
+use Rattle.shop_text.specs.Formats.{grammar_of, is_between, jobs_in, machines_in, size_fault, times_fault}
+use Rattle.shop_text.specs.{Formats.machines_fault, declared.faults.ReadFault.ReadFault}
+use Rattle.shop_text.specs.{declared.faults.ReadFault.TheVariants.NoMemory, declared.formats.Format.Format}
+use Rattle.shop_text.specs.declared.seen_lines.Seen.{Seen}
 
 -- a number as a reader holds it: all that is above the greatest is that
 abbrev pub capped : ℕ → ℕ
@@ -35,19 +29,14 @@ pub record AreLeadingDigits (text : List ℕ) (value digits : ℕ) : Type 0 wher
 
 -- The first token of a line was cut off, and this is its number, if it is one.
 abbrev pub IsNumberCut : List ℕ → Option ℕ → List ℕ → Type 0
-IsNumberCut line number rest = (token : List ℕ) × (tokens_of line ≡ token ∷ tokens_of rest)
-    × (number ≡ number_in token)
+IsNumberCut line number rest = (token : List ℕ) × (tokens_of line ≡ token ∷ tokens_of rest) × (number ≡ number_in token)
 
--- What was seen tells the line: its numbers, all that is above the greatest being that, and the
--- name that it gives.
+-- What was seen tells the line: its numbers, all that is above the greatest being that, and the name that it gives.
 abbrev pub Tells : Format → Seen → List ℕ → Line → Type 0
 Tells p seen.Blank numbers line = line ≡ Blank
-Tells p seen.Numbers numbers line = (row : List ℕ) × (line ≡ Numbers row)
-    × (numbers ≡ map capped row)
-Tells p (seen.Words name) numbers line =
-    (words : List (List ℕ)) × (line ≡ Words words)
-    × MatchOption name ((grammar_of p).header line ≡ None)
-    (λ n. (grammar_of p).header line ≡ Some n.now)
+Tells p seen.Numbers numbers line = (row : List ℕ) × (line ≡ Numbers row) × (numbers ≡ map capped row)
+Tells p (seen.Words name) numbers line = (words : List (List ℕ)) × (line ≡ Words words)
+    × MatchOption name ((grammar_of p).header line ≡ None) (λ n. (grammar_of p).header line ≡ Some n.now)
 
 -- the numbers so far, with those of more tokens, if these are numbers
 abbrev pub with_tokens : List ℕ → List (List ℕ) → Option (List ℕ)
@@ -64,8 +53,7 @@ pub record IsBehind (text : List ℕ) (passed : ℕ) (rest : List ℕ) : Type 0 
   pub lines : passed + length (lines_of rest) ≡ length (lines_of text)
   pub bytes : passed + length rest ≤ length text
 
--- A call judges a line: a value that is so where nothing is refused, else the fault, unless memory
--- ran out.
+-- A call judges a line: a value that is so where nothing is refused, else the fault, unless memory ran out.
 abbrev pub located : ℕ → Option LineFault → Option ReadFault
 located n None = None
 located n (Some name) = Some (fault_at n name)
@@ -73,8 +61,7 @@ located n (Some name) = Some (fault_at n name)
 abbrev pub Fails : ReadFault → ℕ → Option LineFault → Type 0
 Fails e n fault = (e ≡ NoMemory) ⊎ (located n fault ≡ Some e)
 
-abbrev pub JudgesRow : {X : Type 0} → Result X ReadFault → ℕ → Option LineFault → (X → Type 0)
-    → Type 0
+abbrev pub JudgesRow : {X : Type 0} → Result X ReadFault → ℕ → Option LineFault → (X → Type 0) → Type 0
 JudgesRow (Ok x) n fault P = (fault ≡ None) × P x
 JudgesRow (Err e) n fault P = Fails e n fault
 
@@ -86,13 +73,10 @@ IsSizeIn row (jobs, machines) = (jobs ≡ jobs_in row) × (machines ≡ machines
 
 -- why a size line is refused that may have so many numbers, a row of times, and a row of machines
 abbrev pub size_line_fault : ℕ → Row → Option LineFault
-size_line_fault most size =
-    if is_between 2 most (length size) then size_fault size else Some WrongShape
+size_line_fault most size = if is_between 2 most (length size) then size_fault size else Some WrongShape
 
 abbrev pub times_row_fault : ℕ → Row → Option LineFault
-times_row_fault machines row = if not (length row == machines) then Some WrongRow
-    else times_fault row
+times_row_fault machines row = if not (length row == machines) then Some WrongRow else times_fault row
 
 abbrev pub machines_row_fault : ℕ → Row → Option LineFault
-machines_row_fault machines row = if not (length row == machines) then Some WrongRow
-    else machines_fault machines row
+machines_row_fault machines row = if not (length row == machines) then Some WrongRow else machines_fault machines row

@@ -1,17 +1,11 @@
 -- What the parts of the reader of schedule texts tell.
-use Rattle.std.specs.Prelude.{◌≡◌, ℕ, ◌+◌, ◌≤◌, true, false, List, ◌∷◌, ◌++◌, length, map, filter}
-use Rattle.std.specs.Prelude.{codes, Option, Some, None, Result, Ok, Err, IfOk, Vec}
-use Rattle.std.specs.Borrow.{Bor}
-use Rattle.std.specs.List.{enumerate_from}
-use Rattle.std.specs.Option.{option_map}
+use Rattle.std.specs.Prelude.{◌≡◌, ℕ, ◌+◌, ◌≤◌, true, false, List, ◌∷◌, ◌++◌, length, map, filter, codes, Option, Some}
+use Rattle.std.specs.{Prelude.{None, Result, Ok, Err, Vec}, Borrow.Bor, List.enumerate_from, Option.option_map}
 use Rattle.std.specs.declared.alloc.Global.{Global}
-use Rattle.std.specs.declared.alloc.AllocError.{AllocError}
 use Rattle.shop_model.specs.Shop.{Shop}
-use Rattle.shop_text.specs.Lines.{lines_of, tokens_of, value_of}
-use Rattle.shop_text.specs.Schedules.{Tokens, begins_with_job, is_start, is_counted, counted_lines}
-use Rattle.shop_text.specs.Schedules.{AreJobLines, IsTable, IsTableRead}
-use Rattle.shop_text.specs.inner.LineReading.{IsBehind}
-use Rattle.shop_text.specs.declared.faults.ReadFault.{ReadFault}
+use Rattle.shop_text.specs.{Lines.{lines_of, tokens_of, value_of}, Schedules.{Tokens, begins_with_job, is_start}}
+use Rattle.shop_text.specs.Schedules.{is_counted, counted_lines, AreJobLines, IsTable, IsTableRead}
+use Rattle.shop_text.specs.{inner.LineReading.IsBehind, declared.faults.ReadFault.ReadFault}
 
 -- the rows that a vector holds
 abbrev pub rows_held : Vec (Vec ℕ Global) Global → List (List ℕ)
@@ -20,10 +14,6 @@ rows_held rows = map (λ row. row.items) rows.items
 -- the row that was read, if there is one
 abbrev pub row_read : Option (Vec ℕ Global) → Option (List ℕ)
 row_read row = option_map (λ v. v.items) row
-
--- a row is this, unless memory ran out
-abbrev pub IsRowRead : Result (Option (Vec ℕ Global)) AllocError → Option (List ℕ) → Type 0
-IsRowRead result row = IfOk result (λ v. row_read v ≡ row)
 
 -- what follows the token `job`, if the line begins with it
 abbrev pub FollowsJob : Tokens → Option (Bor (List ℕ)) → Type 0
@@ -41,13 +31,10 @@ AreRowsRead shop text (Err fault) = IsTableRead shop text (Err fault)
 
 -- the counted lines in what is left of a text, after some lines
 abbrev pub counted_after : ℕ → List ℕ → List (ℕ × Tokens)
-counted_after passed text = filter is_counted
-    (enumerate_from (passed + 1) (map tokens_of (lines_of text)))
+counted_after passed text = filter is_counted (enumerate_from (passed + 1) (map tokens_of (lines_of text)))
 
--- After some lines of the text the rows read are those of the counted lines so far, and the rest is
--- to be read.
-pub record IsReadSoFar (shop : Shop) (text : List ℕ) (passed : ℕ) (rest : List ℕ)
-    (rows : List (List ℕ)) : Type 0 where
+-- After some lines of the text the rows read are those of the counted lines so far, and the rest is to be read.
+pub record IsReadSoFar (shop : Shop) (text : List ℕ) (passed : ℕ) (rest : List ℕ) (rows : List (List ℕ)) : Type 0 where
   pub before : List (ℕ × Tokens)
   pub cut : counted_lines text ≡ before ++ counted_after passed rest
   pub good : AreJobLines shop before rows

@@ -1,26 +1,20 @@
 -- Children that wait with their states, whatever a state is: `is w s` says that s is the state of w.
---     Kept S                         a child that was tried and is kept, with its state, if any
---     IsHeldOf is w state            the state, if there is one, is that of w
---     IsKept is word k               a kept child of the word has its own state, if any
---     IsHeld is word h               an entry of the stack has its own state, if any; closed children
---                                    have none
---     opens_in ks, waiting_in hs     kept children, and entries of the stack, without their states
---     held k                         the entry of the stack for a kept child
---     bound_of x                     the bound of an open child that waits, and 0 of closed ones
---     with_held_rest stack depth n   the stack with n closed children of a word of `depth` entries on
---                                    top, if there are any
---     HasSetRestBelow i depth n m ..
---                                    n closed children at place i, below some kids, become m
---     AreStates slot is_scratch ..   what the states of a walk hold is room for states, and what a
---                                    dispatch needs
-use Rattle.std.specs.Prelude.{◌≡◌, ℕ, zero, suc, [], ◌∷◌, ◌++◌, Option, Some, None, List}
-use Rattle.std.specs.Prelude.{length, map, All}
+--     Kept S                          a child that was tried and is kept, with its state, if any
+--     IsHeldOf is w state             the state, if there is one, is that of w
+--     IsKept is word k                a kept child of the word has its own state, if any
+--     IsHeld is word h                an entry of the stack has its own state, if any; closed children have none
+--     opens_in ks, waiting_in hs      kept children, and entries of the stack, without their states
+--     held k                          the entry of the stack for a kept child
+--     bound_of x                      the bound of an open child that waits, and 0 of closed ones
+--     with_held_rest stack depth n    the stack with n closed children of a word of `depth` entries on top, if there
+--                                     are any
+--     HasSetRestBelow i depth n m ..  n closed children at place i, below some kids, become m
+--     AreStates slot is_scratch ..    what the states of a walk hold is room for states, and what a dispatch needs
+use Rattle.std.specs.Prelude.{◌≡◌, ℕ, zero, suc, [], ◌∷◌, ◌++◌, Option, Some, None, List, length, map, All}
 use Rattle.std.specs.Global.{Box}
-use Rattle.shop_nodes.specs.declared.halts.Open.{Open}
-use Rattle.shop_nodes.specs.declared.halts.Waiting.{Waiting}
-use Rattle.shop_nodes.specs.declared.halts.Waiting.TheVariants.{Child, Rest}
+use Rattle.shop_nodes.specs.{declared.halts.Open.Open, declared.halts.Waiting.Waiting}
+use Rattle.shop_nodes.specs.{declared.halts.Waiting.TheVariants.{Child, Rest}, Halts.word_at}
 use Rattle.shop_tree.specs.declared.held.Held.{Held}
-use Rattle.shop_nodes.specs.Halts.{word_at}
 
 pub record Kept (S : Type 0) : Type 0 where
   pub «open» : Open
@@ -42,13 +36,11 @@ module _ {S : Type 0} where
 
   abbrev pub with_held_rest : List (Held S) → ℕ → ℕ → List (Held S)
   with_held_rest stack depth zero = stack
-  with_held_rest stack depth (suc n) =
-      stack ++ record { waiting = Rest depth (suc n); state = None } ∷ []
+  with_held_rest stack depth (suc n) = stack ++ record { waiting = Rest depth (suc n); state = None } ∷ []
 
 abbrev pub HasSetRestBelow : {S : Type 0} → ℕ → ℕ → ℕ → ℕ → List (Held S) → List (Held S) → Type 0
-HasSetRestBelow {S} place depth known count old new = (below kids : List (Held S))
-    → place ≡ length below → old ≡ with_held_rest below depth known ++ kids
-    → new ≡ with_held_rest below depth count ++ kids
+HasSetRestBelow {S} place depth known count old new = (below kids : List (Held S)) → place ≡ length below
+    → old ≡ with_held_rest below depth known ++ kids → new ≡ with_held_rest below depth count ++ kids
 
 module _ {S : Type 0} (is : List ℕ → S → Type 0) where
   abbrev pub IsHeldOf : List ℕ → Option (Box S) → Type 0

@@ -1,24 +1,19 @@
 -- Entries of a stack, children put in order of their bounds, and all children of a word.
---     open_words word opens                  the words of open children, in order
---     depth_of x                             with how many entries of the word it begins
---     IsUpTo n x, IsFrom n x, IsAt n x       with at most, at least, just n entries
---     IsRising stack                         no entry begins with less of the word than one below
---                                            it
---     AreWaiting shop best word stack        each entry waits, and they rise
---     IsPlaceAbove bound opens i             from place i on all bounds are below this one, and
---                                            the one before, if any, is not
---     AreChildren shop limit word opens n    the children of word with bounds below the limit, the
---                                            first one last, and how many others there are
-use Rattle.std.specs.Prelude.{◌≡◌, ℕ, ◌-◌, ◌≤◌, ◌<◌, List, [], ◌∷◌, ◌++◌}
-use Rattle.std.specs.Prelude.{length, map, reverse, slice_index_or}
+--     open_words word opens                the words of open children, in order
+--     depth_of x                           with how many entries of the word it begins
+--     IsUpTo n x, IsFrom n x, IsAt n x     with at most, at least, just n entries
+--     IsRising stack                       no entry begins with less of the word than one below it
+--     AreWaiting shop best word stack      each entry waits, and they rise
+--     IsPlaceAbove bound opens i           from place i on all bounds are below this one, and the one before, if any,
+--                                          is not
+--     AreChildren shop limit word opens n  the children of word with bounds below the limit, the first one last, and
+--                                          how many others there are
+use Rattle.std.specs.Prelude.{◌≡◌, ℕ, ◌-◌, ◌≤◌, ◌<◌, List, [], ◌∷◌, ◌++◌, length, map, reverse, slice_index_or}
 use Rattle.std.specs.List.{AllByRecursion}
 use Rattle.shop_model.specs.Shop.{Shop}
 use Rattle.shop_bound.specs.Bound.{lb}
-use Rattle.shop_nodes.specs.Branching.{branch}
-use Rattle.shop_nodes.specs.Halts.{word_at, IsOpen, IsWaiting}
-use Rattle.shop_nodes.specs.declared.halts.Open.{Open}
-use Rattle.shop_nodes.specs.declared.halts.Waiting.{Waiting}
-use Rattle.shop_nodes.specs.declared.halts.Waiting.TheVariants.{Child, Rest}
+use Rattle.shop_nodes.specs.{Branching.branch, Halts.{word_at, IsOpen, IsWaiting}, declared.halts.Open.Open}
+use Rattle.shop_nodes.specs.{declared.halts.Waiting.Waiting, declared.halts.Waiting.TheVariants.{Child, Rest}}
 
 abbrev pub open_words : List ℕ → List Open → List (List ℕ)
 open_words word opens = map (word_at word) opens
@@ -40,19 +35,16 @@ abbrev pub IsRising : List Waiting → Type 0
 IsRising [] = Unit {0}
 IsRising (x ∷ stack) = AllByRecursion (IsFrom (depth_of x)) stack × IsRising stack
 
-pub record AreWaiting (shop : Shop) (best : ℕ) (word : List ℕ) (stack : List Waiting)
-    : Type 0 where
+pub record AreWaiting (shop : Shop) (best : ℕ) (word : List ℕ) (stack : List Waiting) : Type 0 where
   pub each : AllByRecursion (IsWaiting shop best word) stack
   pub rising : IsRising stack
 
 pub record IsPlaceAbove (bound : ℕ) (opens : List Open) (i : ℕ) : Type 0 where
   pub within : i ≤ length opens
-  pub above : (k : ℕ) (d : Open) → i ≤ k → k < length opens
-      → (slice_index_or opens k d).bound < bound
+  pub above : (k : ℕ) (d : Open) → i ≤ k → k < length opens → (slice_index_or opens k d).bound < bound
   pub below : (d : Open) → 0 < i → bound ≤ (slice_index_or opens (i - 1) d).bound
 
-pub record AreChildren (shop : Shop) (limit : ℕ) (word : List ℕ) (opens : List Open) (n : ℕ)
-    : Type 0 where
+pub record AreChildren (shop : Shop) (limit : ℕ) (word : List ℕ) (opens : List Open) (n : ℕ) : Type 0 where
   pub others : List (List ℕ)
   pub words : branch shop word ≡ reverse (open_words word opens) ++ others
   pub count : n ≡ length others

@@ -1,32 +1,25 @@
--- Where a walk over states stands. D dispatches, S is a state, C what a dispatch needs beside, and g
--- says what each of them is.
---     AreHeld is word hs             each child that waits along the word has its own state, if any
---     KeepsStates g word hs states   all have, and what the walk's states hold is room for states,
---                                    and what a dispatch needs
+-- Where a walk over states stands. D dispatches, S is a state, C what a dispatch needs beside, and g says what each of
+-- them is.
+--     AreHeld is word hs  each child that waits along the word has its own state, if any
+--     KeepsStates g word hs states
+--                         all have, and what the walk's states hold is room for states, and what a dispatch needs
 -- Of a walker:
---     stage_of w                     where it stands: what waits is told without states
---     HasStates w                    its states are kept so
---     IsAtState w                    its current state is that of the word that it came to
---     HasCandidates w n              the candidates of that word whose bounds by their own machine are
---                                    below the best are at hand, and there are n others
---     StandsAs v w                   w stands where v stood, with the same current state
---     StandsAt w b                   its word has bound b, which is below the best, and all that waits
---                                    and its states are in order
---     HasReached v w b               the walk went on from v's word to one with bound b, and took it
---     HasGoneOn v w told             the walk went on from v's word to a child with the bound that is
---                                    told, or had nowhere to go
+--     stage_of w          where it stands: what waits is told without states
+--     HasStates w         its states are kept so
+--     IsAtState w         its current state is that of the word that it came to
+--     HasCandidates w n   the candidates of that word whose bounds by their own machine are below the best are at hand,
+--                         and there are n others
+--     StandsAs v w        w stands where v stood, with the same current state
+--     StandsAt w b        its word has bound b, which is below the best, and all that waits and its states are in order
+--     HasReached v w b    the walk went on from v's word to one with bound b, and took it
+--     HasGoneOn v w told  the walk went on from v's word to a child with the bound that is told, or had nowhere to go
 use Rattle.std.specs.Prelude.{◌≡◌, ℕ, ◌<◌, Option, Some, None, List, All}
 use Rattle.shop_bound.specs.Bound.{lb}
-use Rattle.shop_states.specs.States.{ListsBelow}
-use Rattle.shop_states.specs.declared.dispatching.Dispatching.{Ghosts}
+use Rattle.shop_states.specs.{States.ListsBelow, declared.dispatching.Dispatching.Ghosts}
 use Rattle.shop_nodes.specs.Branching.{conflict}
-use Rattle.shop_tree.specs.declared.held.Held.{Held}
-use Rattle.shop_tree.specs.declared.walk_states.WalkStates.{WalkStates}
-use Rattle.shop_tree.specs.declared.walkers.Walker.{Walker}
-use Rattle.shop_tree.specs.inner.Held.{IsHeld, waiting_in}
-use Rattle.shop_tree.specs.inner.Searching.{walked}
-use Rattle.shop_tree.specs.inner.Slots.{HoldSlots}
-use Rattle.shop_tree.specs.inner.Walkers.{Stage, HasExpanded, HasFollowed, IsInOrder}
+use Rattle.shop_tree.specs.{declared.held.Held.Held, declared.walk_states.WalkStates.WalkStates}
+use Rattle.shop_tree.specs.{declared.walkers.Walker.Walker, inner.Held.{IsHeld, waiting_in}, inner.Searching.walked}
+use Rattle.shop_tree.specs.{inner.Slots.HoldSlots, inner.Walkers.{Stage, HasExpanded, HasFollowed, IsInOrder}}
 
 abbrev pub AreHeld : {S : Type 0} → (List ℕ → S → Type 0) → List ℕ → List (Held S) → Type 0
 AreHeld is word hs = All (IsHeld is word) hs
@@ -71,13 +64,11 @@ pub record StandsAt {D S C : Type 0} {g : Ghosts D S C} (w : Walker D S C g) (b 
   pub states : HasStates w
   pub state : IsAtState w
 
-pub record HasReached {D S C : Type 0} {g : Ghosts D S C} (v w : Walker D S C g) (b : ℕ)
-    : Type 0 where
+pub record HasReached {D S C : Type 0} {g : Ghosts D S C} (v w : Walker D S C g) (b : ℕ) : Type 0 where
   pub followed : HasFollowed (stage_of v) (stage_of w)
   pub spent : w.progress.budget < v.progress.budget
   pub at : StandsAt w b
 
-abbrev pub HasGoneOn : {D S C : Type 0} {g : Ghosts D S C} → Walker D S C g → Walker D S C g
-    → Option ℕ → Type 0
+abbrev pub HasGoneOn : {D S C : Type 0} {g : Ghosts D S C} → Walker D S C g → Walker D S C g → Option ℕ → Type 0
 HasGoneOn v w (Some b) = HasReached v w b
 HasGoneOn v w None = HasExpanded (stage_of v) (stage_of w) × HasStates w

@@ -1,30 +1,23 @@
 -- Where a walk stands, and what its turns come to.
---     Stage                        the instance, the word that the walk came to, what it carries,
---                                  and what waits on its stack
---     stack_walk s                 the walk of all that waits
---     walk_on s                    the walk that goes on from the word, and then from what waits
---     IsInOrder s                  all that waits is told rightly
---     on_top s x                   stage s with x on top of what waits
---     spent_one t                  the walk t with one of its budget spent
---     gone_on s job                stage s with the job appended to its word, and one of the budget
---                                  spent
---     turns_left s                 more turns than this can't come
---     HasFollowed s t              the walk went on along words that have one open child alone
---     HasBranched s t              the children of the word lie on the stack
---     HasExpanded s t              what waits afterwards comes to where the walk goes on from the
---                                  word, and then from what waited before
---     IsTurn s x t                 what waits afterwards comes to the walk of x on top of what waited
---                                  before, and there is less to do
---     HasWalked s t whole          all that is left of this walk waits: nothing, unless the budget
---                                  has ended
-use Rattle.std.specs.Prelude.{◌≡◌, ℕ, ◌+◌, ◌-◌, ◌*◌, ◌≤◌, ◌<◌, List, [], ◌∷◌, ◌++◌}
-use Rattle.std.specs.Prelude.{length, drop, fold}
+--     Stage                the instance, the word that the walk came to, what it carries, and what waits on its stack
+--     stack_walk s         the walk of all that waits
+--     walk_on s            the walk that goes on from the word, and then from what waits
+--     IsInOrder s          all that waits is told rightly
+--     on_top s x           stage s with x on top of what waits
+--     spent_one t          the walk t with one of its budget spent
+--     gone_on s job        stage s with the job appended to its word, and one of the budget spent
+--     turns_left s         more turns than this can't come
+--     HasFollowed s t      the walk went on along words that have one open child alone
+--     HasBranched s t      the children of the word lie on the stack
+--     HasExpanded s t      what waits afterwards comes to where the walk goes on from the word, and then from what
+--                          waited before
+--     IsTurn s x t         what waits afterwards comes to the walk of x on top of what waited before, and there is less
+--                          to do
+--     HasWalked s t whole  all that is left of this walk waits: nothing, unless the budget has ended
+use Rattle.std.specs.Prelude.{◌≡◌, ℕ, ◌+◌, ◌-◌, ◌*◌, ◌≤◌, ◌<◌, List, [], ◌∷◌, ◌++◌, length, drop, fold}
 use Rattle.shop_model.specs.Shop.{Shop}
-use Rattle.shop_tree.specs.inner.Opens.{AreWaiting}
-use Rattle.shop_tree.specs.inner.Searching.{walk_stack, Adds, entered}
-use Rattle.shop_nodes.specs.Walking.{Walk, walk}
-use Rattle.shop_nodes.specs.Nodes.{words_of}
-use Rattle.shop_nodes.specs.declared.nodes.Node.{Node}
+use Rattle.shop_tree.specs.{inner.Opens.AreWaiting, inner.Searching.{walk_stack, Adds, entered}}
+use Rattle.shop_nodes.specs.{Walking.{Walk, walk}, Nodes.words_of, declared.nodes.Node.Node}
 use Rattle.shop_nodes.specs.declared.halts.Waiting.{Waiting}
 
 pub record Stage : Type 0 where
@@ -41,9 +34,6 @@ walk_on s = walk_stack s.shop s.word (entered s.shop s.walk s.word) s.stack
 
 abbrev pub node_walk : Stage → Node → Walk
 node_walk s node = walk s.shop s.walk node.word
-
-abbrev pub nodes_walk : Stage → List Node → Walk
-nodes_walk s nodes = fold (walk s.shop) s.walk (words_of nodes)
 
 abbrev pub IsInOrder : Stage → Type 0
 IsInOrder s = AreWaiting s.shop s.walk.best s.word s.stack
@@ -95,7 +85,7 @@ pub record HasWalked (s t : Stage) (whole : Walk) : Type 0 where
 -- the first k nodes were walked, or no budget is left for the others
 pub record HasWalkedUpTo (s t : Stage) (nodes : List Node) (k : ℕ) : Type 0 where
   pub within : k ≤ length nodes
-  pub walk : fold (walk t.shop) (stack_walk t) (words_of (drop k nodes)) ≡ nodes_walk s nodes
+  pub walk : fold (walk t.shop) (stack_walk t) (words_of (drop k nodes)) ≡ fold (walk s.shop) s.walk (words_of nodes)
   pub in_order : IsInOrder t
   pub shop : t.shop ≡ s.shop
   pub spent : t.walk.budget ≤ s.walk.budget

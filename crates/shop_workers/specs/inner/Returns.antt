@@ -4,11 +4,8 @@
 --     AreReturned b r all    IsReturned of each worker
 use Rattle.std.specs.Prelude.{List, All, IfOk}
 use Rattle.shop_runs.specs.Round.{Told}
-use Rattle.shop_workers.specs.Entries.{OfRound, Brought}
-use Rattle.shop_workers.specs.Seats.{IsSeatOf}
-use Rattle.shop_workers.specs.declared.boards.Board.{Board}
-use Rattle.shop_workers.specs.declared.boards.Seat.{Seat}
-use Rattle.shop_workers.specs.declared.seat_lending.Returned.{Returned}
+use Rattle.shop_workers.specs.{Entries.{OfRound, Brought}, Seats.IsSeatOf, declared.boards.Board.Board}
+use Rattle.shop_workers.specs.{declared.boards.Seat.Seat, declared.seat_lending.Returned.Returned}
 
 abbrev pub IsReturned : Board → Told → Seat → Brought → Type 0
 IsReturned b r s entries = IsSeatOf b s × IfOk entries (λ v. OfRound r v.items)

@@ -1,27 +1,15 @@
 -- One turn of a worker at a piece.
 --     IsServedEntry r n w e   the entry is of piece n, and served
---     IsAhead v n kind        a piece that was searched isn't behind one that the seat had read or
---                             marked
+--     IsAhead v n kind        a piece that was searched isn't behind one that the seat had read or marked
 --     TakesTurn r n v w o     there is an entry of piece n just where the seat won it
---     BringsTurn r n v w o    TakesTurn, unless memory was refused
---     IsRestKnown n w places  each piece below n that has no entry in its place is claimed, as far
---                             as the seat knows
-use Rattle.std.specs.Prelude.{◌≡◌, ℕ, ◌<◌, ◌≤◌, List, ◌∷◌, Option, MatchOption, None, IfNone}
-use Rattle.std.specs.Prelude.{Result, IfOk}
-use Rattle.std.specs.declared.alloc.AllocError.{AllocError}
-use Rattle.std.specs.Prelude.{slice_index_or}
-use Rattle.shop_runs.specs.Round.{Told}
-use Rattle.shop_runs.specs.Crews.{IsEntryOf}
-use Rattle.shop_runs.specs.declared.entries.Entry.{Entry}
-use Rattle.shop_runs.specs.declared.entries.Kind.{Kind}
+--     IsRestKnown n w places  each piece below n that has no entry in its place is claimed, as far as the seat knows
+use Rattle.std.specs.Prelude.{◌≡◌, ℕ, ◌<◌, ◌≤◌, List, ◌∷◌, Option, MatchOption, None, IfNone, slice_index_or}
+use Rattle.shop_runs.specs.{Round.Told, Crews.IsEntryOf, declared.entries.Entry.Entry, declared.entries.Kind.Kind}
 use Rattle.shop_runs.specs.declared.entries.Kind.TheVariants.{Done, Passed}
-use Rattle.shop_workers.specs.declared.views.View.{View}
-use Rattle.shop_workers.specs.Moves.{IsAtMostMarked}
-use Rattle.shop_workers.specs.Works.{IsKnown, IsServed}
+use Rattle.shop_workers.specs.{declared.views.View.View, Moves.IsAtMostMarked, Works.{IsKnown, IsServed}}
 
 abbrev pub IsRestKnown : ℕ → View → List (Option Entry) → Type 0
-IsRestKnown pieces w places = (n : ℕ) → n < pieces
-    → IfNone (slice_index_or places n None) (IsKnown w n)
+IsRestKnown pieces w places = (n : ℕ) → n < pieces → IfNone (slice_index_or places n None) (IsKnown w n)
 
 abbrev pub IsServedEntry : Told → ℕ → View → Entry → Type 0
 IsServedEntry r n w e = IsEntryOf r n e × IsServed r w e.kind
@@ -33,6 +21,3 @@ IsAhead v n (Passed number by') = Unit {0}
 abbrev pub TakesTurn : Told → ℕ → View → View → Option Entry → Type 0
 TakesTurn r n v w o = MatchOption o (w.mine ≡ v.mine)
     (λ e. (w.mine ≡ n ∷ v.mine) × IsServedEntry r n w e × IsAhead v n e.kind)
-
-abbrev pub BringsTurn : Told → ℕ → View → View → Result (Option Entry) AllocError → Type 0
-BringsTurn r n v w o = IfOk o (TakesTurn r n v w)
