@@ -62,7 +62,7 @@ module _ {A : Type 0} (f : A → ℕ) (rows : LaneRows A) (whole : length rows.h
   raw = lanes (map f rows.heads.now) (map f rows.times.now) (map f rows.tails.now)
 
   raw_long : length raw ≡ length rows.heads.now
-  raw_long = grind (arith, length-lanes, as_long, length-map)
+  raw_long = grind (arith, length-lanes, length-map)
 
   raw_whole : length raw ≡ 8 * (length rows.heads.now / 8)
   raw_whole = raw_long ∙ omega (arith, whole)

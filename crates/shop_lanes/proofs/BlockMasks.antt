@@ -1,7 +1,7 @@
 -- Masks and least numbers of lists in blocks of eight, and the first number that a mask tells.
-use Rattle.std.proofs.Common.{◌≡◌, ◌≢◌, ℕ, zero, suc, ◌+◌, ◌-◌, ◌*◌, ◌<◌, ◌≤◌, ◌^◌, min, Bool, true, false}
-use Rattle.std.proofs.Common.{cond, inl, inr, ◌==◌, List, [], ◌∷◌, ◌++◌, length, map, take, drop, replicate, get_or}
-use Rattle.std.proofs.Common.{refl, ap, sym, ◌∙◌, arith, pow-suc, take-append-drop, length-drop}
+use Rattle.std.proofs.Common.{◌≡◌, ◌≢◌, ℕ, zero, suc, ◌+◌, ◌-◌, ◌*◌, ◌<◌, ◌≤◌, ◌^◌, min, Bool, true, false, rules}
+use Rattle.std.proofs.Common.{inl, inr, ◌==◌, List, [], ◌∷◌, ◌++◌, length, map, take, drop, replicate, get_or}
+use Rattle.std.proofs.Common.{ap, sym, ◌∙◌, arith, pow-suc, take-append-drop, length-drop}
 use Rattle.std.proofs.lemmas.Bool.{cases_lt}
 use Rattle.std.proofs.lemmas.Bool.Decides.{nat_tests}
 use Rattle.std.proofs.lemmas.List.{drop_all, drop-drop, map-append, length-map, length-take, take_all}
@@ -58,12 +58,7 @@ odd_block p h xs few =
     ∙ ap (λ l. mask_l (map p l)) (take_all 8 (drop (16 * h) xs) (omega arith))
 
 pub mask_small : (p : ℕ → Bool) (xs : List ℕ) (k : ℕ) → length xs ≤ 64 → mask_l (map p (drop k xs)) < 2 ^ 64
-mask_small p xs k le =
-    let ms = map p (drop k xs)
-    in let few : length ms ≤ 64 = simp (length-map, length-drop) (omega arith)
-    in let a = mask_l-lt ms
-    in let b : 2 ^ length ms ≤ 2 ^ 64 = pow_mono few
-    in omega arith
+mask_small p xs k le = search (rules, length-map, length-drop, mask_l-lt, pow_mono)
 
 pub least_begins : (top : ℕ) (xs : List ℕ)
     → min (least_up_to top (replicate 8 top)) (least_up_to top xs) ≡ least_up_to top xs
@@ -96,15 +91,7 @@ pub first_passed : (p : ℕ → Bool) (k : ℕ) (xs : List ℕ) → length xs �
 first_passed p k [] le some = absurd (omega arith)
 first_passed p zero (x ∷ xs) le some = absurd (omega arith)
 first_passed p (suc k) (x ∷ xs) le some =
-    by_test (λ more. first_passed p k xs (omega arith) more) (p x) refl some
-  where
-    m : ℕ
-    m = mask_l (map p xs)
-
-    by_test : (0 < m → IsFirstPassed p xs (count_trailing_zeros k m)) → (b : Bool) → p x ≡ b → 0 < cond b 1 0 + 2 * m
-        → IsFirstPassed p (x ∷ xs) (count_trailing_zeros (suc k) (cond (p x) 1 0 + 2 * m))
-    by_test rest true e some_set = grind (arith, m, odd_lowest)
-    by_test rest false e some_set = grind (arith, m, even_lowest)
+    grind (arith, mask_l, count_trailing_zeros, odd_lowest, even_lowest, first_passed p k xs)
 
 equal_if : (number x : ℕ) → (x == number) ≡ true → x ≡ number
 equal_if number x e = grind (arith, nat_tests)

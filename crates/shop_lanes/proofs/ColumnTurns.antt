@@ -1,5 +1,5 @@
 -- Eight columns served side by side, a block at a time, over lists alone.
-use Rattle.std.proofs.Common.{◌≡◌, ℕ, zero, suc, ◌+◌, ◌*◌, ◌<◌, ◌≤◌, max, cond, leb, List, [], ◌∷◌, ◌++◌, length}
+use Rattle.std.proofs.Common.{◌≡◌, ℕ, suc, ◌+◌, ◌*◌, ◌<◌, ◌≤◌, max, cond, leb, List, [], ◌∷◌, ◌++◌, length}
 use Rattle.std.proofs.Common.{take, drop, get_or, refl, ap, sym, ◌∙◌, arith, subst, replicate, ◌/◌, ◌%◌, map, sum_by}
 use Rattle.std.proofs.Math.Seq.{take-suc}
 use Rattle.std.proofs.lemmas.List.{get_or-drop, length-drop, length-map}
@@ -23,15 +23,7 @@ pub eight_same : (f g : ℕ → ℕ) → ((k : ℕ) → k < 8 → f k ≡ g k) �
 eight_same f g same = grind (arith, same_eight)
 
 pub in_eight : (f : ℕ → ℕ) (k : ℕ) → k < 8 → get_or (eight f) k 0 ≡ f k
-in_eight f zero lt = refl
-in_eight f (suc zero) lt = refl
-in_eight f (suc (suc zero)) lt = refl
-in_eight f (suc (suc (suc zero))) lt = refl
-in_eight f (suc (suc (suc (suc zero)))) lt = refl
-in_eight f (suc (suc (suc (suc (suc zero))))) lt = refl
-in_eight f (suc (suc (suc (suc (suc (suc zero)))))) lt = refl
-in_eight f (suc (suc (suc (suc (suc (suc (suc zero))))))) lt = refl
-in_eight f (suc (suc (suc (suc (suc (suc (suc (suc k)))))))) lt = absurd (omega arith)
+in_eight f x lt = grind arith
 
 pub as_eight : (v : List ℕ) → length v ≡ 8 → v ≡ eight (λ k. get_or v k 0)
 as_eight = on_eight (λ v. v ≡ eight (λ k. get_or v k 0)) (λ a b c d e f g h. refl)

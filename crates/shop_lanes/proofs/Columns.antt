@@ -1,6 +1,6 @@
 -- Blocks read down their columns: which rank stands where.
-use Rattle.std.proofs.Common.{◌≡◌, ◌≢◌, ℕ, zero, suc, ◌+◌, ◌*◌, ◌/◌, ◌%◌, ◌<◌, ◌≤◌, List, length, take}
-use Rattle.std.proofs.Common.{drop, set, get_or, refl, ap, sym, ◌∙◌, arith, subst, inl, inr, ◌⊎◌, length-set}
+use Rattle.std.proofs.Common.{◌≡◌, ℕ, zero, suc, ◌+◌, ◌*◌, ◌/◌, ◌%◌, ◌<◌, ◌≤◌, List, length, take}
+use Rattle.std.proofs.Common.{drop, set, get_or, refl, ap, sym, ◌∙◌, arith, subst, inl, inr, length-set}
 use Rattle.std.specs.List.{All}
 use Rattle.std.proofs.Math.Nat.{mod-lt, div-lt_iff_lt-mul, div-add-mod, suc-mul, mul-le-mul_right}
 use Rattle.std.proofs.lemmas.Nat.{div-mul-add, mod-mul-add}
@@ -94,21 +94,17 @@ lanes-by_columns count hs ts qs whole a b =
 pub by_columns-set : (count : ℕ) (xs : List ℕ) → length xs ≡ 8 * count → (p x : ℕ) → p < 8 * count
     → by_columns count (set xs p x) ≡ set (by_columns count xs) (rank_of count p) x
 by_columns-set count xs whole p x lt =
-    let written : length (set xs p x) ≡ 8 * count = length-set xs p x ∙ whole
-    in let long = length-by_columns count (set xs p x) written
-    in let ranked = length-by_columns count xs whole
-    in let r = rank_of count p
-    in let r_lt = rank_fits count p lt
-    in same_lists (by_columns count (set xs p x)) (set (by_columns count xs) r x)
-    (long ∙ sym (length-set (by_columns count xs) r x ∙ ranked))
-    (λ i d i_lt.
-    let inside : i < 8 * count = omega (arith, long)
-    in let there = place_fits count i inside
-    in by_columns-at count (set xs p x) written i d inside
-    ∙ elim (same_or_not i r) [
-      | inl same ↦ grind (arith, place_of_rank_of, get_or-set_same)
-      | inr other ↦ grind (arith, rank_of_place, get_or-set_other, by_columns-at)
-    ])
-  where
-    same_or_not : (i r : ℕ) → (i ≡ r) ⊎ (i ≢ r)
-    same_or_not i r = grind (arith, cases_lt)
+    grind (
+      arith,
+      length-set,
+      length-by_columns,
+      rank_fits,
+      same_lists,
+      place_fits,
+      by_columns-at,
+      place_of_rank_of,
+      get_or-set_same,
+      rank_of_place,
+      get_or-set_other,
+      cases_lt,
+    )

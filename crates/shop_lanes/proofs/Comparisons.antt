@@ -51,9 +51,7 @@ greater_told_is w xs ys e = ap (λ ms. sel_l ms ys xs) (tops_compared w ltb xs y
     chosen : (us vs : List ℕ) → length us ≡ length vs → sel_l (zip2 ltb us vs) vs us ≡ zip2 max us vs
     chosen [] vs h = refl
     chosen (x ∷ us) [] h = absurd (omega arith)
-    chosen (x ∷ us) (y ∷ vs) h =
-        let one : cond (ltb x y) y x ≡ max x y = grind (arith, nat_tests)
-        in ap (λ n. n ∷ sel_l (zip2 ltb us vs) vs us) one ∙ ap (λ l. max x y ∷ l) (chosen us vs (omega arith))
+    chosen (x ∷ us) (y ∷ vs) h = grind (arith, nat_tests, sel_l, zip2, chosen us vs)
 
 -- the lesser of two vectors, as a comparison tells it
 pub lesser_told_is : (w : Width) (xs ys : List ℕ) → length xs ≡ length ys
@@ -63,9 +61,7 @@ lesser_told_is w xs ys e = ap (λ ms. sel_l ms xs ys) (tops_compared w ltb xs ys
     chosen : (us vs : List ℕ) → length us ≡ length vs → sel_l (zip2 ltb us vs) us vs ≡ zip2 min us vs
     chosen [] vs h = refl
     chosen (x ∷ us) [] h = absurd (omega arith)
-    chosen (x ∷ us) (y ∷ vs) h =
-        let one : cond (ltb x y) x y ≡ min x y = grind (arith, nat_tests)
-        in ap (λ n. n ∷ sel_l (zip2 ltb us vs) us vs) one ∙ ap (λ l. min x y ∷ l) (chosen us vs (omega arith))
+    chosen (x ∷ us) (y ∷ vs) h = grind (arith, nat_tests, sel_l, zip2, chosen us vs)
 
 -- what is taken away from the greater of two vectors, and what is left
 abbrev pub greater_told : Width → List ℕ → List ℕ → List ℕ

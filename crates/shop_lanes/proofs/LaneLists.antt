@@ -40,8 +40,7 @@ get_or-lanes [] ts qs i d a b lt = absurd (omega arith)
 get_or-lanes (h ∷ hs) [] qs i d a b lt = absurd (omega arith)
 get_or-lanes (h ∷ hs) (t ∷ ts) [] i d a b lt = absurd (omega arith)
 get_or-lanes (h ∷ hs) (t ∷ ts) (q ∷ qs) zero d a b lt = refl
-get_or-lanes (h ∷ hs) (t ∷ ts) (q ∷ qs) (suc i) d a b lt =
-    get_or-lanes hs ts qs i d (omega arith) (omega arith) (omega arith)
+get_or-lanes (h ∷ hs) (t ∷ ts) (q ∷ qs) (suc i) d a b lt = grind (arith, get_or-lanes hs ts qs i d)
 
 pub lanes_more : (hs ts qs : List ℕ) (i : ℕ) → length ts ≡ length hs → length qs ≡ length hs → i < length hs
     → drop i (lanes hs ts qs) ≡ lane_at hs ts qs i ∷ drop (i + 1) (lanes hs ts qs)
@@ -49,8 +48,7 @@ lanes_more [] ts qs i a b lt = absurd (omega arith)
 lanes_more (h ∷ hs) [] qs i a b lt = absurd (omega arith)
 lanes_more (h ∷ hs) (t ∷ ts) [] i a b lt = absurd (omega arith)
 lanes_more (h ∷ hs) (t ∷ ts) (q ∷ qs) zero a b lt = refl
-lanes_more (h ∷ hs) (t ∷ ts) (q ∷ qs) (suc i) a b lt =
-    grind (arith, lanes_more hs ts qs i (omega arith) (omega arith) (omega arith))
+lanes_more (h ∷ hs) (t ∷ ts) (q ∷ qs) (suc i) a b lt = grind (arith, lanes_more hs ts qs i)
 
 -- the lanes of the same blocks of each row
 pub lanes-blocks : (hs ts qs : List ℕ) (from to : ℕ) → length ts ≡ length hs → length qs ≡ length hs

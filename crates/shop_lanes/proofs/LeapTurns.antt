@@ -1,6 +1,5 @@
 -- Spans from heads on, and how far one load settles them.
-use Rattle.std.proofs.Common.{◌≡◌, ℕ, ◌+◌, ◌-◌, ◌<◌, ◌≤◌, min, max, true, leb, ltb, ◌&&◌, List, [], ◌∷◌, length, refl}
-use Rattle.std.proofs.Common.{ap, sym, ◌∙◌, arith, inl, inr}
+use Rattle.std.proofs.Common.{◌≡◌, ℕ, ◌+◌, ◌-◌, ◌<◌, ◌≤◌, min, max, List, [], ◌∷◌, length, refl, ap, sym, ◌∙◌, arith}
 use Rattle.std.proofs.lemmas.Bool.Decides.{nat_tests}
 use Rattle.std.proofs.lemmas.Bool.{cases_lt}
 use Rattle.shop_lanes.specs.Rows.{Lane, lanes}
@@ -12,15 +11,15 @@ use Rattle.shop_lanes.proofs.Loads.{span_from_start, load_le, work_le}
 -- fewer lanes that begin earlier end no later
 pub span_falls : (lower upper s t : ℕ) (xs : List Lane) → lower ≤ upper → s ≤ t → span upper s xs ≤ span lower t xs
 span_falls lower upper s t [] le early = omega arith
-span_falls lower upper s t (x ∷ xs) le early = grind (
-  arith,
-  span_falls lower upper (s + x.time) (t + x.time) xs le
-      (omega arith),
-  span_falls lower upper s (t + x.time) xs le (omega arith),
-  span_falls lower upper s t xs le
-      early,
-  nat_tests,
-)
+span_falls lower upper s t (x ∷ xs) le early =
+    grind (
+      arith,
+      nat_tests,
+      span_falls lower upper (s + x.time) (t + x.time) xs le,
+      span_falls lower upper s (t +
+          x.time) xs le,
+      span_falls lower upper s t xs le early,
+    )
 
 -- the least head of lanes from a number on; the greatest number if there is none
 abbrev pub least_head : ℕ → ℕ → List Lane → ℕ
@@ -32,20 +31,14 @@ pub least_head_is : (top from : ℕ) (hs ts qs : List ℕ) → length ts ≡ len
 least_head_is top from [] ts qs a b = refl
 least_head_is top from (h ∷ hs) [] qs a b = absurd (omega arith)
 least_head_is top from (h ∷ hs) (t ∷ ts) [] a b = absurd (omega arith)
-least_head_is top from (h ∷ hs) (t ∷ ts) (q ∷ qs) a b =
-    ap (min (later_head top from h)) (least_head_is top from hs ts qs (omega arith) (omega arith))
+least_head_is top from (h ∷ hs) (t ∷ ts) (q ∷ qs) a b = grind (arith, least_head_is top from hs ts qs)
 
 -- where no head is below `head` and at least `from`, both serve the same lanes
 pub same_span : (top from head s : ℕ) (xs : List Lane) → from ≤ head → head ≤ least_head top from xs
     → span head s xs ≡ span from s xs
 same_span top from head s [] le least = refl
-same_span top from head s (x ∷ xs) le least = grind (
-  arith,
-  same_span top from head (s + x.time) xs le (omega
-      arith),
-  same_span top from head s xs le (omega arith),
-  nat_tests,
-)
+same_span top from head s (x ∷ xs) le least =
+    grind (arith, nat_tests, same_span top from head (s + x.time) xs le, same_span top from head s xs le)
 
 -- it is no earlier than asked for, and where it is below the greatest number, something waits
 pub least_head_le : (top from : ℕ) (xs : List Lane) → from ≤ top → from ≤ least_head top from xs
@@ -71,13 +64,7 @@ pub least_among : (top from above upto : ℕ) (all xs : List Lane) (head : ℕ) 
     → above < head → head ≤ upto → span head head all ≤ spans_from above upto all xs
 least_among top from above upto all [] head e lt over under = absurd (omega arith)
 least_among top from above upto all (x ∷ xs) head e lt over under =
-    elim (cases_lt (least_head top from xs) (later_head top from x.head)) [
-      | inl less ↦ grind (arith, least_among top from above upto all xs head (omega arith) lt over under)
-      | inr le ↦ grind (arith, passes head over under, nat_tests)
-    ]
-  where
-    passes : (h : ℕ) → above < h → h ≤ upto → (ltb above h && leb h upto) ≡ true
-    passes h a b = grind (arith, nat_tests)
+    grind (arith, cases_lt, nat_tests, least_among top from above upto all xs head)
 
 -- what is settled up to a head needs no further look
 pub settled_spans : (lower upper upto bound : ℕ) (all : List Lane)
@@ -155,7 +142,7 @@ module _ {above upto most : ℕ} {all : List Lane} {settled bound : ℕ}
         leap =
             let a = h.reaches
             in let room : settled + 1 ≤ top = omega (arith, before, below_top)
-            in let less : least_head top (settled + 1) all < top = omega (arith, head_is, under, below_top)
+            in let less : least_head top (settled + 1) all < top = omega (arith, under, below_top)
             in let own : span head head all ≡ head + load =
             ap (λ k. span k k all) head_is ∙ least_span top (settled + 1) all room less
             ∙ ap (λ k. k + span (settled + 1) 0 all) (sym head_is) ∙ ap (λ k. head + k) (sym load_is)

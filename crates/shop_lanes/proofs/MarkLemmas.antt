@@ -1,6 +1,6 @@
 -- Bits as positions: the lowest taken out, none left, and the mask of a test.
 use Rattle.std.proofs.Common.{◌≡◌, ℕ, zero, suc, ◌+◌, ◌-◌, ◌/◌, ◌%◌, ◌^◌, ◌<◌, ◌≤◌, Bool, List, [], ◌∷◌, length, map}
-use Rattle.std.proofs.Common.{refl, ap, sym, ◌∙◌, arith, min, ◌⊎◌, inl, inr, ◌↔◌, IsTrue, nat_eq, pow-suc}
+use Rattle.std.proofs.Common.{refl, ap, sym, ◌∙◌, arith, min, ◌↔◌, IsTrue, nat_eq, pow-suc}
 use Rattle.std.proofs.lemmas.Bool.Decides.{nat_tests}
 use Rattle.std.proofs.lemmas.Bool.{cases_eq}
 use Rattle.std.specs.Int.Bits.{bit_and, and_self}
@@ -40,8 +40,7 @@ pub set_bits-mask : (p : ℕ → Bool) (n at : ℕ) (xs : List ℕ) → length x
     → set_bits n at (mask_l (map p xs)) ≡ marked p at xs
 set_bits-mask p n at [] le = set_bits-zero n at
 set_bits-mask p zero at (x ∷ xs) le = absurd (omega arith)
-set_bits-mask p (suc n) at (x ∷ xs) le =
-    grind (arith, set_bits-odd, set_bits-even, set_bits-mask p n (at + 1) xs (omega arith))
+set_bits-mask p (suc n) at (x ∷ xs) le = grind (arith, set_bits-odd, set_bits-even, set_bits-mask p n (at + 1) xs)
 
 pub odd_lowest : (k m : ℕ) → m % 2 ≡ 1 → count_trailing_zeros (suc k) m ≡ 0
 unfolding count_trailing_zeros
@@ -56,30 +55,21 @@ pub set_bits-lowest : (n at m : ℕ) → 0 < m → m < 2 ^ n
     → set_bits n at m ≡ (at + count_trailing_zeros n m) ∷ set_bits n at (bit_and m (m - 1))
 set_bits-lowest zero at m some small = absurd (omega arith)
 set_bits-lowest (suc n) at m some small =
-    elim (odd_or_even m) [
-      | inl odd ↦
-          let even : (bit_and m (m - 1)) % 2 ≡ 0 = omega (arith, lowest_and m (m - 1))
-          in let half : bit_and m (m - 1) / 2 ≡ m / 2 =
-          half_and m (m - 1) ∙ ap (bit_and (m / 2)) (omega arith) ∙ and_self (m / 2)
-          in rw (odd_lowest n m odd) (set_bits-odd n at m odd
-          ∙ ap (λ x. x ∷ set_bits n (at + 1) (m / 2)) (omega arith)
-          ∙ ap (λ b. (at + 0) ∷ set_bits n (at + 1) b) (sym half)
-          ∙ ap (λ l. (at + 0) ∷ l) (sym (set_bits-even n at (bit_and m (m - 1)) even)))
-      | inr even ↦
-          let less : (bit_and m (m - 1)) % 2 ≡ 0 = omega (arith, lowest_and m (m - 1))
-          in let half : bit_and m (m - 1) / 2 ≡ bit_and (m / 2) (m / 2 - 1) =
-          half_and m (m - 1) ∙ ap (bit_and (m / 2)) (omega arith)
-          in let below : m / 2 < 2 ^ n = omega (arith, pow-suc 2 n)
-          in rw (even_lowest n m even) (set_bits-even n at m even
-          ∙ set_bits-lowest n (at + 1) (m / 2) (omega arith) below
-          ∙ ap (λ x. x ∷ set_bits n (at + 1) (bit_and (m / 2) (m / 2 - 1))) (omega arith)
-          ∙ ap (λ b. (at + suc (count_trailing_zeros n (m / 2))) ∷ set_bits n (at + 1) b) (sym half)
-          ∙ ap (λ l. (at + suc (count_trailing_zeros n (m / 2))) ∷ l)
-          (sym (set_bits-even n at (bit_and m (m - 1)) less)))
-    ]
-  where
-    odd_or_even : (k : ℕ) → (k % 2 ≡ 1) ⊎ (k % 2 ≡ 0)
-    odd_or_even k = elim (cases_eq (k % 2) 1) [ inl e ↦ inl e | inr e ↦ inr (omega arith) ]
+    grind (
+      arith,
+      bit_and,
+      lowest_and,
+      half_and,
+      and_self,
+      odd_lowest,
+      set_bits-odd,
+      set_bits-even,
+      pow-suc,
+      even_lowest,
+      count_trailing_zeros,
+      cases_eq,
+      set_bits-lowest n (at + 1) (m / 2),
+    )
 
 -- no position is left exactly where no bit is
 pub no_bits_exactly : (n at m : ℕ) (marks : List ℕ) → m < 2 ^ n → set_bits n at m ≡ marks

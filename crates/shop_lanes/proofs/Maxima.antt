@@ -74,16 +74,8 @@ behind_turned =
     three : (a b c : ℕ) → max (max a b) (max c 0) ≡ max a (max b (max c 0))
     three a b c = omega arith
 
-    assoc : (x y z : ℕ) → max (max x y) z ≡ max x (max y z)
-    assoc x y z = omega arith
-
     fours : (a b c d p : ℕ) → max (max (max a b) (max c d)) p ≡ max 0 (max a (max b (max c (max d p))))
-    fours a b c d p =
-        let least : max a (max b (max c (max d p))) ≡ max 0 (max a (max b (max c (max d p)))) = above_0 _
-        in assoc (max a b) (max c d) p ∙ ap (max (max a b)) (assoc c d p) ∙ assoc a b (max c (max d p)) ∙ least
-      where
-        above_0 : (n : ℕ) → n ≡ max 0 n
-        above_0 n = omega arith
+    fours a b c d p = grind arith
 
 -- the turns one by one
 pub turns_are : (one two four : List ℕ → List ℕ) (v ones moved pairs moved' fours moved'' all : List ℕ)

@@ -1,7 +1,6 @@
 -- The passes for own spans: down the columns, and back.
-use Rattle.std.proofs.Common.{◌≡◌, ℕ, suc, ◌+◌, ◌-◌, ◌*◌, ◌<◌, ◌≤◌, max, Bool, true, false, cond, leb}
-use Rattle.std.proofs.Common.{List, ◌∷◌, length, take, drop, set, get_or, ap, sym, ◌∙◌, arith, subst}
-use Rattle.std.proofs.Common.{replicate, inl, inr, length-set, ◌%◌, ◌/◌}
+use Rattle.std.proofs.Common.{◌≡◌, ℕ, suc, ◌+◌, ◌-◌, ◌*◌, ◌<◌, ◌≤◌, max, cond, leb, rules, List, ◌∷◌, length, take}
+use Rattle.std.proofs.Common.{drop, set, get_or, ap, sym, ◌∙◌, arith, subst, replicate, inl, inr, length-set, ◌%◌, ◌/◌}
 use Rattle.std.proofs.Math.Seq.{drop-cons, take-add}
 use Rattle.std.proofs.lemmas.Bool.{cases_lt}
 use Rattle.std.proofs.lemmas.Simd.{get_or-zip2, length-zip2, length-put_chunk, get_or-put_chunk_below}
@@ -82,18 +81,19 @@ module _ {count : ℕ} {hs ts qs : List ℕ} {all : List Lane} (cols : AreColumn
 
       pub own_is_at : 0 < get_or hs p 0
           → get_or hs p 0 + get_or ts p 0 + max before (behind - get_or ts p 0) ≡ own_span_at count hs ts qs p
-      own_is_at waits = grind (
-        arith,
-        own_at,
-        times_long,
-        tails_long,
-        inside,
-        before_ranked,
-        behind_ranked,
-        head_is,
-        time_is,
-        own_same,
-      )
+      own_is_at waits =
+          grind (
+            arith,
+            own_at,
+            times_long,
+            tails_long,
+            inside,
+            before_ranked,
+            behind_ranked,
+            head_is,
+            time_is,
+            own_same,
+          )
 
 -- a place of a row is one of the block that is written, or of what stands before or behind it
 module _ (n : ℕ) (owns v new : List ℕ) (eight_long : length v ≡ 8) (room : 8 * (n + 1) ≤ length owns)
@@ -149,13 +149,6 @@ pub record IsBackTo (count : ℕ) (hs ts qs : List ℕ) (all : List Lane) (j : �
   pub noted : (p : ℕ) → p < 8 * j → get_or owns p 0 ≡ span 1 0 (part_of count all (p % 8) (p / 8))
   pub done : (p : ℕ) → 8 * j ≤ p → p < 8 * count → 0 < get_or hs p 0
       → get_or owns p 0 ≡ own_span_at count hs ts qs p
-
--- one lane more of what stands behind
-module _ (W T Z t q rest tail : ℕ) (rest_is : max t tail ≡ t + rest) where
-  behind_numbers : (on : Bool) → W + cond on t 0 ≡ T → max T Z ≡ T + rest
-      → max W (max Z (T + cond on q 0)) ≡ W + cond on (max (0 + t + q) tail) rest
-  behind_numbers true e z = omega (arith, e, z, rest_is)
-  behind_numbers false e z = omega (arith, e, z)
 
 module _ {count : ℕ} {hs ts qs : List ℕ} {rows : List Lane} (cols : AreColumnsOf count hs ts qs rows) {limit : ℕ}
     (fits : FitOwnSpans limit rows) where
@@ -237,10 +230,7 @@ module _ {count : ℕ} {hs ts qs : List ℕ} {rows : List Lane} (cols : AreColum
         first_eight = as_eight first first_long
 
         first_here : (k : ℕ) → k < 8 → get_or first k 0 ≡ span 1 0 (take (rank_of count (8 * j + k)) rows)
-        first_here k lt =
-            ap (λ l. get_or l k 0) first_fronts
-            ∙ in_eight (λ i. span 1 0 (front_of count rows i j)) k lt
-            ∙ ap (λ r. span 1 0 (take r rows)) (sym (rank_of_parts count k j lt))
+        first_here k lt = search (rules, first_fronts, in_eight, front_of, rank_of_parts)
 
         behind_here : (k : ℕ) → k < 8 → IsLoadBehind rows (suc (rank_of count (8 * j + k))) (get_or behind k 0)
         behind_here k lt =
@@ -366,7 +356,7 @@ module _ {count : ℕ} {hs ts qs : List ℕ} {rows : List Lane} (cols : AreColum
               in let later = span_from_start 1 (0 + get_or ts (8 * j + k) 0) (drop (suc r) rows)
               in let behind_is : IsLoadBehind rows (suc r) (get_or behind k 0) =
               subst (λ n. IsLoadBehind rows n (get_or behind k 0)) on (so_far.behind_are k lt)
-              in grind (arith, r, below, x, on, front_on, split, number, clock, later, behind_is, behind_numbers)
+              in grind (arith, r, below, x, on, front_on, split, number, clock, later, behind_is)
 
           pub back_more : IsBackTo count hs ts qs rows j less more new
           back_more =

@@ -1,7 +1,6 @@
 -- The own span of one position, from the ends of what stands before it and behind it.
-use Rattle.std.proofs.Common.{◌≡◌, ℕ, zero, suc, ◌+◌, ◌-◌, ◌<◌, ◌≤◌, max, Bool, true, false, cond, leb, List, [], ◌∷◌}
-use Rattle.std.proofs.Common.{◌++◌, length, take, drop, set, get_or, refl, ap, sym, ◌∙◌, arith, subst}
-use Rattle.std.proofs.Common.{take-append-drop, length-set}
+use Rattle.std.proofs.Common.{◌≡◌, ℕ, zero, suc, ◌+◌, ◌-◌, ◌<◌, ◌≤◌, max, Bool, cond, leb, List, [], ◌∷◌, ◌++◌, length}
+use Rattle.std.proofs.Common.{take, drop, set, get_or, refl, ap, sym, ◌∙◌, arith, subst, take-append-drop, length-set}
 use Rattle.std.specs.Prelude.{All}
 use Rattle.std.proofs.lemmas.List.Sums.{sum_by-cons, sum_by-append}
 use Rattle.std.proofs.lemmas.Bool.Decides.{nat_tests}
@@ -61,8 +60,7 @@ taken_more [] ts qs i a b lt = absurd (omega arith)
 taken_more (h ∷ hs) [] qs i a b lt = absurd (omega arith)
 taken_more (h ∷ hs) (t ∷ ts) [] i a b lt = absurd (omega arith)
 taken_more (h ∷ hs) (t ∷ ts) (q ∷ qs) zero a b lt = refl
-taken_more (h ∷ hs) (t ∷ ts) (q ∷ qs) (suc i) a b lt =
-    grind (arith, taken_more hs ts qs i (omega arith) (omega arith) (omega arith))
+taken_more (h ∷ hs) (t ∷ ts) (q ∷ qs) (suc i) a b lt = grind (arith, taken_more hs ts qs i)
 
 -- its end, or when the last of what else waits ends if it is served in this order from there on
 abbrev pub own_in_order : List ℕ → List ℕ → List ℕ → ℕ → ℕ
@@ -74,8 +72,7 @@ own_in_order heads times tails i =
 fit_numbers : (limit h t q C A R K Z : ℕ) (on : Bool) → K ≡ C + cond on t 0 → max K Z ≡ K + R
     → h + C + t + q ≤ limit → h + A + t ≤ limit → h + C + t + R ≤ limit
     → (h + t ≤ limit) × (h + t + max A (Z - t) ≤ limit)
-fit_numbers limit h t q C A R K Z true ek ez f1 f2 f3 = (omega arith, omega arith)
-fit_numbers limit h t q C A R K Z false ek ez f1 f2 f3 = (omega arith, omega arith)
+fit_numbers limit h t q x y z u v w ek ez f1 f2 f3 = grind arith
 
 module _ (hs ts qs : List ℕ) (a : length ts ≡ length hs) (b : length qs ≡ length hs) where
   abbrev all : List Lane

@@ -1,11 +1,11 @@
 -- Where the passes for own spans begin, down the columns and back.
-use Rattle.std.proofs.Common.{◌≡◌, ℕ, ◌+◌, ◌*◌, List, length, take, get_or, refl, ap, sym, ◌∙◌, arith, subst}
+use Rattle.std.proofs.Common.{◌≡◌, ℕ, ◌+◌, ◌*◌, List, take, get_or, refl, ap, sym, ◌∙◌, arith, rules}
 use Rattle.shop_lanes.specs.Eights.{added}
 use Rattle.shop_lanes.specs.Folds.{greatest_before, maxima_behind, sums_before}
 use Rattle.shop_lanes.proofs.Maxima.{greatest_before-get, maxima_behind-get}
 use Rattle.shop_lanes.specs.Rows.{Lane}
 use Rattle.shop_lanes.specs.Spans.{span}
-use Rattle.shop_lanes.specs.inner.OwnSpans.{AreLoadsBehind, IsLoadBehind}
+use Rattle.shop_lanes.specs.inner.OwnSpans.{AreLoadsBehind}
 use Rattle.shop_lanes.specs.inner.Passes.{clock_after, eight}
 use Rattle.shop_lanes.proofs.ColumnScan.{begin, work, load, finish, begin_next, ends_before, ends_behind}
 use Rattle.shop_lanes.proofs.ColumnScan.{begins_eight, ends_eight, next_column}
@@ -45,14 +45,4 @@ module _ {count : ℕ} {hs ts qs : List ℕ} {all : List Lane} (cols : AreColumn
       pub last_loads : {B : Type 0} (numbers : B → List ℕ) (behind : B) → numbers behind ≡ maxima_behind 0 ends
           → AreLoadsBehind numbers count all count behind
       last_loads numbers behind behind_is =
-          let are : numbers behind ≡ maxima_behind 0 (eight (finish 1 cols)) =
-          behind_is ∙ ap (maxima_behind 0) ends_are
-          in record {
-            long = ap length are;
-            each = λ k lt.
-                let got = ap (λ l. get_or l k 0) are
-                ∙ maxima_behind-get 0 (eight (finish 1 cols)) k (omega (arith, lt))
-                in let there = ends_behind 1 cols k lt
-                in subst (λ n. IsLoadBehind all n (get_or (numbers behind) k 0)) (next_column k count)
-                (omega (arith, got, there));
-          }
+          search (rules, finish, ends_are, maxima_behind-get, ends_behind, next_column)

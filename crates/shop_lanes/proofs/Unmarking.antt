@@ -1,5 +1,5 @@
 -- One position unmarked: in bits, and by the head that is set to 0 there.
-use Rattle.std.proofs.Common.{◌≡◌, ℕ, zero, suc, ◌+◌, ◌*◌, ◌/◌, ◌%◌, ◌<◌, Bool, false, inl, inr, List, [], ◌⊎◌}
+use Rattle.std.proofs.Common.{◌≡◌, ℕ, zero, suc, ◌+◌, ◌/◌, ◌%◌, ◌<◌, Bool, false, inl, inr, List, [], ◌⊎◌}
 use Rattle.std.proofs.Common.{◌∷◌, length, get_or, set, refl, ap, sym, ◌∙◌, arith}
 use Rattle.std.proofs.lemmas.Bool.{cases_Bool, cases_eq, cases_lt, eq-eqb, ne_eqb}
 use Rattle.std.proofs.lemmas.Grind.{get_or-set_at}
@@ -7,8 +7,7 @@ use Rattle.std.proofs.lemmas.List.{get_or-drop, get_or-set_other, get_or-take, g
 use Rattle.std.proofs.lemmas.List.{length-take}
 use Rattle.std.specs.Int.{bit_at}
 use Rattle.std.proofs.lemmas.Nat.Bits.{bit_at-suc, bit_at_lowest}
-use Rattle.shop_lanes.specs.Marks.{marked, positions_among, waits_below, without}
-use Rattle.shop_lanes.specs.Rows.{blocks}
+use Rattle.shop_lanes.specs.Marks.{marked, positions_among, without}
 use Rattle.shop_lanes.specs.SetBits.{set_bits}
 use Rattle.shop_lanes.proofs.MarkLemmas.{set_bits-even, set_bits-odd}
 
@@ -76,17 +75,16 @@ marked-without p at q (x ∷ xs) (y ∷ ys) long same fails =
 pub positions_among-set : (heads : List ℕ) (from to limit q : ℕ)
     → positions_among (set heads q 0) from to limit ≡ without q (positions_among heads from to limit)
 positions_among-set heads from to limit q =
-    marked-without (waits_below limit) (8 * from) q (blocks from to heads) (blocks from to (set heads q 0)) long
-    (λ i here ne. there (set heads q 0) i (let e = long in omega arith) ∙ get_or-set_other heads q (8 * from + i) 0 0 ne
-    ∙ sym (there heads i here))
-    (λ i here e. let a = there (set heads q 0) i (let g = long in omega arith) ∙ emptied (8 * from + i) e in rw a refl)
-  where
-    long : length (blocks from to (set heads q 0)) ≡ length (blocks from to heads)
-    long = simp (length-take, length-drop, length-set) refl
-
-    there : (hs : List ℕ) (i : ℕ) → i < length (blocks from to hs)
-        → get_or (blocks from to hs) i 0 ≡ get_or hs (8 * from + i) 0
-    there hs i here = grind (arith, get_or-take, length-take, get_or-drop)
-
-    emptied : (k : ℕ) → k ≡ q → get_or (set heads q 0) k 0 ≡ 0
-    emptied k e = grind (arith, cases_lt, get_or-set_at, get_or_past, length-set)
+    grind (
+      arith,
+      marked-without,
+      get_or-set_other,
+      length-take,
+      length-drop,
+      length-set,
+      get_or-take,
+      get_or-drop,
+      cases_lt,
+      get_or-set_at,
+      get_or_past,
+    )

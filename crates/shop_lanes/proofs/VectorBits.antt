@@ -1,25 +1,13 @@
 -- What the masks of comparisons tell of vectors, as bits.
-use Rattle.std.proofs.Common.{◌≡◌, ℕ, zero, suc, ◌-◌, ◌%◌, ◌≤◌, ◌^◌, Bool, true, false, cond, ◌&&◌, ltb, leb, List, []}
+use Rattle.std.proofs.Common.{◌≡◌, ℕ, zero, suc, ◌-◌, ◌%◌, ◌≤◌, ◌^◌, Bool, cond, ltb, leb, List, []}
 use Rattle.std.proofs.Common.{◌∷◌, length, map, replicate, refl, ap, ◌∙◌, arith}
 use Rattle.std.proofs.lemmas.List.{length-map}
-use Rattle.std.proofs.lemmas.Simd.{tops_compared, mask_l-mod}
-use Rattle.std.specs.Int.Bits.{bit_and, and_self, and_zero_l, and_zero_r}
+use Rattle.std.proofs.lemmas.Simd.{mask_l-mod}
+use Rattle.std.specs.Int.Bits.{bit_and}
 use lib.Lanes.{zip2, top, mask_l}
 use mir.Syntax.{Width}
 use mir.Val.{bits, hbits}
 use Rattle.shop_lanes.specs.Eights.{is_between}
-
-pub top_ones : (w : Width) → top (hbits w) (2 ^ bits w - 1) ≡ true
-top_ones w = let e = tops_compared w (λ (a b : ℕ). true) (0 ∷ []) (0 ∷ []) in cc
-
-pub top_none : (w : Width) → top (hbits w) 0 ≡ false
-top_none w = let e = tops_compared w (λ (a b : ℕ). false) (0 ∷ []) (0 ∷ []) in cc
-
-pub top_both : (w : Width) (p q : Bool)
-    → top (hbits w) (bit_and (cond p (2 ^ bits w - 1) 0) (cond q (2 ^ bits w - 1) 0)) ≡ (p && q)
-top_both w true true = ap (top (hbits w)) (and_self (2 ^ bits w - 1)) ∙ top_ones w
-top_both w true false = ap (top (hbits w)) (and_zero_r (2 ^ bits w - 1)) ∙ top_none w
-top_both w false q = ap (top (hbits w)) (and_zero_l (cond q (2 ^ bits w - 1) 0)) ∙ top_none w
 
 -- above the one number and at most the other
 abbrev pub between_told : Width → ℕ → ℕ → ℕ → List ℕ → List Bool
@@ -35,7 +23,7 @@ between_told_is : (w : Width) (n above upto : ℕ) (v : List ℕ) → length v �
 between_told_is w zero above upto [] e = refl
 between_told_is w zero above upto (x ∷ v) e = absurd (omega arith)
 between_told_is w (suc n) above upto [] e = absurd (omega arith)
-between_told_is w (suc n) above upto (x ∷ v) e = grind (arith, top_both, between_told_is w n above upto v (omega arith))
+between_told_is w (suc n) above upto (x ∷ v) e = grind (arith, between_told_is w n above upto v (omega arith))
 
 pub bits_between_are : (w : Width) (n above upto : ℕ) (v : List ℕ) → length v ≡ n → n ≤ 64
     → mask_l (between_told w n above upto v) % 2 ^ 64 ≡ mask_l (map (is_between above upto) v)

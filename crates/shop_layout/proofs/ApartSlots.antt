@@ -1,6 +1,6 @@
 -- Each step of a job has one slot, and the slots of a machine are at most its operations.
-use Rattle.std.proofs.Common.{◌≡◌, ℕ, zero, suc, ◌+◌, ◌*◌, ◌≤◌, ◌<◌, List, [], ◌∷◌, length, map}
-use Rattle.std.proofs.Common.{get_or, refl, sym, arith, eqb}
+use Rattle.std.proofs.Common.{◌≡◌, ℕ, zero, suc, ◌+◌, ◌*◌, ◌≤◌, ◌<◌, List, [], ◌∷◌, length, map, rules}
+use Rattle.std.proofs.Common.{get_or, sym, arith, eqb}
 use Rattle.std.specs.List.{AllByRecursion, filter, flat_map, range_with_len}
 use Rattle.std.proofs.lemmas.List.{length-map, length-append}
 use Rattle.std.proofs.lemmas.List.Elements.{All-from_recursion}
@@ -35,8 +35,7 @@ range_rises a (suc n) = grind (arith, all_map, range_within, range_rises (a + 1)
 pairs_mapped : {A B : Type 0} (R : A → A → Type 0) (S : B → B → Type 0) (g : A → B)
     → ((x y : A) → R x y → S (g x) (g y)) → (xs : List A) → Pairwise R xs → Pairwise S (map g xs)
 pairs_mapped R S g f [] h = tt
-pairs_mapped R S g f (x ∷ xs) h =
-    (all_mapped (S (g x)) g xs (all_map (R x) (λ y. S (g x) (g y)) (f x) xs h.0), pairs_mapped R S g f xs h.1)
+pairs_mapped R S g f (x ∷ xs) h = grind (arith, all_mapped, all_map, pairs_mapped R S g f xs h.1)
 
 all_of : {A B : Type 0} (Q : B → Type 0) (g : A → B) → ((x : A) → Q (g x)) → (xs : List A)
     → AllByRecursion Q (map g xs)
@@ -52,8 +51,7 @@ module _ (shop : Shop) (m : ℕ) where
       (range_with_len 0 (length (route_of shop j))) (range_rises 0 (length (route_of shop j))))
 
   job_is : (j : ℕ) → AllByRecursion (λ s. s.job ≡ j) (operations_in (route_of shop j) m j)
-  job_is j = all_of (λ s. s.job ≡ j) (slot_at (route_of shop j) j) (λ k. refl)
-      (filter (λ k. eqb (get_or (route_of shop j) k no_op).machine m) (range_with_len 0 (length (route_of shop j))))
+  job_is j = search (rules, all_of)
 
   of_jobs : (a n : ℕ)
       → Pairwise AreOther (flat_map (λ j. operations_in (route_of shop j) m j) (range_with_len a n))
@@ -80,15 +78,17 @@ slots_apart shop m slots are =
 operations_few : (shop : Shop) (m : ℕ) → ((j : ℕ) → length (route_of shop j) ≤ 100) → (a n : ℕ)
     → length (flat_map (λ j. operations_in (route_of shop j) m j) (range_with_len a n)) ≤ n * 100
 operations_few shop m routes a zero = omega arith
-operations_few shop m routes a (suc n) = grind (
-  arith,
-  length-append,
-  length-map,
-  length-filter,
-  count_by-le-length,
-  length-range_with_len,
-  operations_few shop m routes (a + 1) n,
-)
+operations_few shop m routes a (suc n) =
+    grind (
+      arith,
+      length-append,
+      length-map,
+      length-filter,
+      count_by-le-length,
+      length-range_with_len,
+      operations_few
+          shop m routes (a + 1) n,
+    )
 
 pub slots_few : (shop : Shop) → IsWithinLimits shop → (m : ℕ) (slots : List Slot) → AreSlotsOf shop m slots
     → length slots ≤ 100000

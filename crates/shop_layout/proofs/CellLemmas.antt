@@ -1,5 +1,5 @@
 -- The lists of the machines one after another, each down the columns of its blocks.
-use Rattle.std.proofs.Common.{◌≡◌, ℕ, ◌+◌, ◌-◌, ◌*◌, ◌/◌, ◌%◌, ◌^◌, ◌≤◌, ◌<◌, inl, inr, List, [], ◌∷◌, ◌++◌}
+use Rattle.std.proofs.Common.{◌≡◌, ℕ, ◌+◌, ◌-◌, ◌*◌, ◌/◌, ◌%◌, ◌^◌, ◌≤◌, ◌<◌, List, [], ◌∷◌, ◌++◌}
 use Rattle.std.proofs.Common.{length, get_or, sym, ◌∙◌, ap, arith}
 use Rattle.std.specs.Int.{div_ceil}
 use Rattle.std.proofs.lemmas.Bool.{cases_eq}
@@ -42,17 +42,7 @@ cells_more lists n cells blocks before short slots are count low high more added
     ap (λ (k : ℕ). 8 * get_or after n 0 + place_at_rank k i) its ∙ ap (λ (k : ℕ). k + place) first
     in ap (λ (q : ℕ). get_or more q no_slot) there
     ∙ (added.at place fits ∙ ap (λ (k : ℕ). get_or slots k no_slot) rank))
-    in record {
-      machines = (let a = ap length noted in omega (arith, a, many, length-append blocks (last ∷ [])));
-      from_0 = old 0 (omega arith) ∙ before.from_0;
-      whole = (let a = new in omega arith);
-      each = λ m below. grind (arith, cases_eq, get_or_default, get_or_past, position_within);
-      few = (let a = before.few in let b = short n in let d = ap length are in omega arith);
-      some = λ any. elim (cases_eq (length cells) 0) [
-        | inl none ↦ (n, omega arith, (let d = ap length are in omega arith))
-        | inr have ↦ (let x = before.some (omega arith) in (x.0, (let b = x.1 in omega arith), x.2))
-      ];
-    }
+    in grind (arith, length-append, cases_eq, get_or_default, get_or_past, position_within)
 
 -- a number of cells in whole blocks
 pub count_bounds : (a count : ℕ) → count ≡ div_ceil a 8 → (a ≤ 8 * count) × (8 * count < a + 8)

@@ -1,6 +1,6 @@
 -- The lists of the machines, laid out.
 use Rattle.std.proofs.Common.{◌≡◌, ℕ, zero, suc, ◌+◌, ◌-◌, ◌*◌, ◌≤◌, ◌<◌, inl, inr, List, []}
-use Rattle.std.proofs.Common.{length, map, get_or, refl, ap, arith}
+use Rattle.std.proofs.Common.{length, map, get_or, refl, arith}
 use Rattle.std.specs.List.{All}
 use Rattle.std.proofs.lemmas.Bool.{cases_eq, cases_lt}
 use Rattle.std.proofs.lemmas.List.{get_or-map, get_or_past, get_or_default, length-map}
@@ -43,15 +43,9 @@ machines_turn blocks n old new to before is order orders long front behind =
     let positions = before.positions
     in record {
       positions = omega arith;
-      known = λ q here. elim (cases_lt q (length old)) [
-        | inl a ↦ (let e = front q 0 (omega arith) a in let k = before.known q a in omega arith)
-        | inr a ↦ (let e = behind q 0 a (omega arith) in omega arith)
-      ];
+      known = λ q here. grind (arith, cases_lt);
       at = λ m q known low high. elim (cases_eq m n) [
-        | inl e ↦ (let f : 8 * get_or blocks m 0 ≡ 8 * get_or blocks n 0 = ap (λ (x : ℕ). 8 * get_or blocks x 0) e
-            in let g : 8 * get_or blocks (m + 1) 0 ≡ 8 * get_or blocks (n + 1) 0 =
-            ap (λ (x : ℕ). 8 * get_or blocks (x + 1) 0) e
-            in let b = behind q 0 (omega arith) (omega arith) in omega arith)
+        | inl e ↦ grind arith
         | inr ne ↦ (let within = rises (m + 1) (n - (m + 1)) n (omega arith) (omega arith)
             in let e = front q 0 (omega arith) (omega arith)
             in let b = before.at m q (omega arith) low high in omega arith)
@@ -59,14 +53,8 @@ machines_turn blocks n old new to before is order orders long front behind =
     }
   where
     rises : (a d b : ℕ) → a + d ≡ b → b ≤ n → get_or blocks a 0 ≤ get_or blocks b 0
-    rises a zero b e within =
-        let f : get_or blocks b 0 ≡ get_or blocks a 0 =
-        ap (λ (x : ℕ). get_or blocks x 0) (omega arith) in omega arith
-    rises a (suc d) b e within =
-        let x = rises a d (a + d) refl (omega arith)
-        in let y = orders (a + d) (omega arith)
-        in let f : get_or blocks b 0 ≡ get_or blocks (a + d + 1) 0 =
-        ap (λ (z : ℕ). get_or blocks z 0) (omega arith) in omega arith
+    rises a zero b e within = grind arith
+    rises a (suc d) b e within = grind (arith, rises a d (a + d) refl)
 
 module _ (shop : Shop) (limits : IsWithinLimits shop) (lists : List (List Slot)) (are : AreMachineSlots shop lists)
     (cells : List Slot) (blocks : List ℕ) (laid : AreCells lists shop.machines cells blocks) where
@@ -74,13 +62,7 @@ module _ (shop : Shop) (limits : IsWithinLimits shop) (lists : List (List Slot))
   machine_at : (k q : ℕ) → k ≤ shop.machines → q < 8 * get_or blocks k 0
       → (m : ℕ) × (m < shop.machines) × (8 * get_or blocks m 0 ≤ q) × (q < 8 * get_or blocks (m + 1) 0)
   machine_at zero q known below = absurd (let a = laid.from_0 in omega arith)
-  machine_at (suc k) q known below =
-      let e : suc k ≡ k + 1 = omega arith
-      in let f = ap (λ (n : ℕ). get_or blocks n 0) e
-      in elim (cases_lt q (8 * get_or blocks k 0)) [
-        | inl l ↦ machine_at k q (omega arith) l
-        | inr l ↦ (k, omega arith, l, omega arith)
-      ]
+  machine_at (suc k) q known below = grind (arith, cases_lt, machine_at k q)
 
   -- where there are cells there is a job
   jobs_known : 0 < length cells → 0 < length shop.jobs

@@ -1,4 +1,5 @@
 -- Where the operations of an instance stand by position.
+use Rattle.std.proofs.lemmas.Grind.{common_steps}
 use Rattle.std.proofs.Common.{◌≡◌, ℕ, zero, suc, ◌+◌, ◌-◌, ◌≤◌, ◌<◌, ◌⊎◌, inl, inr, [], length}
 use Rattle.std.proofs.Common.{get_or, refl, sym, ◌∙◌, ap, subst, arith}
 use Rattle.std.proofs.lemmas.Bool.{cases_eq, cases_lt}
@@ -54,15 +55,7 @@ module _ (shop : Shop) (limits : IsWithinLimits shop) (l : LayoutState) (laid : 
       in let room = machine.room
       in let inside = position_within l.blocks m i (omega arith)
       in let last = machines_rise (m + 1) shop.machines (omega arith) (omega arith)
-      in record {
-        job = ap (λ (x : ℕ). get_or l.jobs x 0) (sym q) ∙ here.job;
-        step = ap (λ (x : ℕ). get_or l.steps x 0) (sym q) ∙ here.step;
-        time = ap (λ (x : ℕ). get_or l.times x 0) (sym q) ∙ here.time;
-        tail = ap (λ (x : ℕ). get_or l.tails x 0) (sym q) ∙ here.tail;
-        from = omega (arith, q);
-        to = omega (arith, q, inside);
-        within = omega (arith, q, inside, last);
-      }
+      in grind arith
 
   pub each_position : (q : ℕ) → IsOperationAt shop l q ⊎ IsFree shop l q
   each_position q =
@@ -76,12 +69,9 @@ module _ (shop : Shop) (limits : IsWithinLimits shop) (l : LayoutState) (laid : 
       in elim (cases_lt k (length (route_of shop j))) [
         | inl op ↦ elim (cases_eq (place l j k) q) [
           | inl at ↦ inl (record { job = j; step = k; is = op; at = at })
-          | inr ne ↦ inr (λ i t is at. let s = same i t is at
-              in ne (ap (λ (x : ℕ). place l x k) s.0 ∙ (ap (place l i) s.1 ∙ at)))
+          | inr ne ↦ grind arith
         ]
-        | inr none ↦ inr (λ i t is at. let s = same i t is at
-            in let long : length (route_of shop j) ≡ length (route_of shop i) =
-            ap (λ (x : ℕ). length (route_of shop x)) s.0 in let u = s.1 in omega arith)
+        | inr none ↦ grind arith
       ]
 
   -- the operations among the positions of a machine are its operations
@@ -91,24 +81,13 @@ module _ (shop : Shop) (limits : IsWithinLimits shop) (l : LayoutState) (laid : 
       let a = place_of j k op
       in let from = a.from in let to = a.to
       in let its = limits.on_machines j k
-      in elim (cases_lt (machine_of shop j k) m) [
-        | inl below ↦ grind (arith, machines_rise (machine_of shop j k + 1) m (omega arith) (omega arith))
-        | inr above ↦ elim (cases_lt m (machine_of shop j k)) [
-          | inl more ↦ grind (arith, machines_rise (m + 1) (machine_of shop j k) (omega arith) (omega arith))
-          | inr less ↦ omega arith
-        ]
-      ]
+      in grind (arith, common_steps, cases_lt, machines_rise)
 
   -- the machine that a position belongs to
   pub machine_at : (k q : ℕ) → k ≤ shop.machines → q < first_position l k
       → (m : ℕ) × (m < shop.machines) × (first_position l m ≤ q) × (q < first_position l (m + 1))
   machine_at zero q known below = absurd (let a = laid.from_0 in omega arith)
-  machine_at (suc k) q known below =
-      let f : first_position l (suc k) ≡ first_position l (k + 1) = ap (first_position l) (omega arith)
-      in elim (cases_lt q (first_position l k)) [
-        | inl low ↦ machine_at k q (omega arith) low
-        | inr high ↦ (k, omega arith, high, omega arith)
-      ]
+  machine_at (suc k) q known below = grind (arith, cases_lt, machine_at k q)
 
   -- an operation, or nothing that takes time
   pub cell_at : (q : ℕ) → q < first_position l shop.machines → IsOperationAt shop l q ⊎ IsPadding l q

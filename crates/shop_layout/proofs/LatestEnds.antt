@@ -1,5 +1,5 @@
 -- No operation ends later than the latest release and all times together.
-use Rattle.std.proofs.Common.{◌≡◌, ℕ, zero, suc, ◌+◌, ◌-◌, ◌≤◌, ◌<◌, inl, inr, List, length, take, ap, refl, arith}
+use Rattle.std.proofs.Common.{◌≡◌, ℕ, zero, suc, ◌+◌, ◌-◌, ◌≤◌, ◌<◌, List, length, take, ap, refl, arith}
 use Rattle.std.specs.List.{sum_by}
 use Rattle.std.proofs.lemmas.Bool.{cases_eq}
 use Rattle.std.proofs.lemmas.List.{take_more}
@@ -41,10 +41,7 @@ module _ (shop : Shop) (p : Placing) (j : ℕ) (q : Placing) (n : IsNext shop p 
     placed_past : (i : ℕ) → j < i → placed_before shop q i ≡ placed_before shop p i + time_of shop j (p.steps j)
     unfolding placed_before
     placed_past zero h = absurd (omega arith)
-    placed_past (suc i) h = elim (cases_eq i j) [
-      | inl e ↦ grind (arith, placed_below i (omega arith), begun_more shop j (p.steps j) op)
-      | inr ne ↦ grind (arith, placed_past i (omega arith))
-    ]
+    placed_past (suc i) h = grind (arith, cases_eq, placed_below, begun_more, placed_past i)
 
 -- what is placed of the first jobs, and the times of further steps of one of them, are no more than all
 placed-le : (shop : Shop) (p : Placing) (n : ℕ) → placed_before shop p n ≤ total_before shop n
@@ -56,10 +53,7 @@ placed_and_more : (shop : Shop) (p : Placing) (j k n : ℕ) → j < n
     → placed_before shop p n + begun shop j k ≤ total_before shop n + begun shop j (p.steps j)
 unfolding placed_before
 placed_and_more shop p j k zero h = absurd (omega arith)
-placed_and_more shop p j k (suc n) h = elim (cases_eq n j) [
-  | inl e ↦ grind (arith, placed-le shop p n, begun-le shop j k)
-  | inr ne ↦ (let a = placed_and_more shop p j k n (omega arith) in let b = begun-le shop n (p.steps n) in omega arith)
-]
+placed_and_more shop p j k (suc n) h = grind (arith, cases_eq, placed-le, begun-le, placed_and_more shop p j k n)
 
 -- no job and no machine is ready later than the latest release and the times of what is placed
 record AreInTime (shop : Shop) (p : Placing) : Type 0 where
@@ -68,20 +62,7 @@ record AreInTime (shop : Shop) (p : Placing) : Type 0 where
 
 in_time_next : (shop : Shop) (p : Placing) (j : ℕ) (q : Placing) → IsNext shop p j q → IsOperation shop j (p.steps j)
     → AreInTime shop p → AreInTime shop q
-in_time_next shop p j q n op t =
-    let job = IsOperation-job shop j (p.steps j) op
-    in let more = placed_past shop p j q n op (length shop.jobs) job
-    in let start = n.begins_here in let r = t.ready j job in let f = t.free (machine_of shop j (p.steps j))
-    in record {
-      ready = λ i known. elim (cases_eq i j) [
-        | inl e ↦ (let a = n.ready_here in let s : q.ready i ≡ q.ready j = ap q.ready e in omega arith)
-        | inr ne ↦ (let a = n.ready_other i ne in let s = t.ready i known in omega arith)
-      ];
-      free = λ m. elim (cases_eq m (machine_of shop j (p.steps j))) [
-        | inl e ↦ (let a = n.free_here m e in omega arith)
-        | inr ne ↦ (let a = n.free_other m ne in let s = t.free m in omega arith)
-      ];
-    }
+in_time_next shop p j q n op t = grind (arith, IsOperation-job, placed_past, cases_eq)
 
 in_time : (shop : Shop) (w : List ℕ) → IsWord shop w → AreInTime shop (placing shop w)
 in_time shop = snoc_induct (λ w. IsWord shop w → AreInTime shop (placing shop w))

@@ -1,5 +1,5 @@
 -- Places that are written one after another.
-use Rattle.std.proofs.Common.{◌≡◌, ℕ, ◌+◌, ◌<◌, inl, inr, List, [], length, get_or, set, sym, ◌∙◌, ap, arith}
+use Rattle.std.proofs.Common.{◌≡◌, ℕ, ◌+◌, ◌<◌, inl, inr, List, [], length, get_or, set, ◌∙◌, ap, arith}
 use Rattle.std.specs.List.{All}
 use Rattle.std.proofs.lemmas.Bool.{cases_eq}
 use Rattle.std.proofs.lemmas.List.{get_or-set_same, get_or-set_other, length-set, get_or_default}
@@ -41,15 +41,9 @@ noted_more n first count slots old now new before here apart rows x x_is is =
     in let step : s.step < length (get_or now s.job []) = omega arith
     in record {
       long = ap length is ∙ (length-set now s.job (set (get_or now s.job []) s.step x) ∙ long);
-      rows = λ j. ap (λ (xs : List (List ℕ)). length (get_or xs j [])) is
-          ∙ (row_long now s.job s.step x job step j ∙ before.rows j);
+      rows = λ j. grind (arith, row_long);
       noted = λ i d below. elim (cases_eq i n) [
-        | inl e ↦ (let same : get_or slots i d ≡ s =
-            ap (λ (k : ℕ). get_or slots k d) e ∙ get_or_default slots n d no_slot here
-            in ap (λ (t : Slot). place_in new t.job t.step) same
-            ∙ (ap (λ (xs : List (List ℕ)). place_in xs s.job s.step) is
-            ∙ (place_here now s.job s.step x job step
-            ∙ (x_is ∙ ap (λ (k : ℕ). first + place_at_rank count k) (sym e)))))
+        | inl e ↦ grind (arith, get_or_default, place_here)
         | inr ne ↦ (let t = get_or slots i d
             in ap (λ (xs : List (List ℕ)). place_in xs t.job t.step) is
             ∙ (place_other now s.job s.step x job step t.job t.step
@@ -58,8 +52,5 @@ noted_more n first count slots old now new before here apart rows x x_is is =
             (f ∙ ap (λ (u : Slot). u.step) (get_or_default slots n no_slot d here)))
             ∙ before.noted i d (omega arith)))
       ];
-      others = λ j k none. ap (λ (xs : List (List ℕ)). place_in xs j k) is
-          ∙ (place_other now s.job s.step x job step j k
-          (λ e f. none n no_slot (omega arith) (sym e) (sym f))
-          ∙ before.others j k (λ i d below. none i d (omega arith)));
+      others = λ j k none. grind (arith, place_other);
     }

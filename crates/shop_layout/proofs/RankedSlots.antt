@@ -1,5 +1,5 @@
 -- Slots and places of an instance whose machines are called by their ranks.
-use Rattle.std.proofs.Common.{◌≡◌, ◌∙◌, ℕ, ◌+◌, ◌<◌, List, [], ◌∷◌, ◌++◌, length, map, get_or, set, sym, ap}
+use Rattle.std.proofs.Common.{◌≡◌, ℕ, ◌+◌, ◌<◌, List, [], ◌∷◌, ◌++◌, length, map, get_or, set, arith}
 use Rattle.std.specs.List.{All}
 use Rattle.shop_model.specs.declared.ops.Op.{Op}
 use Rattle.shop_model.specs.Shop.{Shop, no_op}
@@ -19,18 +19,11 @@ pub added_by_rank : (ranks : List ℕ) (route : List Op) (j k tail i : ℕ) (old
     → row ≡ get_or lists i [] ++ record { job = j; step = k; time = (get_or route k no_op).time; tail = tail } ∷ []
     → IsAddedTo (map (ranked_op ranks) route) j (k + 1) old (set lists i row)
 added_by_rank ranks route j k tail i old lists row before op on here is pushed =
-    let e = op_ranked ranks route k op
-    in added_set (map (ranked_op ranks) route) j k tail i old lists row before
-    (on ∙ sym (ap (λ (o : Op). o.machine) e)) here (is ∙ sym (tail_ranked ranks route k))
-    (pushed ∙ ap (λ (t : ℕ). get_or lists i [] ++ record { job = j; step = k; time = t; tail = tail } ∷ [])
-    (sym (ap (λ (o : Op). o.time) e)))
+    grind (arith, op_ranked, added_set, tail_ranked)
 
 module _ (ranks : List ℕ) (shop : Shop) where
   pub routes_ranked : (rows : List (List ℕ)) → HasRoutes shop rows → HasRoutes (ranked ranks shop) rows
-  routes_ranked rows has = record {
-    jobs = has.jobs ∙ sym (jobs_ranked ranks shop);
-    routes = λ j. has.routes j ∙ sym (steps_ranked ranks shop j);
-  }
+  routes_ranked rows has = grind (arith, jobs_ranked, steps_ranked)
 
   pub places_ranked : (lists : List (List Slot)) (blocks : List ℕ) (n : ℕ) (rows : List (List ℕ))
       → ArePlaces shop lists blocks n rows → ArePlaces (ranked ranks shop) lists blocks n rows
@@ -39,13 +32,7 @@ module _ (ranks : List ℕ) (shop : Shop) where
   -- and back
   pub places_asked : (lists : List (List Slot)) (blocks : List ℕ) (n : ℕ) (rows : List (List ℕ))
       → ArePlaces (ranked ranks shop) lists blocks n rows → ArePlaces shop lists blocks n rows
-  places_asked lists blocks n rows are = record {
-    shape = record {
-      jobs = are.shape.jobs ∙ jobs_ranked ranks shop;
-      routes = λ j. are.shape.routes j ∙ steps_ranked ranks shop j;
-    };
-    each = are.each;
-  }
+  places_asked lists blocks n rows are = grind (arith, jobs_ranked, steps_ranked)
 
   pub rows_by_rank : (rows : List (List ℕ)) → HasRoutes shop rows → (m : ℕ) (slots : List Slot)
       → AreSlotsOf (ranked ranks shop) m slots → All (IsInRows rows) slots

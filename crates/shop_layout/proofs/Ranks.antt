@@ -1,5 +1,5 @@
 -- Ranks of a machine and their positions.
-use Rattle.std.proofs.Common.{◌≡◌, ℕ, ◌+◌, ◌-◌, ◌*◌, ◌/◌, ◌%◌, ◌≤◌, ◌<◌, List, get_or, ◌∙◌, ap, arith}
+use Rattle.std.proofs.Common.{◌≡◌, ℕ, ◌+◌, ◌-◌, ◌*◌, ◌≤◌, ◌<◌, List, get_or, arith}
 use Rattle.shop_lanes.proofs.Columns.{place_fits, place_of_rank_of, rank_fits, rank_of_place}
 use Rattle.shop_layout.specs.Positions.{position_at_rank}
 
@@ -25,11 +25,7 @@ module _ (blocks : List ℕ) (m : ℕ) where
       in let inside : p < 8 * count = omega arith
       in let a = rank_fits count p inside
       in let b = place_of_rank_of count p inside
-      in record {
-        rank = p % 8 * count + p / 8;
-        within = omega (arith, a);
-        at = ap (λ (n : ℕ). 8 * get_or blocks m 0 + n) b ∙ omega arith;
-      }
+      in grind arith
 
   -- two ranks don't stand at one position
   pub same_rank : (i k : ℕ) → 8 * get_or blocks m 0 + i < 8 * get_or blocks (m + 1) 0

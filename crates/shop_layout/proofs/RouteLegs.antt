@@ -1,6 +1,6 @@
 -- The legs of all routes, and where those of each route stand among them.
 use Rattle.std.proofs.Common.{◌≡◌, ℕ, ◌+◌, ◌*◌, ◌^◌, ◌≤◌, ◌<◌, List, [], ◌∷◌, ◌++◌, drop, get_or, length, map, take}
-use Rattle.std.proofs.Common.{sym, ◌∙◌, ap, arith}
+use Rattle.std.proofs.Common.{sym, ◌∙◌, ap, arith, rules}
 use Rattle.std.specs.List.{All, flat_map}
 use Rattle.std.specs.Prelude.{Vec}
 use Rattle.std.specs.declared.alloc.Global.{Global}
@@ -31,14 +31,7 @@ module _ (rows : List (Vec ℕ Global)) (j : ℕ) (row : Vec ℕ Global) (places
   -- the legs of one more row
   pub legs_more : (f : List ℕ → List Leg) {old new : List Leg} → old ≡ flat_map f (take j (map (λ v. v.items) rows))
       → new ≡ old ++ f places → new ≡ flat_map f (take (j + 1) (map (λ v. v.items) rows))
-  legs_more f so_far added =
-      let taken : take (j + 1) all ≡ take j all ++ get_or all j [] ∷ [] =
-      take_more all j [] (omega (arith, here, length-map rows (λ v. v.items)))
-      in added
-      ∙ (ap (λ xs. xs ++ f places) so_far
-      ∙ (ap (λ (ps : List ℕ). flat_map f (take j all) ++ f ps) (read ∙ sym there)
-      ∙ (flat_map_more f [] (take j all) (get_or all j [])
-      ∙ ap (flat_map f) (sym taken))))
+  legs_more f so_far added = search (rules, take_more, length-map, there, flat_map_more)
 
 -- where one more row begins
 pub firsts_more : (f : List ℕ → List Leg) (all : List (List ℕ)) (j : ℕ) {legs : List Leg} (old : List ℕ) {new : List ℕ}

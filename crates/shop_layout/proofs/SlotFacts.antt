@@ -1,6 +1,6 @@
 -- The slots of a machine are its operations, each of them once at least.
-use Rattle.std.proofs.Common.{◌≡◌, ℕ, zero, suc, ◌+◌, ◌≤◌, ◌<◌, inl, inr, Bool, true, List, [], ◌∷◌}
-use Rattle.std.proofs.Common.{length, map, get_or, refl, sym, subst, arith, eqb}
+use Rattle.std.proofs.Common.{◌≡◌, ℕ, zero, suc, ◌+◌, ◌≤◌, ◌<◌, inl, inr, Bool, true, List, [], ◌∷◌, rules}
+use Rattle.std.proofs.Common.{length, map, get_or, refl, arith, eqb}
 use Rattle.std.specs.List.{AllByRecursion, All, Contains, filter, flat_map, range_with_len}
 use Rattle.std.proofs.lemmas.Bool.{cases_Bool, eq-eqb, eqb-true}
 use Rattle.std.proofs.lemmas.List.{length-map, get_or-map}
@@ -46,9 +46,7 @@ operations_are shop m =
 
 pub slots_are_operations : (shop : Shop) (m : ℕ) (slots : List Slot) → AreSlotsOf shop m slots
     → All (IsOperationOn shop m) slots
-slots_are_operations shop m slots are =
-    All-permutation (IsOperationOn shop m) (operations_on shop m) slots are.same
-    (All-from_recursion (IsOperationOn shop m) (operations_on shop m) (operations_are shop m))
+slots_are_operations shop m slots are = search (rules, All-permutation, All-from_recursion, operations_are)
 
 -- an element of a list stands in what is made of the list
 module _ {A : Type 0} where
@@ -69,10 +67,8 @@ module _ {A : Type 0} where
   flat_at : (f : ℕ → List A) (x : A) (j : ℕ) → Contains (f j) x → (js : List ℕ) → (k : ℕ) → k < length js
       → get_or js k j ≡ j → Contains (flat_map f js) x
   flat_at f x j c [] k l is = absurd (omega arith)
-  flat_at f x j c (i ∷ js) zero l is =
-      Contains-append_left (f i) (flat_map f js) x (subst (λ n. Contains (f n) x) (sym is) c)
-  flat_at f x j c (i ∷ js) (suc k) l is =
-      Contains-append_right (f i) (flat_map f js) x (flat_at f x j c js k (omega arith) is)
+  flat_at f x j c (i ∷ js) zero l is = grind (arith, Contains-append_left)
+  flat_at f x j c (i ∷ js) (suc k) l is = grind (arith, Contains-append_right, flat_at f x j c js k)
 
 mapped_at : {A B : Type 0} (g : A → B) (xs : List A) (x : A) → Contains xs x → Contains (map g xs) (g x)
 mapped_at g xs x c = grind (arith, length-map, get_or-map)

@@ -1,6 +1,6 @@
 -- Verdicts on small instances, decided by computing: each test, where it is true, gives the fact.
-use Rattle.std.proofs.Common.{◌≡◌, ℕ, zero, suc, ◌<◌, inl, inr, Bool, true, not, ◌&&◌, ◌||◌, eqb}
-use Rattle.std.proofs.Common.{ltb, leb, List, [], length, slice_index_or, refl, sym, ap, arith}
+use Rattle.std.proofs.Common.{◌≡◌, ℕ, zero, suc, ◌<◌, inl, inr, Bool, true, not, ◌&&◌, ◌||◌, eqb, rules}
+use Rattle.std.proofs.Common.{ltb, leb, List, [], length, slice_index_or, sym, ap, arith}
 use Rattle.std.proofs.lemmas.Bool.{and_parts, or_cases, not-true, both_ways, leb-true, eqb-true, eqb-false, lt-ltb}
 use Rattle.std.proofs.lemmas.Bool.{eq-eqb, and_from, or_left, or_right, cases_eq, cases_lt}
 use Rattle.std.proofs.lemmas.List.{get_or_past}
@@ -17,10 +17,7 @@ each_below (suc n) p = each_below n p && p n
 
 each_below-true : (n : ℕ) (p : ℕ → Bool) (i : ℕ) → each_below n p ≡ true → i < n → p i ≡ true
 each_below-true zero p i h below = absurd (omega arith)
-each_below-true (suc n) p i h below = let both = and_parts (each_below n p) (p n) h in elim (cases_eq i n) [
-  | inl e ↦ rw e both.1
-  | inr ne ↦ each_below-true n p i both.0 (omega arith)
-]
+each_below-true (suc n) p i h below = grind (arith, and_parts, cases_eq, each_below-true n p i)
 
 -- p holds of each operation
 abbrev pub each_operation : Shop → (ℕ → ℕ → Bool) → Bool
@@ -145,19 +142,4 @@ module _ (shop : Shop) (starts : Starts) (j k i l : ℕ) (op : IsOperation shop 
       (and_from (is_before a b c d) (is_earlier_pair a b c d j k i l) (is_before-true a b c d in_order) earlier))
 
   pub first_overlap_by_test : IsFirstOverlap shop starts j k i l
-  first_overlap_by_test = record {
-    operation = op;
-    second = record {
-      operation = other;
-      after = before;
-      same_machine = same;
-      second_begins = second;
-      first_begins = first;
-      first = λ c d two in_order earlier. pair j k c d op two in_order
-          (or_right (is_before j k j k) (is_same j k j k && is_before c d i l)
-          (and_from (is_same j k j k) (is_before c d i l)
-          (and_from (eqb j j) (eqb k k) (eq-eqb j j refl) (eq-eqb k k refl)) (is_before-true c d i l earlier)));
-    };
-    first = λ a b c d one two earlier in_order. pair a b c d one two in_order
-        (or_left (is_before a b j k) (is_same a b j k && is_before c d i l) (is_before-true a b j k earlier));
-  }
+  first_overlap_by_test = search (rules, pair, or_right, and_from, eq-eqb, is_before-true, or_left)

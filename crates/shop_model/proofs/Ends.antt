@@ -1,5 +1,5 @@
 -- The end of a table, and feasible tables by when each operation may begin.
-use Rattle.std.proofs.Common.{◌≡◌, ℕ, zero, suc, ◌≤◌, ◌<◌, ◌⊎◌, inl, inr, length, arith, add-one}
+use Rattle.std.proofs.Common.{◌≡◌, ℕ, zero, suc, ◌≤◌, ◌<◌, ◌⊎◌, length, arith, add-one}
 use Rattle.std.proofs.lemmas.Bool.{cases_eq, cases_lt}
 use Rattle.std.proofs.lemmas.List.{get_or_past}
 use Rattle.shop_model.specs.Shop.{Shop, Starts, route_of, machine_of, IsOperation}
@@ -31,8 +31,7 @@ end_of-le shop starts b h = grind (arith, greatest_below-le)
 
 -- in a feasible table each operation begins in time
 pub feasible-in_time : (shop : Shop) (starts : Starts) → IsFeasible shop starts → NoneEarly shop starts
-feasible-in_time shop starts f i zero op = f.released i op
-feasible-in_time shop starts f i (suc l) op = rw (← add-one) (f.in_order i l (rw add-one op))
+feasible-in_time shop starts f i x op = grind (arith, add-one)
 
 pub feasible_from : (shop : Shop) (starts : Starts) → NoneEarly shop starts
     → ((j k i l : ℕ) → IsOperation shop j k → IsOperation shop i l → machine_of shop j k ≡ machine_of shop i l
@@ -45,8 +44,4 @@ feasible_from shop starts none apart = grind (arith, add-one)
 pub in_time-later : (shop : Shop) (starts : Starts) → NoneEarly shop starts → (j k l : ℕ) → k < l → IsOperation shop j l
     → finish_of shop starts j k ≤ starts j l
 in_time-later shop starts none j k zero before op = absurd (omega arith)
-in_time-later shop starts none j k (suc l) before op = let ready : finish_of shop starts j l ≤ starts j (suc l) =
-    none j (suc l) op in elim (cases_eq k l) [
-      | inl e ↦ rw e ready
-      | inr ne ↦ (let a = in_time-later shop starts none j k l (omega arith) (omega arith) in omega arith)
-    ]
+in_time-later shop starts none j k (suc l) before op = grind (arith, cases_eq, in_time-later shop starts none j k l)

@@ -1,4 +1,5 @@
 -- Instances that were given as rows, or as jobs.
+use Rattle.std.proofs.Common.{rules}
 use Rattle.std.proofs.Common.{◌≡◌, ℕ, zero, suc, ◌≤◌, ◌<◌, List, [], ◌∷◌, map, length, slice_index_or, refl, arith}
 use Rattle.std.specs.List.{AllByRecursion}
 use Rattle.std.proofs.lemmas.Bool.{cases_lt}
@@ -75,19 +76,9 @@ from_each shop some few some_job few_jobs each = grind arith
 -- rows within the limits give an instance within the limits
 pub rows_within : (machines : ℕ) (rows : List (Vec Op Global)) → AreRowsWithin machines rows
     → IsWithinLimits (shop_of_rows machines rows)
-rows_within machines rows a =
-    let n = length-map rows job_of_row
-    in from_each (shop_of_rows machines rows) a.some_machine a.few_machines
-    (let b = a.some_row in omega arith) (let b = a.few_rows in omega arith)
-    (rows_keep machines a.some_machine a.few_machines rows
-    (recursion_from_All (λ (row : Vec Op Global). length row.items ≡ machines) rows a.lengths)
-    (recursion_from_All (λ (row : Vec Op Global). IsRouteWithin machines row.items) rows a.operations))
+rows_within machines rows a = search (rules, length-map, from_each, rows_keep, recursion_from_All)
 
 -- and so do jobs
 pub jobs_within : (machines : ℕ) (jobs : List Job) → AreJobsWithin machines jobs
     → IsWithinLimits (shop_of_jobs machines jobs)
-jobs_within machines jobs a =
-    let n = length-map jobs job_as_given
-    in from_each (shop_of_jobs machines jobs) a.some_machine a.few_machines
-    (let b = a.some_job in omega arith) (let b = a.few_jobs in omega arith)
-    (jobs_keep machines a.some_machine jobs (recursion_from_All (IsJobWithin machines) jobs a.each))
+jobs_within machines jobs a = search (rules, length-map, from_each, jobs_keep, recursion_from_All)

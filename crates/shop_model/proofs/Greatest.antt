@@ -1,5 +1,5 @@
 -- The greatest of the first values of a function.
-use Rattle.std.proofs.Common.{◌≡◌, ℕ, zero, suc, ◌+◌, ◌≤◌, ◌<◌, max, arith, add-one, inl, inr, refl}
+use Rattle.std.proofs.Common.{◌≡◌, ℕ, zero, suc, ◌+◌, ◌≤◌, ◌<◌, max, arith, add-one, refl}
 use Rattle.std.proofs.lemmas.Bool.{cases_eq}
 use Rattle.shop_model.specs.Shop.{greatest_below}
 
@@ -11,8 +11,7 @@ greatest_below-next f n end x r e p q = rw add-one (cc)
 -- each value is at most the greatest
 pub le-greatest_below : (f : ℕ → ℕ) (n i : ℕ) → i < n → f i ≤ greatest_below n f
 le-greatest_below f zero i h = absurd (omega arith)
-le-greatest_below f (suc n) i h =
-    elim (cases_eq i n) [ inl e ↦ rw e (omega arith) | inr ne ↦ omega (arith, le-greatest_below f n i (omega arith)) ]
+le-greatest_below f (suc n) i h = grind (arith, cases_eq, le-greatest_below f n i)
 
 -- a bound on each value is a bound on the greatest
 pub greatest_below-le : (f : ℕ → ℕ) (n b : ℕ) → ((i : ℕ) → i < n → f i ≤ b) → greatest_below n f ≤ b

@@ -14,11 +14,7 @@ ClearSoFar route row others other_row k l = (m n : ℕ) → m < length route →
 pub in_order-later : (route : List Op) (row : List ℕ) → KeepsOrder route row → (k l : ℕ) → k < l → l < length route
     → finish_at route row k ≤ slice_index row l
 in_order-later route row o k zero before op = absurd (omega arith)
-in_order-later route row o k (suc l) before op = elim (cases_eq k l) [
-  | inl e ↦ (let a = o l (omega arith) in rw (e, ← add-one) a)
-  | inr ne ↦ (let a = in_order-later route row o k l (omega arith) (omega arith)
-      in let b : finish_at route row l ≤ slice_index row (suc l) = rw (← add-one) (o l (omega arith)) in omega arith)
-]
+in_order-later route row o k (suc l) before op = grind (arith, cases_eq, add-one, in_order-later route row o k l)
 
 module _ (route : List Op) (row : List ℕ) (others : List Op) (other_row : List ℕ) (k l : ℕ)
     (far : ClearSoFar route row others other_row k l)

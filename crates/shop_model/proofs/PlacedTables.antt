@@ -1,10 +1,10 @@
 -- The table that a full word places, and tables that agree on the operations.
-use Rattle.std.proofs.Common.{◌≡◌, ℕ, ◌<◌, List, [], ◌∷◌, ◌++◌, length, map, sym, ◌∙◌, ap, arith, append_assoc}
+use Rattle.std.proofs.Common.{◌≡◌, ℕ, ◌<◌, List, ◌∷◌, ◌++◌, sym, ◌∙◌, ap, arith, append_assoc}
 use Rattle.std.specs.List.{range_with_len}
 use Rattle.std.proofs.lemmas.Bool.{cases_lt}
 use Rattle.std.proofs.lemmas.List.{get_or_past}
 use Rattle.std.proofs.lemmas.List.FromFn.{length-map-range_with_len, get_or-map-range_with_len}
-use Rattle.shop_model.specs.Shop.{Shop, Starts, route_of, IsOperation, IsFeasible, end_of}
+use Rattle.shop_model.specs.Shop.{Shop, Starts, IsOperation, IsFeasible, end_of}
 use Rattle.shop_model.specs.Word.{placing, placed, count_of, IsWord, IsFull, IsUnder, rows_of}
 use Rattle.shop_model.specs.Checking.{HasShape, starts_of}
 use Rattle.shop_model.specs.Placed.{IsPlacedBy}
@@ -43,10 +43,7 @@ pub rows_of-shape : (shop : Shop) (s : Starts) → HasShape shop (rows_of shop s
 rows_of-shape shop s = grind (arith, length-map-range_with_len, cases_lt, get_or-map-range_with_len, get_or_past)
 
 pub rows_of-starts : (shop : Shop) (s : Starts) → Agree shop s (starts_of (rows_of shop s))
-rows_of-starts shop s i l op =
-    let row : ℕ → List ℕ = λ j. map (s j) (range_with_len 0 (length (route_of shop j)))
-    in rw (get_or-map-range_with_len row 0 (length shop.jobs) i i [] (IsOperation-job shop i l op) (omega arith))
-    (sym (get_or-map-range_with_len (s i) 0 (length (route_of shop i)) l l 0 op (omega arith)))
+rows_of-starts shop s i l op = grind (arith, range_with_len, get_or-map-range_with_len, IsOperation-job)
 
 -- all operations are placed, so the placing is a feasible table under the word
 pub full_under : (shop : Shop) (w : List ℕ) → IsFull shop w → IsUnder shop w (placed shop w)

@@ -1,6 +1,6 @@
 -- Placements kept as lists.
-use Rattle.std.proofs.Common.{◌≡◌, ℕ, ◌<◌, ◌≤◌, ◌+◌, ◌^◌, max, inl, inr, List, [], ◌∷◌, ◌++◌, length, map}
-use Rattle.std.proofs.Common.{take, replicate, get_or, set, sym, ◌∙◌, ap, subst, arith, cond, eqb}
+use Rattle.std.proofs.Common.{◌≡◌, ℕ, ◌<◌, ◌≤◌, ◌+◌, ◌^◌, max, inl, inr, List, [], ◌∷◌, ◌++◌, length, map, rules}
+use Rattle.std.proofs.Common.{take, replicate, get_or, set, sym, ◌∙◌, ap, arith, cond, eqb}
 use Rattle.std.proofs.lemmas.Bool.{cases_eq}
 use Rattle.std.proofs.lemmas.Grind.{get_or_default_zero, get_or-set_at}
 use Rattle.std.proofs.lemmas.List.{get_or-replicate, length-replicate, take_more, get_or-set_other, length-set}
@@ -31,17 +31,8 @@ placing-take shop w i below = ap (placing shop) (take_more w i 0 below) ∙ plac
 pub none_is : (shop : Shop) (s : PlacementState) → s.steps ≡ replicate (length shop.jobs) 0
     → s.ready ≡ map (λ j. release_of shop j) (range_with_len 0 (length shop.jobs)) → s.free ≡ replicate shop.machines 0
     → IsPlacement shop (none_placed shop) s
-none_is shop s steps ready free = record {
-  places = record {
-    steps = ap (λ (xs : List ℕ). length xs) steps ∙ length-replicate (length shop.jobs) 0;
-    ready = ap (λ (xs : List ℕ). length xs) ready ∙ length-map-range_with_len (release_of shop) 0 (length shop.jobs);
-    free = ap (λ (xs : List ℕ). length xs) free ∙ length-replicate shop.machines 0;
-  };
-  steps = λ j h. ap (λ (xs : List ℕ). get_or xs j 0) steps ∙ get_or-replicate (length shop.jobs) j 0 0 h;
-  ready = λ j h. ap (λ (xs : List ℕ). get_or xs j 0) ready
-      ∙ get_or-map-range_with_len (release_of shop) 0 (length shop.jobs) j j 0 h (omega arith);
-  free = λ m h. ap (λ (xs : List ℕ). get_or xs m 0) free ∙ get_or-replicate shop.machines m 0 0 h;
-}
+none_is shop s steps ready free =
+    grind (arith, length-replicate, length-map-range_with_len, get_or-replicate, get_or-map-range_with_len)
 
 -- what is known where a word can go on with j
 pub record IsAboutToPlace (shop : Shop) (j : ℕ) (s : PlacementState) : Type 0 where
@@ -76,11 +67,7 @@ job_of_next shop j s next = IsOperation-job shop j (count_of j next.word) (next_
 -- the entry that comes next can be placed
 pub next_of_word : (shop : Shop) (w : List ℕ) → IsWord shop w → (i : ℕ) → i < length w → (s : PlacementState)
     → IsPlacement shop (placing shop (take i w)) s → HasNext shop (get_or w i 0) s
-next_of_word shop w word i below s is = record {
-  word = take i w;
-  fits = subst (IsWord shop) (take_more w i 0 below) (IsWord-take shop w (i + 1) word);
-  placed = is;
-}
+next_of_word shop w word i below s is = grind (arith, take_more, IsWord-take)
 
 -- the same of a job that was read
 pub placing-job : (shop : Shop) (w : List ℕ) (i n j : ℕ) → i < n → n ≡ length w → j ≡ get_or w i 0
@@ -105,16 +92,7 @@ read_is xs i x below read = read ∙ get_or_default_zero xs i x below
 pub reads : (shop : Shop) (j : ℕ) (s : PlacementState) → IsWithinLimits shop → IsAboutToPlace shop j s
     → (route : List Op) → route ≡ route_of shop j → (k r f : ℕ) → k ≡ get_or s.steps j k → r ≡ get_or s.ready j r
     → f ≡ get_or s.free (get_or route k no_op).machine f → AreReads shop j s k (get_or route k no_op) r f
-reads shop j s limits next route e k r f read_k read_r read_f =
-    let o : get_or route k no_op ≡ op_of shop j k = ap (λ (xs : List Op). get_or xs k no_op) e
-    in let m : (get_or route k no_op).machine < shop.machines = rw o (limits.on_machines j k)
-    in record {
-      step = read_is s.steps j k (let a = next.job in let b = next.places.steps in omega arith) read_k;
-      operation = o;
-      machine = m;
-      ready = read_is s.ready j r (let a = next.job in let b = next.places.ready in omega arith) read_r;
-      free = read_is s.free (get_or route k no_op).machine f (let b = next.places.free in omega arith) read_f;
-    }
+reads shop j s limits next route e k r f read_k read_r read_f = grind (arith, read_is)
 
 -- the step is one of the route, which is short
 pub step_read : (shop : Shop) (j : ℕ) (s : PlacementState) → IsWithinLimits shop → IsAboutToPlace shop j s
@@ -178,12 +156,7 @@ pub placed_by_reads : (shop : Shop) (j : ℕ) (s : PlacementState) → j < lengt
       ready = set s.ready j (begin + o.time);
       free = set s.free o.machine (begin + o.time);
     })
-placed_by_reads shop j s job k o r f reads begin e p is =
-    let m : o.machine ≡ machine_of shop j k = ap (λ (x : Op). x.machine) reads.operation
-    in let t : o.time ≡ time_of shop j k = ap (λ (x : Op). x.time) reads.operation
-    in let a = is.ready j job in let b = is.free o.machine reads.machine in let c = reads.ready in let d = reads.free
-    in placed_next shop p s is j job k o.machine (begin + o.time) (reads.step ∙ is.steps j job) m reads.machine
-    (omega arith)
+placed_by_reads shop j s job k o r f reads begin e p is = search rules
 
 -- when the next step of j begins
 pub start_by_reads : (shop : Shop) (j : ℕ) (s : PlacementState) → j < length shop.jobs → (k : ℕ) (o : Op) (r f : ℕ)
@@ -231,30 +204,4 @@ pub taken_back : (shop : Shop) (j : ℕ) (s : PlacementState) → HasStepPlaced 
       free = set s.free m free;
     })
 taken_back shop j s has k m ready free step on_machine known p is is_ready is_free =
-    let n = place_next-is shop p j
-    in let a = is.steps j has.job in let b = n.steps_here
-    in let last : k ≡ p.steps j = omega arith
-    in let here : m ≡ machine_of shop j (p.steps j) = on_machine ∙ ap (machine_of shop j) last
-    in record {
-      places = record {
-        steps = length-set s.steps j k ∙ is.places.steps;
-        ready = length-set s.ready j ready ∙ is.places.ready;
-        free = length-set s.free m free ∙ is.places.free;
-      };
-      steps = λ i h. elim (cases_eq i j) [
-        | inl e ↦ (let x = get_or-set_at s.steps j i k 0 e (let l = is.places.steps in omega arith)
-            in let y : p.steps i ≡ p.steps j = ap p.steps e in omega arith)
-        | inr ne ↦ get_or-set_other s.steps j i k 0 ne ∙ (is.steps i h ∙ n.steps_other i ne)
-      ];
-      ready = λ i h. elim (cases_eq i j) [
-        | inl e ↦ (let x = get_or-set_at s.ready j i ready 0 e (let l = is.places.ready in omega arith)
-            in let y : p.ready i ≡ p.ready j = ap p.ready e in omega arith)
-        | inr ne ↦ get_or-set_other s.ready j i ready 0 ne ∙ (is.ready i h ∙ n.ready_other i ne)
-      ];
-      free = λ i h. elim (cases_eq i m) [
-        | inl e ↦ (let x = get_or-set_at s.free m i free 0 e (let l = is.places.free in omega arith)
-            in let y : p.free i ≡ p.free (machine_of shop j (p.steps j)) = ap p.free (e ∙ here) in omega arith)
-        | inr ne ↦ get_or-set_other s.free m i free 0 ne
-            ∙ (is.free i h ∙ n.free_other i (λ e. ne (e ∙ sym here)))
-      ];
-    }
+    grind (arith, place_next-is, length-set, cases_eq, get_or-set_at, get_or-set_other)

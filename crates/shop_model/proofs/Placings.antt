@@ -1,8 +1,8 @@
 -- What holds of a placing, and of a table that completes it.
-use Rattle.std.proofs.Common.{◌≡◌, ℕ, zero, suc, ◌+◌, ◌≤◌, ◌<◌, max, ◌⊎◌, inl, inr, refl}
+use Rattle.std.proofs.Common.{◌≡◌, ℕ, ◌+◌, ◌≤◌, ◌<◌, max, ◌⊎◌, inl, inr, refl, rules}
 use Rattle.std.proofs.Common.{sym, ap, subst, arith, add-one, cond, ltb}
 use Rattle.std.proofs.lemmas.Bool.{cases_eq, cases_lt, le-ltb, lt-ltb}
-use Rattle.shop_model.specs.Shop.{Shop, Starts, machine_of, time_of, IsOperation, IsFeasible, finish_of, end_of}
+use Rattle.shop_model.specs.Shop.{Shop, Starts, machine_of, IsOperation, IsFeasible, finish_of, end_of}
 use Rattle.shop_model.proofs.Ends.{AreDifferent, le-end_of, end_of-le, feasible-in_time, feasible_from}
 use Rattle.shop_model.specs.Word.{Placing, place_next}
 use Rattle.shop_model.specs.Checking.{earliest_of, NoneEarly}
@@ -38,8 +38,7 @@ pub record IsSound (shop : Shop) (p : Placing) : Type 0 where
 -- two tables that agree below a step agree on when it may begin
 pub earliest_of-same : (shop : Shop) (s t : Starts) (i l : ℕ) → ((k : ℕ) → k < l → s i k ≡ t i k)
     → earliest_of shop s i l ≡ earliest_of shop t i l
-earliest_of-same shop s t i zero h = refl
-earliest_of-same shop s t i (suc l) h = ap (λ n. n + time_of shop i l) (h l (omega arith))
+earliest_of-same shop s t i x h = grind arith
 
 module _ (shop : Shop) (p : Placing) (j : ℕ) (q : Placing) (n : IsNext shop p j q) where
   -- what is placed now was placed before, or is the one
@@ -117,27 +116,7 @@ module _ (shop : Shop) (p : Placing) (j : ℕ) (q : Placing) (n : IsNext shop p 
       → ((i l : ℕ) → IsOperation shop i l → q.steps i ≤ l → machine_of shop i l ≡ machine_of shop j (p.steps j)
       → finish_of shop q.begins j (p.steps j) ≤ starts i l)
       → Follows shop q starts
-  follows_next starts feasible f op after =
-      let new = new_follows starts f op
-      in record {
-        begins = each_placed shop p j q n (λ i l. q.begins i l ≤ starts i l)
-            (λ i l h. rw (n.begins_old i l h) (f.begins i l h))
-            new;
-        ready = λ i. elim (cases_eq i j) [
-          | inl e ↦ subst (λ (x : ℕ). IsOperation shop x (q.steps x) → q.ready x ≤ starts x (q.steps x)) (sym e)
-              (rw n.steps_here (λ o. let a = feasible.in_order j (p.steps j) o in let b = n.ready_here in omega arith))
-          | inr ne ↦ rw (n.steps_other i ne, n.ready_other i ne) (f.ready i)
-        ];
-        free = λ i l o h. elim (cases_eq (machine_of shop i l) (machine_of shop j (p.steps j))) [
-          | inl e ↦ (let a = n.free_here (machine_of shop i l) e in let b = after i l o h e in omega arith)
-          | inr ne ↦ (let a = n.free_other (machine_of shop i l) ne
-              in let b = f.free i l o (let c = steps_grow shop p j q n i in omega arith) in omega arith)
-        ];
-        ends = λ m. elim (cases_eq m (machine_of shop j (p.steps j))) [
-          | inl e ↦ (let a = n.free_here m e in let b = le-end_of shop starts j (p.steps j) op in omega arith)
-          | inr ne ↦ rw (n.free_other m ne) (f.ends m)
-        ];
-      }
+  follows_next starts feasible f op after = grind (arith, new_follows, each_placed, cases_eq, steps_grow, le-end_of)
 
 -- the placed steps as they are placed, the others as in the table
 pub merged : Placing → Starts → Starts
@@ -170,16 +149,7 @@ module _ (shop : Shop) (p : Placing) (starts : Starts) (sound : IsSound shop p) 
       → AreDifferent j k i l
       → (finish_of shop (merged p starts) j k ≤ merged p starts i l)
       ⊎ (finish_of shop (merged p starts) i l ≤ merged p starts j k)
-  merged-apart j k i l o r e d = elim (cases_lt k (p.steps j)) [
-    | inl h ↦ elim (cases_lt l (p.steps i)) [
-      | inl g ↦ rw (merged-placed p starts j k h, merged-placed p starts i l g) (sound.apart j k h i l g e d)
-      | inr g ↦ inl (between j k i l h g r e)
-    ]
-    | inr h ↦ elim (cases_lt l (p.steps i)) [
-      | inl g ↦ inr (between i l j k g h o (sym e))
-      | inr g ↦ rw (merged-other p starts j k h, merged-other p starts i l g) (feasible.apart j k i l o r e d)
-    ]
-  ]
+  merged-apart j k i l o r e d = search (rules, cases_lt, merged-placed, between, merged-other)
 
   pub merged_feasible : IsFeasible shop (merged p starts)
   merged_feasible = feasible_from shop (merged p starts) merged-in_time merged-apart

@@ -7,7 +7,6 @@ use Rattle.shop_model.specs.Shop.{Shop, ShopJob, end_of, IsFeasible}
 use Rattle.shop_model.specs.Word.{placed, rows_of, start_jobs}
 use Rattle.shop_model.specs.Checking.{starts_of, IsVerdict}
 use Rattle.shop_model.proofs.Deciding.{shape_by_test, in_time_by_test, feasible_by_test, first_early_by_test}
-use Rattle.shop_model.proofs.Deciding.{first_overlap_by_test}
 
 abbrev pub op : ℕ → ℕ → Op
 op m p = record { machine = m; time = p }
@@ -77,7 +76,7 @@ two_jobs_that_cross : IsVerdict shop_a ((0 ∷ 3 ∷ []) ∷ (0 ∷ 3 ∷ []) �
 two_jobs_that_cross = (shape_by_test shop_a _ refl, feasible_by_test shop_a _ refl refl, refl)
 
 two_jobs_that_overlap : IsVerdict shop_a ((0 ∷ 3 ∷ []) ∷ (0 ∷ 2 ∷ []) ∷ []) (Overlap 0 (at 0 0) (at 1 1))
-two_jobs_that_overlap = grind (arith, shape_by_test, in_time_by_test, first_overlap_by_test)
+two_jobs_that_overlap = grind (arith, shape_by_test, in_time_by_test)
 
 a_start_too_few : IsVerdict shop_a ((0 ∷ 3 ∷ []) ∷ (0 ∷ []) ∷ []) WrongSize
 a_start_too_few shape = absurd (let e = shape.steps 1 in omega arith)
@@ -89,11 +88,11 @@ a_step_before_its_turn : IsVerdict shop_z ((0 ∷ 4 ∷ 5 ∷ []) ∷ (0 ∷ 0 �
 a_step_before_its_turn = grind (arith, shape_by_test, first_early_by_test)
 
 time_zero_strictly_inside : IsVerdict shop_g ((2 ∷ 7 ∷ 10 ∷ []) ∷ (0 ∷ 1 ∷ 5 ∷ []) ∷ []) (Overlap 2 (at 0 2) (at 1 2))
-time_zero_strictly_inside = grind (arith, shape_by_test, in_time_by_test, first_overlap_by_test)
+time_zero_strictly_inside = grind (arith, shape_by_test, in_time_by_test)
 
 the_first_and_the_last_of_three : IsVerdict shop_three ((0 ∷ []) ∷ (5 ∷ []) ∷ (1 ∷ []) ∷ [])
     (Overlap 0 (at 0 0) (at 2 0))
-the_first_and_the_last_of_three = grind (arith, shape_by_test, in_time_by_test, first_overlap_by_test)
+the_first_and_the_last_of_three = grind (arith, shape_by_test, in_time_by_test)
 
 before_its_release : IsVerdict shop_r ((0 ∷ 6 ∷ []) ∷ (3 ∷ 6 ∷ []) ∷ [] ∷ []) (Unreleased 1)
 before_its_release = (shape_by_test shop_r _ refl, first_early_by_test shop_r _ 1 0 (lit< tt) (lit< tt) refl)

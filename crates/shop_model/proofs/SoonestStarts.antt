@@ -1,6 +1,5 @@
 -- In the table of a word each operation begins as soon as it can.
-use Rattle.std.proofs.Common.{◌≡◌, ℕ, ◌≤◌, ◌<◌, max, inl, inr, List, [], ◌∷◌, ◌++◌, refl, sym, ap, subst}
-use Rattle.std.proofs.Common.{arith, cond, eqb}
+use Rattle.std.proofs.Common.{◌≡◌, ℕ, ◌≤◌, ◌<◌, max, inl, inr, List, [], ◌∷◌, ◌++◌, refl, ap, arith, cond, eqb}
 use Rattle.std.proofs.lemmas.Bool.{cases_eq}
 use Rattle.std.proofs.lemmas.List.Sums.{sum_by-append}
 use Rattle.shop_model.specs.Shop.{Shop, machine_of, finish_of}
@@ -83,18 +82,7 @@ module _ (shop : Shop) (w : List ℕ) (j : ℕ) (p q : Placing) (n : IsNext shop
       }
 
   tight_next : IsTight shop (w ++ j ∷ []) q
-  tight_next = record {
-    steps = counts;
-    ready = ready_next;
-    free = free_next;
-    free_first = free_first_next;
-    entries = λ v later i e. elim (cut_snoc w v later j i e) [
-      | inl h ↦ subst (λ (x : List ℕ). BeginsAsSoon shop q.begins x i (count_of i x)) (sym h.1)
-          (subst (λ (y : ℕ). BeginsAsSoon shop q.begins w y (count_of y w)) (sym h.2)
-          (subst (λ (k : ℕ). BeginsAsSoon shop q.begins w j k) (a.steps j) new_entry))
-      | inr h ↦ old_entry v h.0 i h.2
-    ];
-  }
+  tight_next = grind (arith, counts, ready_next, free_next, free_first_next, cut_snoc, new_entry, old_entry)
 
 tight_none : (shop : Shop) → IsTight shop [] (placing shop [])
 tight_none shop = record {

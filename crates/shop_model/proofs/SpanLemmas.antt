@@ -1,6 +1,6 @@
 -- Spans in turn are apart, and so are the operations that they stand for.
 use Rattle.std.proofs.Common.{◌≡◌, ℕ, zero, suc, ◌+◌, ◌≤◌, ◌<◌, inl, inr, List, [], ◌∷◌, ◌++◌, length, map, take}
-use Rattle.std.proofs.Common.{get_or, slice_index_or, sym, ◌∙◌, ap, subst, arith, All}
+use Rattle.std.proofs.Common.{get_or, slice_index_or, sym, ◌∙◌, ap, arith, All}
 use Rattle.std.specs.List.{range_with_len, flat_map, AllPairs, AllByRecursion, sum_by}
 use Rattle.std.proofs.lemmas.Bool.{cases_eq}
 use Rattle.std.proofs.lemmas.List.{take-take, take_all}
@@ -21,21 +21,10 @@ use Rattle.shop_model.proofs.Ends.{IsOperation-job}
 abbrev pub IsForward : Occupied → Type 0
 IsForward a = a.start ≤ a.finish
 
-in_turn_through : (a b c : Occupied) → IsForward b → IsInTurn a b → IsInTurn b c → IsInTurn a c
-in_turn_through a b c forward one two = grind arith
-
 in_turn_far : (xs : List Occupied) → AreInTurn xs → All IsForward xs → (k l : ℕ) (d : Occupied) → k < l → l < length xs
     → IsInTurn (get_or xs k d) (get_or xs l d)
 in_turn_far xs turns forward k zero d before below = absurd (omega arith)
-in_turn_far xs turns forward k (suc l) d before below =
-    let up : l + 1 ≡ suc l = omega arith
-    in let next : IsInTurn (get_or xs l d) (get_or xs (suc l) d)
-    = subst (λ (n : ℕ). IsInTurn (get_or xs l d) (get_or xs n d)) up (turns l d (omega arith))
-    in elim (cases_eq k l) [
-      | inl e ↦ subst (λ (n : ℕ). IsInTurn (get_or xs n d) (get_or xs (suc l) d)) (sym e) next
-      | inr ne ↦ in_turn_through (get_or xs k d) (get_or xs l d) (get_or xs (suc l) d) (forward l d (omega arith))
-          (in_turn_far xs turns forward k l d (omega arith) (omega arith)) next
-    ]
+in_turn_far xs turns forward k (suc l) d before below = grind (arith, cases_eq, in_turn_far xs turns forward k l d)
 
 pub in_turn_parted : (a b : Occupied) → IsInTurn a b → ArePartedSpans a b
 in_turn_parted a b turn same = elim turn [ inl h ↦ absurd (omega arith) | inr h ↦ inl h.1 ]
@@ -140,8 +129,4 @@ module _ (shop : Shop) (rows : List (List ℕ)) where
 
   -- no span ends before it begins
   pub spans_forward : All IsForward (spans_of shop rows)
-  spans_forward = All-from_recursion IsForward (spans_of shop rows) (forward_parts part (λ j. forward_part j) numbers)
-    where
-      forward_part : (j : ℕ) → AllByRecursion IsForward (part j)
-      forward_part j = forward_map (span_at (route_of shop j) (slice_index_or rows j [])) (λ k. omega arith)
-          (range_with_len 0 (length (route_of shop j)))
+  spans_forward = grind (arith, All-from_recursion, forward_parts, forward_map, range_with_len)

@@ -45,26 +45,20 @@ pub rows_next : (shop : Shop) (p next : Placing) (j : ℕ) (rows : List (Vec ℕ
     → start ≡ (place_next shop p j).begins j (p.steps j) → new.items ≡ row.items ++ start ∷ []
     → HasRows shop next (map (λ r. r.items) (set rows j new))
 rows_next shop p next j rows row new start e o job at begin pushed =
-    let q = place_next shop p j
-    in let n = place_next-is shop p j
-    in let lists = map (λ (r : Vec ℕ Global). r.items) rows
-    in let below : j < length rows =
-    (let a = o.rows_length in let b = length-map rows (λ (r : Vec ℕ Global). r.items) in omega arith)
-    in let old : slice_index_or lists j [] ≡ row.items = rows_at rows j row below
-    ∙ ap (λ (v : Vec ℕ Global). v.items) (sym at)
-    in let here : new.items ≡ map (q.begins j) (range_with_len 0 (q.steps j)) =
-    pushed ∙ (ap (λ xs. xs ++ start ∷ []) (sym old ∙ o.begins j job)
-    ∙ (ap (λ (x : ℕ). map (p.begins j) (range_with_len 0 (p.steps j)) ++ x ∷ []) begin
-    ∙ row_next p q j n.steps_here (n.begins_old j)))
-    in rw (e, map-set (λ (r : Vec ℕ Global). r.items) rows j new) record {
-      rows_length = rw length-set o.rows_length;
-      begins = λ i h. elim (cases_eq i j) [
-        | inl e ↦ rw e (get_or-set_same lists j new.items [] (rw o.rows_length job) ∙ here)
-        | inr ne ↦ get_or-set_other lists j i new.items [] ne ∙ (o.begins i h
-            ∙ rw (n.steps_other i ne) (map-range_with_len_same (p.begins i) (q.begins i) (p.steps i)
-            (λ l below. sym (n.begins_old i l below))))
-      ];
-    }
+    grind (
+      arith,
+      place_next-is,
+      length-map,
+      rows_at,
+      range_with_len,
+      row_next,
+      map-set,
+      length-set,
+      cases_eq,
+      get_or-set_same,
+      get_or-set_other,
+      map-range_with_len_same,
+    )
 
 -- no start is over its limit
 pub rows_starts : (shop : Shop) (w : List ℕ) (rows : List (List ℕ)) → IsWithinLimits shop → IsWord shop w

@@ -1,6 +1,5 @@
 -- A symmetric relation of all pairs of a list doesn't depend on the list's order.
-use Rattle.std.proofs.Common.{◌≡◌, ℕ, ◌<◌, ◌⊎◌, inl, inr, List, [], ◌∷◌, length, set, get_or, refl}
-use Rattle.std.proofs.Common.{sym, ◌∙◌, subst, arith}
+use Rattle.std.proofs.Common.{◌≡◌, ℕ, ◌<◌, ◌⊎◌, inl, inr, List, length, set, get_or, refl, sym, ◌∙◌, subst, arith}
 use Rattle.std.specs.List.{AllPairs, swap}
 use Rattle.std.specs.List.Sorted.{IsPermutation}
 use Rattle.std.proofs.lemmas.Bool.{cases_eq, cases_order}
@@ -11,8 +10,7 @@ module _ {X : Type 0} where
   -- what stands where after a swap
   swap-is : (xs : List X) (i j : ℕ) (d : X) → i < length xs → j < length xs
       → swap xs i j ≡ set (set xs i (get_or xs j d)) j (get_or xs i d)
-  swap-is [] i j d below other = absurd (omega arith)
-  swap-is (x ∷ xs) i j d below other = grind (arith, get_or_default)
+  swap-is y i j d below other = grind (arith, get_or_default)
 
   -- the place to which the element at n goes
   record GoesTo (xs : List X) (i j n m : ℕ) : Type 0 where

@@ -21,8 +21,7 @@ pub starts_next : (rows : List (Vec ℕ Global)) (n : ℕ) (row : Vec ℕ Global
     → row ≡ slice_index_or rows n row → StartsBelow (map (λ r. r.items) rows) n
     → All (λ s. s ≤ MAX_START) row.items
     → StartsBelow (map (λ r. r.items) rows) (n + 1)
-starts_next rows n row h is before within j k below =
-    grind (arith, cases_eq, slice_index_or, rows_at, cases_lt, get_or_past)
+starts_next rows n row h is before within j k below = grind (arith, cases_eq, rows_at, cases_lt, get_or_past)
 
 pub starts_at : (rows : List (Vec ℕ Global)) (n : ℕ) (row : Vec ℕ Global) → n < length rows
     → row ≡ slice_index_or rows n row → AreStarts (map (λ r. r.items) rows) → All (λ s. s ≤ MAX_START) row.items

@@ -34,10 +34,7 @@ cut_snoc [] [] later c j e = inl (cc, refl, cc)
 cut_snoc [] (x ∷ []) later c j e = absurd (cc)
 cut_snoc [] (x ∷ y ∷ v) later c j e = absurd (cc)
 cut_snoc (y ∷ w) [] later c j e = inr (w, cc, cc)
-cut_snoc (y ∷ w) (x ∷ v) later c j e =
-    let heads : x ≡ y = cc
-    in let tails : w ++ c ∷ [] ≡ v ++ j ∷ later = cc
-    in elim (cut_snoc w v later c j tails) [ inl h ↦ inl (h.0, cc, h.2) | inr h ↦ inr (h.0, h.1, cc) ]
+cut_snoc (y ∷ w) (x ∷ v) later c j e = grind (arith, cut_snoc w v later c j)
 
 -- the front of a word is one
 pub IsWord-init : (shop : Shop) (w : List ℕ) (j : ℕ) → IsWord shop (w ++ j ∷ []) → IsWord shop w

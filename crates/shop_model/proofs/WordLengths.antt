@@ -1,5 +1,5 @@
 -- How long a word of an instance may be, and how late what it places may end.
-use Rattle.std.proofs.Common.{◌≡◌, ℕ, zero, suc, ◌+◌, ◌*◌, ◌≤◌, ◌<◌, inl, inr, List, [], ◌∷◌, length, refl, sym, arith}
+use Rattle.std.proofs.Common.{◌≡◌, ℕ, zero, suc, ◌+◌, ◌*◌, ◌≤◌, ◌<◌, List, [], ◌∷◌, length, refl, sym, arith}
 use Rattle.std.specs.List.{AllByRecursion}
 use Rattle.std.proofs.lemmas.Bool.{cases_eq}
 use Rattle.std.proofs.lemmas.List.{length_push}
@@ -31,11 +31,7 @@ sum_below_same f g (suc n) h = grind (arith, sum_below_same f g n (λ i below. h
 sum_below_one_more : (f g : ℕ → ℕ) (x n : ℕ) → x < n → g x ≡ f x + 1 → ((i : ℕ) → (x ≡ i → ⊥) → g i ≡ f i)
     → sum_below n g ≡ sum_below n f + 1
 sum_below_one_more f g x zero h here other = absurd (omega arith)
-sum_below_one_more f g x (suc n) h here other = elim (cases_eq x n) [
-  | inl e ↦ (let a = sum_below_same f g n (λ i below. other i (λ same. absurd (omega arith)))
-      in let b : g n ≡ f n + 1 = rw (← e) here in omega arith)
-  | inr ne ↦ (let a = sum_below_one_more f g x n (omega arith) here other in let b = other n ne in omega arith)
-]
+sum_below_one_more f g x (suc n) h here other = grind (arith, cases_eq, sum_below_same, sum_below_one_more f g x n)
 
 -- a word's length is the sum of its counts
 length-counts : (w : List ℕ) (n : ℕ) → AllByRecursion (λ j. j < n) w → length w ≡ sum_below n (λ i. count_of i w)

@@ -1,29 +1,23 @@
 -- A row whose numbers are capped is judged as the row itself, and capping changes no number of an accepted row.
 use Rattle.std.proofs.lemmas.Grind.{common_steps}
-use Rattle.std.proofs.Common.{◌≡◌, ℕ, ◌*◌, ◌%◌, ◌<◌, ◌≤◌, Bool, true, false, cond, not, ◌&&◌, leb, ltb, eqb}
+use Rattle.std.proofs.Common.{◌≡◌, ℕ, ◌*◌, ◌%◌, ◌<◌, ◌≤◌, Bool, true, cond, not, ◌&&◌, leb, eqb}
 use Rattle.std.proofs.Common.{List, [], ◌∷◌, length, map, Option, Some, None, refl, arith}
 use Rattle.std.specs.List.{list_all}
-use Rattle.std.proofs.lemmas.Bool.{cases_lt, ltb-true, leb-true, le-ltb, le-leb, lt-leb, and_parts}
+use Rattle.std.proofs.lemmas.Bool.{cases_lt, ltb-true, leb-true, le-leb, lt-leb, and_parts}
 use Rattle.std.proofs.lemmas.List.{length-map}
 use Rattle.shop_text.specs.inner.LineReading.{capped, size_line_fault, times_row_fault, machines_row_fault}
 use Rattle.shop_text.specs.Grammar.{LineFault, WrongRow, WrongTime}
-use Rattle.shop_text.specs.Formats.{is_between, jobs_in, machines_in, size_fault, pairs_fault, pairs_of}
+use Rattle.shop_text.specs.Formats.{is_between, size_fault, pairs_fault, pairs_of}
 use Rattle.shop_text.specs.Formats.{orlib_fault, orlib_job, routes_fault, routes_job}
 
 pub capped_same : (n : ℕ) → n ≤ 18446744073709551615 → capped n ≡ n
 capped_same n h = omega arith
 
-capped_most : (n : ℕ) → 18446744073709551615 ≤ n → capped n ≡ 18446744073709551615
-capped_most n h = omega arith
-
 pub same_le : (n b : ℕ) → b < 18446744073709551615 → leb (capped n) b ≡ leb n b
-same_le n b h = grind (arith, common_steps, cases_lt, capped_same, capped_most, lt-leb)
-
-pub same_lt : (n b : ℕ) → b < 18446744073709551615 → ltb (capped n) b ≡ ltb n b
-same_lt n b h = grind (arith, common_steps, cases_lt, capped_same, capped_most, le-ltb)
+same_le n b h = grind (arith, common_steps, cases_lt, capped_same, lt-leb)
 
 pub same_from : (n : ℕ) → leb 1 (capped n) ≡ leb 1 n
-same_from n = grind (arith, common_steps, cases_lt, capped_same, capped_most, le-leb)
+same_from n = grind (arith, common_steps, cases_lt, capped_same, le-leb)
 
 same_between : (high n : ℕ) → high < 18446744073709551615 → is_between 1 high (capped n) ≡ is_between 1 high n
 same_between high n h = rw (same_from n, same_le n high h) refl
@@ -32,17 +26,14 @@ same_between high n h = rw (same_from n, same_le n high h) refl
 
 pub no_fault_then : (b : Bool) (name : LineFault) (rest : Option LineFault) → cond (not b) (Some name) rest ≡ None
     → (b ≡ true) × (rest ≡ None)
-no_fault_then true name rest e = (refl, e)
-no_fault_then false name rest e = absurd cc
+no_fault_then x name rest e = grind arith
 
 pub no_fault_if : (b : Bool) (name : LineFault) → cond b None (Some name) ≡ None → b ≡ true
-no_fault_if true name e = refl
-no_fault_if false name e = absurd cc
+no_fault_if x name e = grind arith
 
 pub no_fault_in : (b : Bool) (name : LineFault) (rest : Option LineFault) → cond b rest (Some name) ≡ None
     → (b ≡ true) × (rest ≡ None)
-no_fault_in true name rest e = (refl, e)
-no_fault_in false name rest e = absurd cc
+no_fault_in x name rest e = grind arith
 
 -- ---- pairs of machine and time
 
@@ -50,7 +41,7 @@ pairs_capped : (machines : ℕ) → machines ≤ 100 → (row : List ℕ)
     → pairs_fault machines (map capped row) ≡ pairs_fault machines row
 pairs_capped machines h [] = refl
 pairs_capped machines h (m ∷ []) = refl
-pairs_capped machines h (m ∷ p ∷ rest) = grind (arith, common_steps, same_lt, same_le, pairs_capped machines h rest)
+pairs_capped machines h (m ∷ p ∷ rest) = grind (arith, common_steps, same_le, pairs_capped machines h rest)
 
 pairs_same : (machines : ℕ) → machines ≤ 100 → (row : List ℕ) → pairs_fault machines row ≡ None
     → pairs_of (map capped row) ≡ pairs_of row
@@ -75,8 +66,7 @@ orlib_same machines h row e =
 
 pub routes_capped : (machines : ℕ) → machines ≤ 100 → (row : List ℕ)
     → routes_fault machines (map capped row) ≡ routes_fault machines row
-routes_capped machines h [] = refl
-routes_capped machines h (release ∷ pairs) = grind (arith, common_steps, length-map, same_le, pairs_capped)
+routes_capped machines h x = grind (arith, length-map, same_le, pairs_capped)
 
 pub routes_same : (machines : ℕ) → machines ≤ 100 → (row : List ℕ) → routes_fault machines row ≡ None
     → routes_job (map capped row) ≡ routes_job row
@@ -118,17 +108,8 @@ machines_same machines h row e = grind (arith, common_steps, no_fault_then, all_
 
 -- ---- size lines
 
-jobs_capped : (row : List ℕ) → jobs_in (map capped row) ≡ capped (jobs_in row)
-jobs_capped [] = refl
-jobs_capped (j ∷ row) = refl
-
-machines_in_capped : (row : List ℕ) → machines_in (map capped row) ≡ capped (machines_in row)
-machines_in_capped [] = refl
-machines_in_capped (j ∷ []) = refl
-machines_in_capped (j ∷ m ∷ row) = refl
-
 size_capped : (row : List ℕ) → size_fault (map capped row) ≡ size_fault row
-size_capped row = grind (arith, common_steps, jobs_capped, machines_in_capped, same_between)
+size_capped row = grind (arith, common_steps)
 
 pub size_line_capped : (most : ℕ) (row : List ℕ)
     → size_line_fault most (map capped row) ≡ size_line_fault most row

@@ -1,12 +1,11 @@
 -- The columns of a Gantt text.
 use Rattle.std.proofs.lemmas.Grind.{common_steps, div_ceil_times}
-use Rattle.std.proofs.Common.{◌≡◌, ℕ, zero, suc, ◌+◌, ◌*◌, ◌<◌, ◌≤◌, Bool, true, false, ◌&&◌, ◌||◌, cond, leb, ltb}
-use Rattle.std.proofs.Common.{List, [], ◌∷◌, ◌++◌, length, get_or, refl, sym, ap, ◌∙◌, arith, inl, inr, add-one}
+use Rattle.std.proofs.Common.{◌≡◌, ℕ, zero, suc, ◌+◌, ◌*◌, ◌<◌, ◌≤◌, Bool, ◌&&◌, ◌||◌, leb, ltb}
+use Rattle.std.proofs.Common.{List, [], ◌∷◌, ◌++◌, length, get_or, sym, ap, ◌∙◌, arith, add-one}
 use Rattle.std.specs.List.{range_with_len, list_any}
 use Rattle.std.specs.Int.{div_ceil}
 use Rattle.std.proofs.Math.Bool.{or-false}
-use Rattle.std.proofs.Math.Nat.{mul-le-mul_right}
-use Rattle.std.proofs.lemmas.Bool.{cases_lt, eq-eqb, ne_eqb, leb-true, le-leb, ltb-true, lt-ltb}
+use Rattle.std.proofs.lemmas.Bool.{cases_lt, eq-eqb, leb-true, le-leb, ltb-true, lt-ltb}
 use Rattle.std.proofs.lemmas.List.Folds.{list_any-append}
 use Rattle.shop_model.specs.declared.ops.Op.{Op}
 use Rattle.shop_model.specs.Shop.{Shop, Starts, no_op, route_of, machine_of, finish_of}
@@ -16,36 +15,25 @@ use Rattle.shop_text.specs.inner.Cells.{serves_below, ShowsWhere}
 
 -- ---- the columns of an interval
 
-product_below : (u x y : ℕ) → y * u < x * u → y < x
-product_below u x y h = elim (cases_lt y x) [ inl lt ↦ lt | inr le ↦ absurd (omega (arith, h, mul-le-mul_right u le)) ]
-
-ceil_le : (a u c : ℕ) → 0 < u → div_ceil a u ≤ c → a ≤ c * u
-ceil_le a u c some h = omega (arith, (div_ceil_times a u some).0, mul-le-mul_right u h)
-
 le_ceil : (a u c : ℕ) → 0 < u → a ≤ c * u → div_ceil a u ≤ c
-le_ceil a u c some h = grind (arith, common_steps, div_ceil_times, product_below)
+le_ceil a u c some h = grind (arith, common_steps, div_ceil_times)
 
 -- a column is not before an instant just where its own instant is not
 pub from_column : (a u c : ℕ) → 0 < u → leb (div_ceil a u) c ≡ leb a (c * u)
-from_column a u c some = grind (arith, common_steps, le-leb, ceil_le, leb-true, le_ceil)
+from_column a u c some = grind (arith, common_steps, le-leb, leb-true, le_ceil)
 
 pub to_column : (a u c : ℕ) → 0 < u → ltb c (div_ceil a u) ≡ ltb (c * u) a
-to_column a u c some = grind (arith, common_steps, lt-ltb, ltb-true, cases_lt, le_ceil, ceil_le)
+to_column a u c some = grind (arith, common_steps, lt-ltb, ltb-true, cases_lt, le_ceil)
 
 pub ceil_mono : (a b u : ℕ) → 0 < u → a ≤ b → div_ceil a u ≤ div_ceil b u
 ceil_mono a b u some h = le_ceil a u (div_ceil b u) some (omega (arith, (div_ceil_times b u some).0))
 
 -- ---- what is shown
 
-either_shown : (a b : Bool) (character x : ℕ) → cond b character (cond a character x) ≡ cond (a || b) character x
-either_shown true true character x = refl
-either_shown true false character x = refl
-either_shown false b character x = refl
-
 pub shown_both : (old new newer : List ℕ) (character : ℕ) (first second both : ℕ → Bool)
     → ShowsWhere old new character first → ShowsWhere new newer character second → length new ≡ length old
     → ((c : ℕ) → both c ≡ (first c || second c)) → ShowsWhere old newer character both
-shown_both old new newer character first second both f g same either c h = grind (arith, common_steps, either_shown)
+shown_both old new newer character first second both f g same either c h = grind (arith, common_steps)
 
 -- ---- one more step
 
@@ -67,12 +55,6 @@ shown_step : (shop : Shop) (starts : Starts) (machine unit c j k : ℕ) → 0 < 
     → is_served shop starts machine (c * unit) j k ≡ (leb (div_ceil (starts j k) unit) c
     && ltb c (div_ceil (finish_of shop starts j k) unit))
 shown_step shop starts machine unit c j k some same = grind (arith, common_steps, eq-eqb, from_column, to_column)
-
--- and one of another machine nowhere
-skipped_step : (shop : Shop) (starts : Starts) (machine instant j k : ℕ) → (machine_of shop j k ≡ machine → ⊥)
-    → (serves_below shop starts machine instant j k || is_served shop starts machine instant j k)
-    ≡ serves_below shop starts machine instant j k
-skipped_step shop starts machine instant j k other = grind (arith, common_steps, ne_eqb, or-false)
 
 -- a route and a row of starts are those of job j
 pub record AreOfJob (shop : Shop) (rows : List (List ℕ)) (j : ℕ) (route : List Op) (row : List ℕ) : Type 0 where
@@ -112,7 +94,4 @@ module _ (shop : Shop) (rows : List (List ℕ)) (j : ℕ) (route : List Op) (row
       → ShowsWhere old cells character (λ c. serves_below shop (starts_of rows) machine (c * unit) j k)
       → ((get_or route k no_op).machine ≡ machine → ⊥)
       → ShowsWhere old cells character (λ c. serves_below shop (starts_of rows) machine (c * unit) j (k + 1))
-  step_skipped old cells machine unit character k so_far other c h =
-      so_far c h ∙ ap (λ (b : Bool). cond b character (get_or old c 0))
-      (sym (step_more shop (starts_of rows) machine (c * unit) j k
-      ∙ skipped_step shop (starts_of rows) machine (c * unit) j k (λ e. other (machine_is k ∙ e))))
+  step_skipped old cells machine unit character k so_far other c h = grind (arith, step_more, machine_is)

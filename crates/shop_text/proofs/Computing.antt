@@ -1,5 +1,5 @@
 -- The line-by-line reading computes the fault of a text, and its parts where it has none.
-use Rattle.std.proofs.Common.{arith}
+use Rattle.std.proofs.Common.{arith, rules}
 use Rattle.std.proofs.Common.{◌≡◌, ℕ, leb, true, List, [], length, Option, Some, None, sym, ap, ◌∙◌, inl, inr}
 use Rattle.std.proofs.lemmas.Bool.{leb-true}
 use Rattle.shop_text.specs.Formats.{grammar_of}
@@ -38,19 +38,10 @@ has_fault p text e short h =
     let f : Grammar = grammar_of p
     in inr (record {
       short = leb-true (length text) 16777216 short;
-      in_lines = lines_fault f (is_grammar p) (length (lines_of text)) (lines_left f text) e
-          (some_reading f (is_grammar p) (length (lines_of text)) (lines_left f text) (all_left f text)) h;
+      in_lines = search (rules, lines_fault, is_grammar, some_reading, all_left);
     })
 
 pub is_read_as : (p : Format) (text : List ℕ) (shops : List NamedShop) → leb (length text) 16777216 ≡ true
     → fault_in (grammar_of p) text ≡ None → shops ≡ named_from (grammar_of p) 1 (reading_of (grammar_of p) text).0
     → IsText (grammar_of p) text shops
-is_read_as p text shops short h e =
-    let f : Grammar = grammar_of p
-    in record {
-      short = leb-true (length text) 16777216 short;
-      parts = (reading_of f text).0;
-      good = lines_good f (is_grammar p) (length (lines_of text)) (lines_left f text)
-          (some_reading f (is_grammar p) (length (lines_of text)) (lines_left f text) (all_left f text)) h;
-      shops_are = e;
-    }
+is_read_as p text shops short h e = search (rules, leb-true, lines_good, is_grammar, some_reading, all_left)

@@ -7,7 +7,6 @@ use Rattle.std.specs.Char.{is_ascii_digit}
 use Rattle.std.specs.List.{position_or_len}
 use Rattle.std.proofs.Math.Nat.{pow-le-pow_right}
 use Rattle.std.proofs.lemmas.Bool.{and_parts, lt-ltb, le-ltb}
-use Rattle.std.proofs.lemmas.Bool.Decides.{nat_tests}
 use Rattle.std.proofs.lemmas.List.Sums.{position_or_len_is}
 use Rattle.shop_text.specs.Lines.{is_number, value_of, is_separator}
 use Rattle.shop_text.specs.inner.LineReading.{number_in, AreLeadingDigits, IsNumberCut}
@@ -20,22 +19,13 @@ room_for_digit i value few below = grind (arith, common_steps, pow-le-pow_right)
 
 -- ---- where the digits end
 
-digit_is_none : (b : ℕ) → is_ascii_digit b ≡ true → is_separator b ≡ false
-digit_is_none b e = grind (arith, nat_tests)
-
 pub before_digits_end : (text : List ℕ) (n : ℕ) → is_number (take n text) ≡ true → n ≤ length text → (k : ℕ) → k < n
     → is_separator (get_or text k 0) ≡ false
 before_digits_end text zero e h k lt = absurd (omega arith)
 before_digits_end [] (suc n) e h k lt = absurd (omega arith)
-before_digits_end (b ∷ text) (suc n) e h zero lt = grind (arith, common_steps, digit_is_none, and_parts)
+before_digits_end (b ∷ text) (suc n) e h zero lt = grind (arith, common_steps, and_parts)
 before_digits_end (b ∷ text) (suc n) e h (suc k) lt =
-    grind (
-      arith,
-      common_steps,
-      and_parts,
-      before_digits_end text n (and_parts (is_ascii_digit b) (is_number (take n
-          text)) e).1 (omega arith) k (omega arith),
-    )
+    grind (arith, and_parts, before_digits_end text n (and_parts (is_ascii_digit b) (is_number (take n text)) e).1)
 
 -- the digits end the text
 pub no_end : (text : List ℕ) (n : ℕ) → is_number (take n text) ≡ true → n ≡ length text

@@ -1,7 +1,7 @@
 -- A draft after one more number line.
 use Rattle.std.proofs.lemmas.Grind.{common_steps}
 use Rattle.std.proofs.Common.{◌≡◌, ℕ, ◌+◌, ◌<◌, ◌≤◌, false, eqb, List, [], ◌∷◌, ◌++◌, length, map, take, drop, get_or}
-use Rattle.std.proofs.Common.{Option, None, Result, Ok, Err, Vec, refl, sym, ap, ◌∙◌, subst, arith, min}
+use Rattle.std.proofs.Common.{Option, None, Result, Vec, refl, sym, ap, ◌∙◌, arith, min}
 use Rattle.std.specs.Prelude.{IsErr, IsOk, ◌↔◌}
 use Rattle.std.specs.List.{zip}
 use Rattle.std.specs.declared.alloc.Global.{Global}
@@ -13,7 +13,7 @@ use Rattle.shop_model.specs.declared.ops.Job.{Job}
 use Rattle.shop_model.specs.Shop.{ShopJob}
 use Rattle.shop_model.specs.Given.{job_as_given}
 use Rattle.shop_model.specs.Limits.{IsJobWithin, AreJobsWithin}
-use Rattle.shop_text.specs.inner.LineReading.{capped, Fails, JudgesRow, times_row_fault, machines_row_fault}
+use Rattle.shop_text.specs.inner.LineReading.{capped, JudgesRow, times_row_fault, machines_row_fault}
 use Rattle.shop_text.specs.inner.DraftLimits.{IsDraftWithin}
 use Rattle.shop_text.specs.Grammar.{Row, LineFault}
 use Rattle.shop_text.specs.Formats.{grammar_of, jobs_in, machines_in, orlib_fault, orlib_job, routes_fault, routes_job}
@@ -28,8 +28,7 @@ use Rattle.shop_text.proofs.Capping.{machines_same}
 
 -- what refuses only what doesn't hold is there where it holds
 pub ok_since : {A E P : Type 0} (r : Result A E) → (IsErr r ↔ (P → ⊥)) → P → IsOk r
-ok_since (Ok x) h p = refl
-ok_since (Err e) h p = absurd (h.0 refl p)
+ok_since y h p = grind arith
 
 -- the last job is there
 pub all_there : (wanted machines : ℕ) (times : List (Vec ℕ Global)) (old jobs : List Job) (job : Job)
@@ -41,8 +40,7 @@ all_there wanted machines times old jobs job w some within e = grind (arith, com
 
 pub judged_on : {X : Type 0} (P Q : X → Type 0) (r : Result X ReadFault) (n : ℕ) (f g : Option LineFault) → f ≡ g
     → ((x : X) → f ≡ None → P x → Q x) → JudgesRow r n f P → JudgesRow r n g Q
-judged_on P Q (Ok x) n f g e go h = (sym e ∙ h.0, go x h.0 h.1)
-judged_on P Q (Err fault) n f g e go h = subst (λ o. Fails fault n o) e h
+judged_on y z u n f g e go h = grind arith
 
 -- one more job
 job_pushed : (jobs : List Job) (job : Job) (shop_jobs : List ShopJob) (next : ShopJob)
@@ -64,7 +62,7 @@ pub row_judged : (fault : FaultOf) (job_of : Row → ShopJob)
     → JudgesRow r n (fault (machines_in size) written)
     (λ job. map job_as_given (jobs ++ job ∷ []) ≡ map job_of (rows ++ written ∷ []))
 row_judged fault job_of cap same jobs machines n row r few h size rows written em ej er =
-    grind (arith, common_steps, judged_on, job_pushed, map-append)
+    grind (arith, common_steps, job_pushed, map-append)
 
 -- ---- the job of two rows of `taillard`
 
@@ -125,18 +123,7 @@ pub matrices_judged : (times : List (Vec ℕ Global)) (jobs : List Job) (machine
     → JudgesRow r n (taillard.refuses (size ∷ rows) written)
     (λ job. map job_as_given (jobs ++ job ∷ []) ≡ jobs_drafted Taillard ((size ∷ rows) ++ written ∷ []))
 matrices_judged times jobs machines n held row r few h size rows written em all_times room et ej at er =
-    let all = times_there (jobs_in size) times rows et all_times
-    in let judged : machines_row_fault machines row ≡ machines_row_fault machines written =
-    ap (machines_row_fault machines) er ∙ machines_capped machines few written
-    in let e : machines_row_fault machines row ≡ taillard.refuses (size ∷ rows) written =
-    judged ∙ ap (λ (m : ℕ). machines_row_fault m written) em ∙ sym (machines_refused size rows written all)
-    in judged_on (λ job. job_as_given job ≡ taillard_job (held, row))
-    (λ job. map job_as_given (jobs ++ job ∷ []) ≡ jobs_drafted Taillard ((size ∷ rows) ++ written ∷ [])) r n
-    (machines_row_fault machines row) (taillard.refuses (size ∷ rows) written) e
-    (λ job free is.
-    matrices_push (jobs_in size) jobs job rows held written all room ej
-    (at ∙ ap (λ (rs : List Row). get_or rs (length jobs) []) et)
-    (is ∙ ap (λ (r : Row). taillard_job (held, r)) (er ∙ machines_same machines few written (sym judged ∙ free)))) h
+    grind (arith, times_there, machines_capped, machines_refused, judged_on, matrices_push, machines_same)
 
 -- the times held, in the words of the grammar
 pub held_at : (times : List (Vec ℕ Global)) (k : ℕ) (row : Vec ℕ Global) → k < length times → row ≡ get_or times k row
@@ -194,10 +181,8 @@ rows_lens job_of jobs rows e = sym (length-map rows job_of) ∙ sym (ap length e
 
 pub skips_full : (draft : Draft) → 0 < length draft.times.items → length draft.jobs.items ≡ 0 → (rows : List Row)
     → IsDraft Taillard draft rows → eqb (length draft.times.items) draft.jobs_wanted ≡ taillard.skips rows
-skips_full draft some none [] d = grind (arith, common_steps)
-skips_full draft some none (size ∷ rows) d = grind (arith, common_steps, taillard_lens, ne_eqb)
+skips_full draft some none x d = grind (arith, common_steps, taillard_lens, ne_eqb)
 
 pub skips_not : (draft : Draft) → 0 < length draft.jobs.items → (rows : List Row) → IsDraft Taillard draft rows
     → false ≡ taillard.skips rows
-skips_not draft some [] d = grind (arith, common_steps)
-skips_not draft some (size ∷ rows) d = grind (arith, common_steps, taillard_lens, ne_eqb)
+skips_not draft some x d = grind (arith, common_steps, taillard_lens, ne_eqb)

@@ -1,15 +1,15 @@
 -- What comes of a number line: a size line, a row of times, or the row of a job.
 use Rattle.std.proofs.lemmas.Grind.{common_steps}
-use Rattle.std.proofs.Common.{◌≡◌, ℕ, ◌+◌, ◌*◌, ◌<◌, ◌≤◌, true, false, eqb, List, [], ◌∷◌, ◌++◌, length, map}
-use Rattle.std.proofs.Common.{take, drop, Option, Some, None, Result, Ok, Err, Vec, refl, ap, ◌∙◌, arith}
+use Rattle.std.proofs.Common.{◌≡◌, ℕ, ◌<◌, ◌≤◌, true, false, eqb, List, [], ◌∷◌, ◌++◌, length, map}
+use Rattle.std.proofs.Common.{take, drop, Option, Some, None, Result, Ok, Err, Vec, ◌∙◌, arith}
 use Rattle.std.specs.List.{zip}
 use Rattle.std.specs.declared.alloc.Global.{Global}
-use Rattle.std.proofs.lemmas.Bool.{cases_eq, ltb-true, ltb-false, eq-eqb, ne_eqb}
+use Rattle.std.proofs.lemmas.Bool.{ltb-true, ltb-false, eq-eqb, ne_eqb}
 use Rattle.std.proofs.lemmas.List.{map-append, length-append, take_all, drop_all, take-append-le}
 use Rattle.shop_model.specs.declared.ops.Job.{Job}
-use Rattle.shop_model.specs.Shop.{Shop, ShopJob}
+use Rattle.shop_model.specs.Shop.{Shop}
 use Rattle.shop_model.specs.Given.{job_as_given}
-use Rattle.shop_text.specs.Formats.{grammar_of, jobs_in, machines_in, taillard_job}
+use Rattle.shop_text.specs.Formats.{grammar_of, jobs_in, taillard_job}
 use Rattle.shop_text.specs.inner.Grammars.{fields_of}
 use Rattle.shop_text.specs.inner.LineReading.{capped, Fails, size_line_fault, times_row_fault}
 use Rattle.shop_text.specs.Grammar.{Row}
@@ -21,15 +21,14 @@ use Rattle.shop_text.specs.declared.formats.Format.{Format}
 use Rattle.shop_text.specs.declared.formats.Format.TheVariants.{Orlib, Taillard, Routes}
 use Rattle.shop_text.proofs.Capping.{size_line_capped, times_capped, times_same}
 use Rattle.shop_text.proofs.GrammarFields.{size_line_is}
-use Rattle.shop_text.proofs.DraftLemmas.{zip_none, times_refused, times_there, taillard_lens, rows_lens}
+use Rattle.shop_text.proofs.DraftLemmas.{zip_none, times_refused, times_there, taillard_lens}
 
 -- ---- a size line
 
 pub size_failed : (p : Format) (draft : Draft) (most n : ℕ) (row : Row) (e : ReadFault) → draft.jobs_wanted ≡ 0
     → most ≡ (fields_of p).most_in_size → Fails e n (size_line_fault most row) → (rows : List Row) (written : Row)
     → IsDraft p draft rows → row ≡ map capped written → Fails e n ((grammar_of p).refuses rows written)
-size_failed p draft most n row e none em h [] written d er = grind (arith, common_steps, size_line_capped, size_line_is)
-size_failed p draft most n row e none em h (size ∷ rows) written d er = grind (arith, common_steps)
+size_failed p draft most n row e none em h x written d er = grind (arith, size_line_capped, size_line_is)
 
 -- ---- a row of times
 
@@ -37,10 +36,7 @@ pub times_failed : (p : Format) (draft : Draft) (n : ℕ) (row : Row) (e : ReadF
     → wants_times p draft.jobs_wanted (length draft.times.items) ≡ true
     → Fails e n (times_row_fault draft.machines row) → (rows : List Row) (written : Row) → IsDraft p draft rows
     → row ≡ map capped written → Fails e n ((grammar_of p).refuses rows written)
-times_failed Orlib draft n row e some w h rows written d er = absurd cc
-times_failed Routes draft n row e some w h rows written d er = absurd cc
-times_failed Taillard draft n row e some w h [] written d er = absurd (omega arith)
-times_failed Taillard draft n row e some w h (size ∷ rows) written d er =
+times_failed x draft n row e some w h rows written d er =
     grind (arith, common_steps, ltb-true, taillard_lens, times_capped, times_refused)
 
 -- a row of times more
@@ -58,18 +54,7 @@ times_taken : (old new : Draft) (row : Row) (taken : Vec ℕ Global) (size : Row
     → taken.items ≡ row → HoldsRows Taillard old size rows → row ≡ map capped written
     → IsOneMore Taillard (size ∷ rows) written new
 times_taken old new row taken size rows written more few free is d er =
-    grind (
-      arith,
-      common_steps,
-      length-append,
-      times_capped,
-      times_same,
-      times_refused,
-      ne_eqb,
-      map-append,
-      take_all,
-      no_matrices,
-    )
+    grind (arith, length-append, times_capped, times_same, times_refused, ne_eqb, map-append, take_all, no_matrices)
 
 pub times_accepted : (p : Format) (old new : Draft) (row : Row) (taken : Vec ℕ Global) → 0 < old.jobs_wanted
     → wants_times p old.jobs_wanted (length old.times.items) ≡ true → times_row_fault old.machines row ≡ None
@@ -88,34 +73,18 @@ times_accepted Taillard old new row taken some w free is ew em ej et (size ∷ r
 
 -- ---- the row of a job
 
-same_count : (j k : ℕ) → eqb (j + k) (2 * j) ≡ eqb k j
-same_count j k = grind (arith, common_steps, cases_eq, eq-eqb, ne_eqb)
-
 -- whether the part is whole
 whole_after : (p : Format) (draft : Draft) (job : Job) (size : Row) (rows : List Row) (written : Row)
     → HoldsRows p draft size rows → wants_times p draft.jobs_wanted (length draft.times.items) ≡ false
     → map job_as_given (draft.jobs.items ++ job ∷ []) ≡ jobs_drafted p ((size ∷ rows) ++ written ∷ [])
     → (grammar_of p).is_whole ((size ∷ rows) ++ written ∷ [])
     ≡ eqb (length (draft.jobs.items ++ job ∷ [])) draft.jobs_wanted
-whole_after Orlib draft job size rows written d w e = grind (arith, common_steps, rows_lens)
-whole_after Routes draft job size rows written d w e = grind (arith, common_steps, rows_lens)
-whole_after Taillard draft job size rows written d w e =
-    grind (arith, common_steps, ltb-false, taillard_lens, length-append, same_count)
+whole_after x draft job size rows written d w e = grind (arith, common_steps, ltb-false, taillard_lens, length-append)
 
 times_kept : (p : Format) (old new : Draft) (size : Row) (rows : List Row) (written : Row) → HoldsRows p old size rows
     → wants_times p old.jobs_wanted (length old.times.items) ≡ false → new.times ≡ old.times
     → HoldsTimes p new size (rows ++ written ∷ [])
-times_kept Orlib old new size rows written d w e = tt
-times_kept Routes old new size rows written d w e = tt
-times_kept Taillard old new size rows written d w e =
-    grind (arith, common_steps, ltb-false, times_there, take-append-le)
-
-shop_whole : (p : Format) (machines : ℕ) (jobs : List ShopJob) (size : Row) (rows : List Row)
-    → machines ≡ machines_in size → jobs ≡ jobs_drafted p (size ∷ rows)
-    → record { machines = machines; jobs = jobs } ≡ (grammar_of p).shop (size ∷ rows)
-shop_whole Orlib machines jobs size rows em ej = rw (em, ej) refl
-shop_whole Routes machines jobs size rows em ej = rw (em, ej) refl
-shop_whole Taillard machines jobs size rows em ej = rw (em, ej) refl
+times_kept x old new size rows written d w e = grind (arith, ltb-false, times_there, take-append-le)
 
 -- what the job of a row is
 abbrev pub IsJobOf : Format → Draft → Job → Row → Type 0
@@ -136,13 +105,7 @@ job_taken p old new job n row (Ok None) some w push is (size ∷ rows) written d
       accepted = told.0;
       room = whole_after p old job size rows written d w told.1
           ∙ ne_eqb (length (old.jobs.items ++ job ∷ [])) old.jobs_wanted (λ e. omega arith);
-      draft_holds = record {
-        some_job = (let e = push.wanted in omega arith);
-        wanted = push.wanted ∙ d.wanted;
-        machines = push.machines ∙ d.machines;
-        times = times_kept p old new size rows written d w push.times;
-        jobs = ap (map job_as_given) push.jobs ∙ told.1;
-      };
+      draft_holds = grind (arith, times_kept);
     }
 job_taken p old new job n row (Ok (Some shop)) some w push is (size ∷ rows) written d er =
     let told = is (size ∷ rows) written d er
@@ -150,8 +113,7 @@ job_taken p old new job n row (Ok (Some shop)) some w push is (size ∷ rows) wr
       accepted = told.0;
       whole = whole_after p old job size rows written d w told.1
           ∙ eq-eqb (length (old.jobs.items ++ job ∷ [])) old.jobs_wanted push.full;
-      shop_is = push.shop_is ∙ shop_whole p old.machines (map job_as_given (old.jobs.items ++ job ∷ [])) size
-          (rows ++ written ∷ []) d.machines told.1;
+      shop_is = grind arith;
       draft_holds = push.fresh;
     }
 job_taken p old new job n row (Err e) some w push is (size ∷ rows) written d er = grind arith

@@ -1,5 +1,5 @@
 -- A faulty text is answered by its one fault.
-use Rattle.std.proofs.Common.{◌≡◌, ℕ, ◌⊎◌, inl, inr, List, Result, Ok, Err, Vec, ap}
+use Rattle.std.proofs.Common.{◌≡◌, ℕ, ◌⊎◌, List, Result, Ok, Err, Vec, arith}
 use Rattle.std.specs.declared.alloc.Global.{Global}
 use Rattle.shop_model.specs.Shop.{Shop}
 use Rattle.shop_text.specs.Grammar.{Grammar}
@@ -19,8 +19,7 @@ IsAnswer A e found =
 
 told : (A : Type 0) (IsBad : List ℕ → ReadFault → Type 0) (text : List ℕ) (e found : ReadFault)
     → (IsBad text e → e ≡ found) → OrNoMemory IsBad text e → IsAnswer A e found
-told A IsBad text e found one (inl none) = inr (ap (λ (x : ReadFault). Err x) none.0)
-told A IsBad text e found one (inr bad) = inl (ap (λ (x : ReadFault). Err x) (one bad))
+told x y text e found one z = grind arith
 
 pub answered : (g : Grammar) → OneReading g → FaultIsAnswered g
 answered g one text found (Ok v) is read = absurd (one.not_both text (shops_of v.items) found read.0 is)

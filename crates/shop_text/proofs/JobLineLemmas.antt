@@ -1,13 +1,12 @@
 -- The lines of jobs in a schedule text: labels, and what is read so far.
 use Rattle.std.proofs.lemmas.Grind.{common_steps}
 use Rattle.std.proofs.Common.{◌≡◌, ℕ, ◌+◌, ◌-◌, ◌<◌, ◌≤◌, Bool, true, false, not, ◌&&◌, cond, eqb, List, [], ◌∷◌, ◌++◌}
-use Rattle.std.proofs.Common.{length, get_or, take, Option, Some, None, refl, sym, ap, ◌∙◌, arith, Vec, Global}
+use Rattle.std.proofs.Common.{length, get_or, take, Option, Some, None, sym, arith, Vec, Global}
 use Rattle.std.specs.Prelude.{codes}
 use Rattle.std.specs.List.{enumerate_from}
 use Rattle.std.specs.Str.{bytes_eq}
 use Rattle.std.proofs.lemmas.Bool.{cases_eq, eq-eqb, eqb-true, ltb-true}
-use Rattle.std.proofs.lemmas.List.{take_more, take_all, get_or_at, length-take-le, map-append, length-map}
-use Rattle.std.proofs.lemmas.List.{append_assoc, length_push}
+use Rattle.std.proofs.lemmas.List.{get_or_at, length-take-le, map-append, length-map, append_assoc, length_push}
 use Rattle.std.proofs.lemmas.List.FromFn.{length-enumerate_from}
 use Rattle.std.proofs.lemmas.Slice.Eq.{bytes_eq-Decides}
 use Rattle.shop_model.specs.Shop.{Shop}
@@ -15,43 +14,33 @@ use Rattle.shop_text.specs.Lines.{lines_of, tokens_of, is_empty, is_number, valu
 use Rattle.shop_text.specs.inner.LineReading.{capped}
 use Rattle.shop_text.specs.Schedules.{Tokens, is_label, row_in, AreJobLines, IsBadAt}
 use Rattle.shop_text.proofs.Passing.{one_behind}
-use Rattle.shop_text.specs.inner.ScheduleReading.{counted_after, IsReadSoFar, rows_held}
+use Rattle.shop_text.specs.inner.ScheduleReading.{IsReadSoFar, rows_held}
 
 -- ---- labels
 
-whole_token : (token : List ℕ) (i : ℕ) → length token ≡ i + 1 → token ≡ take i token ++ get_or token i 0 ∷ []
-whole_token token i e = sym (take_all (i + 1) token (omega arith)) ∙ take_more token i 0 (omega arith)
-
 colon_last : (token : List ℕ) (i : ℕ) → length token ≡ i + 1 → get_or token i 0 ≡ 58
     → bytes_eq token (take i token ++ codes ":") ≡ true
-colon_last token i e at = grind (arith, common_steps, whole_token, bytes_eq-Decides)
+colon_last token i e at = grind (arith, common_steps, bytes_eq-Decides)
 
 no_colon : (token : List ℕ) (i : ℕ) → length token ≡ i + 1 → (get_or token i 0 ≡ 58 → ⊥) → (b : Bool)
     → bytes_eq token (take i token ++ codes ":") ≡ b → b ≡ false
-no_colon token i e ne false same = refl
-no_colon token i e ne true same = grind (arith, common_steps, bytes_eq-Decides, get_or_at, length-take-le)
+no_colon token i e ne x same = grind (arith, bytes_eq-Decides, get_or_at, length-take-le)
 
 not_first : (a b c d : Bool) → a ≡ false → (a && b && c && d) ≡ false
-not_first false b c d e = refl
-not_first true b c d e = absurd cc
+not_first x b c d e = grind arith
 
 only_last : (a b c d : Bool) → a ≡ true → b ≡ true → c ≡ true → (a && b && c && d) ≡ d
-only_last true true true d e f g = refl
-only_last false b c d e f g = absurd cc
-only_last true false c d e f g = absurd cc
-only_last true true false d e f g = absurd cc
+only_last x b c d e f g = grind arith
 
 pub no_label : (j : ℕ) (token : List ℕ) → 2 ≤ length token → (get_or token (length token - 1) 0 ≡ 58 → ⊥)
     → false ≡ is_label j token
 no_label j token long ne = grind (arith, not_first, no_colon)
 
 some_bytes : (bytes : List ℕ) → 0 < length bytes → not (is_empty bytes) ≡ true
-some_bytes [] h = absurd (omega arith)
-some_bytes (b ∷ bytes) h = refl
+some_bytes x h = grind arith
 
 from_number : (b : Bool) (m n : ℕ) → Some n ≡ cond b (Some m) None → (b ≡ true) × (n ≡ m)
-from_number true m n e = (refl, cc)
-from_number false m n e = absurd cc
+from_number x m n e = grind arith
 
 -- a number that isn't capped
 capped_is : (v j : ℕ) → j ≤ 1000 → eqb (capped v) j ≡ eqb v j
@@ -64,12 +53,6 @@ label_is j token n small long at number =
     grind (arith, common_steps, from_number, capped_is, only_last, colon_last, some_bytes, length-take-le)
 
 -- ---- what is read so far
-
--- the next line counts
-pub counted_here : (passed : ℕ) (rest line after : List ℕ) (behind : Tokens) → lines_of rest ≡ line ∷ lines_of after
-    → tokens_of line ≡ codes "job" ∷ behind
-    → counted_after passed rest ≡ (passed + 1, codes "job" ∷ behind) ∷ counted_after (passed + 1) after
-counted_here passed rest line after behind cut is = grind (arith, common_steps)
 
 pub enumerate_push : {X : Type 0} (k : ℕ) (xs : List X) (x : X)
     → enumerate_from k (xs ++ x ∷ []) ≡ enumerate_from k xs ++ (k + length xs, x) ∷ []
@@ -89,27 +72,24 @@ pub good_more : (shop : Shop) (lines : List (ℕ × Tokens)) (rows : List (List 
 good_more shop lines rows line row good is = grind (arith, common_steps, enumerate_push, map-append, as_many)
 
 pub chosen : {X : Type 0} (b : Bool) (x : Option X) (y : X) → cond b x None ≡ Some y → (b ≡ true) × (x ≡ Some y)
-chosen true x y e = (refl, e)
-chosen false x y e = absurd cc
+chosen z x y e = grind arith
 
 pub is_job_of : (shop : Shop) (j : ℕ) (tokens : Tokens) (row : List ℕ) → row_in shop j tokens ≡ Some row
     → j < length shop.jobs
-is_job_of shop j tokens row e = grind (arith, common_steps, ltb-true, chosen)
+is_job_of shop j tokens row e = grind (arith, common_steps, ltb-true)
 
 -- a counted line that is none of the job that waits
 pub bad_line : (shop : Shop) (text : List ℕ) (passed : ℕ) (rest line after : List ℕ) (behind : Tokens)
     (rows : List (List ℕ)) → IsReadSoFar shop text passed rest rows
     → lines_of rest ≡ line ∷ lines_of after → tokens_of line ≡ codes "job" ∷ behind
     → None ≡ row_in shop (length rows) (codes "job" ∷ behind) → IsBadAt shop text (passed + 1)
-bad_line shop text passed rest line after behind rows so_far cut is none =
-    grind (arith, common_steps, counted_here, as_many)
+bad_line shop text passed rest line after behind rows so_far cut is none = grind (arith, as_many)
 
 -- a line is missed at the end
 pub missed_line : (shop : Shop) (text : List ℕ) (passed : ℕ) (rest : List ℕ) (rows : List (List ℕ))
     → IsReadSoFar shop text passed rest rows
     → length rest ≡ 0 → length rows < length shop.jobs → IsBadAt shop text (passed + 1)
-missed_line shop text passed [] rows so_far none few = grind (arith, common_steps, as_many)
-missed_line shop text passed (b ∷ rest) rows so_far none few = absurd (omega arith)
+missed_line shop text passed x rows so_far none few = grind (arith, common_steps, as_many)
 
 -- a line of the job that waits
 pub one_more : (shop : Shop) (text : List ℕ) (passed : ℕ) (rest line after : List ℕ) (behind : Tokens)
@@ -119,11 +99,9 @@ pub one_more : (shop : Shop) (text : List ℕ) (passed : ℕ) (rest line after :
     → IsReadSoFar shop text (passed + 1) after (rows ++ row ∷ [])
 one_more shop text passed rest line after behind rows row so_far cut shorter is row_is = record {
   before = so_far.before ++ (passed + 1, codes "job" ∷ behind) ∷ [];
-  cut = so_far.cut ∙ ap (λ later. so_far.before ++ later) (counted_here passed rest line after behind cut is)
-      ∙ sym (append_assoc so_far.before ((passed + 1, codes "job" ∷ behind) ∷ []) (counted_after (passed + 1) after));
+  cut = grind (arith, append_assoc);
   good = good_more shop so_far.before rows (passed + 1, codes "job" ∷ behind) row so_far.good (sym row_is);
-  jobs = (let few =
-      is_job_of shop (length rows) (codes "job" ∷ behind) row (sym row_is) in omega (arith, length_push rows row));
+  jobs = grind (arith, is_job_of, length_push);
   behind = one_behind text passed rest line after so_far.behind cut shorter;
 }
 

@@ -1,8 +1,7 @@
 -- Cutting a text into lines, and a line into tokens, at the first byte of a kind.
 use Rattle.std.proofs.lemmas.Grind.{common_steps}
-use Rattle.std.proofs.Common.{◌≡◌, ℕ, zero, suc, ◌+◌, ◌-◌, ◌<◌, ◌≤◌, Bool, true, false, not, List, [], ◌∷◌}
-use Rattle.std.proofs.Common.{length, get_or, take, drop, Option, Some, None, refl, sym, ap, ◌∙◌, arith, add-one}
-use Rattle.std.proofs.Common.{true≢false, subst}
+use Rattle.std.proofs.Common.{true≢false, add-one, length, get_or, Option, false, arith, subst, zero, Bool, true, List}
+use Rattle.std.proofs.Common.{take, drop, Some, None, refl, ◌≡◌, suc, ◌+◌, ◌-◌, ◌<◌, ◌≤◌, not, ◌∷◌, sym, ◌∙◌, [], ap, ℕ}
 use Rattle.std.specs.Prelude.{position, filter}
 use Rattle.std.specs.List.{slice_split, onto_first}
 use Rattle.std.proofs.lemmas.Bool.{cases_lt, lt-ltb, not-false, not-true}
@@ -34,8 +33,7 @@ split_none p (x ∷ xs) none =
 
 pub ended_more : (piece : List ℕ) (pieces : List (List ℕ)) → 0 < length pieces
     → ended (piece ∷ pieces) ≡ piece ∷ ended pieces
-ended_more piece [] some = absurd (omega arith)
-ended_more piece (next ∷ pieces) some = refl
+ended_more piece x some = grind arith
 
 -- the first line ends at the first LF
 pub lines_at : (text : List ℕ) (i : ℕ) → position is_line_feed text ≡ Some i
@@ -62,15 +60,11 @@ tokens_skip (x ∷ xs) (suc i) h all =
 token_at : (xs : List ℕ) (i : ℕ) → 0 < i → i < length xs → is_separator (get_or xs i 0) ≡ true
     → ((k : ℕ) → k < i → is_separator (get_or xs k 0) ≡ false)
     → tokens_of xs ≡ take i xs ∷ tokens_of (drop (suc i) xs)
-token_at [] i some lt here before = absurd (omega arith)
-token_at xs zero some lt here before = absurd (omega arith)
-token_at (x ∷ xs) (suc i) some lt here before =
-    ap (filter (λ piece. not (is_empty piece))) (split_here is_separator (x ∷ xs) (suc i) lt here before)
+token_at xs i some lt here before = grind (arith, split_here)
 
 token_alone : (xs : List ℕ) → 0 < length xs → ((k : ℕ) → k < length xs → is_separator (get_or xs k 0) ≡ false)
     → tokens_of xs ≡ xs ∷ []
-token_alone [] some none = absurd (omega arith)
-token_alone (x ∷ xs) some none = ap (filter (λ piece. not (is_empty piece))) (split_none is_separator (x ∷ xs) none)
+token_alone y some none = grind (arith, split_none)
 
 abbrev is_in_token : ℕ → Bool
 is_in_token b = not (is_separator b)
@@ -129,5 +123,4 @@ tokens_to_end line start e f =
     ∙ drop_all (length rest) rest (omega arith)))
 
 pub none_left : (o : Option ℕ) → ((n : ℕ) → o ≡ Some n → ⊥) → o ≡ None
-none_left None h = refl
-none_left (Some n) h = absurd (h n refl)
+none_left x h = grind arith

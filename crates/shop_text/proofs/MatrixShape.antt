@@ -1,6 +1,6 @@
 -- The parts of `taillard` are those in plain words.
 use Rattle.std.proofs.lemmas.Grind.{common_steps}
-use Rattle.std.proofs.Common.{◌≡◌, ℕ, zero, suc, ◌+◌, ◌-◌, ◌*◌, ◌≤◌, ◌<◌, inl, inr, Bool, true, leb, List, []}
+use Rattle.std.proofs.Common.{◌≡◌, ℕ, zero, suc, ◌+◌, ◌-◌, ◌*◌, ◌≤◌, ◌<◌, inr, Bool, true, leb, List, [], rules}
 use Rattle.std.proofs.Common.{◌∷◌, ◌++◌, length, Option, None, refl, sym, ap, subst, cond, arith}
 use Rattle.std.specs.List.{list_all, AllByRecursion}
 use Rattle.std.proofs.lemmas.Bool.{and_parts, and_from, or_right, or_from, leb-true, le-leb, lt-ltb, le-ltb}
@@ -38,8 +38,7 @@ row_fault b size row = cond b (times_fault row) (machines_fault (machines_in siz
 
 times_row_from : (size : Row) (done : List Row) (row : Row) → length done < jobs_in size
     → taillard_refuses (size ∷ done) row ≡ None → TimesRow size row
-times_row_from size done row few e =
-    grind (arith, common_steps, no_fault_then, lt-ltb, eqb-true, each_from, leb-true, no_fault_if)
+times_row_from size done row few e = grind (arith, no_fault_then, lt-ltb, eqb-true, each_from, leb-true, no_fault_if)
 
 times_row_to : (size : Row) (done : List Row) (row : Row) → length done < jobs_in size
     → TimesRow size row → taillard_refuses (size ∷ done) row ≡ None
@@ -59,28 +58,17 @@ machines_row_to size done row many h = grind (arith, common_steps, eq-eqb, le-lt
 -- text lines aren't skipped inside a matrix
 no_text : (size : Row) (done : List Row) (lines : List Numbered) → 0 < length done
     → (length done ≡ jobs_in size → ⊥) → AreSkipped taillard (size ∷ done) lines → lines ≡ []
-no_text size done lines some other (are, inl none) = none
-no_text size done lines some other (are, inr skips) = grind (arith, common_steps, or_from, ne_eqb)
+no_text size done lines some other x = grind (arith, or_from, ne_eqb)
 
 machines_on_from : (size : Row) (done : List Row) (rows : List Entry) → jobs_in size < length done
     → AreAccepted taillard (size ∷ done) rows → AllByRecursion (IsRowLine (MachinesRow size)) rows
 machines_on_from size done [] many a = tt
 machines_on_from size done (e ∷ rows) many a =
-    grind (
-      arith,
-      common_steps,
-      no_text,
-      machines_row_from,
-      length-append,
-      machines_on_from size (done ++ e.row ∷ [])
-          rows (omega (arith, length-append done (e.row ∷ []))) a.1,
-    )
+    grind (arith, no_text, machines_row_from, length-append, machines_on_from size (done ++ e.row ∷ []) rows)
 
 machines_from : (size : Row) (done : List Row) (rows : List Entry) → length done ≡ jobs_in size
     → AreAccepted taillard (size ∷ done) rows → IsMatrix (MachinesRow size) rows
-machines_from size done [] full a = tt
-machines_from size done (e ∷ rows) full a =
-    grind (arith, common_steps, machines_row_from, machines_on_from, length-append)
+machines_from size done x full a = grind (arith, machines_row_from, machines_on_from, length-append)
 
 record IsCut (size : Row) (more : ℕ) (rows : List Entry) : Type 0 where
   times : List Entry
@@ -94,15 +82,7 @@ record IsCut (size : Row) (more : ℕ) (rows : List Entry) : Type 0 where
 times_on_from : (size : Row) (more : ℕ) (done : List Row) (rows : List Entry) → 0 < length done
     → length done + more ≡ jobs_in size → length rows ≡ more + jobs_in size
     → AreAccepted taillard (size ∷ done) rows → IsCut size more rows
-times_on_from size zero done rows some left len a = record {
-  times = [];
-  machines = rows;
-  cut = refl;
-  times_count = refl;
-  machines_count = omega (arith, len);
-  are_times = tt;
-  are_machines = machines_from size done rows (omega (arith, left)) a;
-}
+times_on_from size zero done rows some left len a = grind (arith, machines_from)
 times_on_from size (suc more) done [] some left len a = absurd (omega (arith, len))
 times_on_from size (suc more) done (e ∷ rows) some left len a =
     let on = times_on_from size more (done ++ e.row ∷ []) rows (omega (arith, length-append done (e.row ∷ [])))
@@ -113,13 +93,7 @@ times_on_from size (suc more) done (e ∷ rows) some left len a =
       cut = ap (λ (r : List Entry). e ∷ r) on.cut;
       times_count = omega (arith, on.times_count);
       machines_count = on.machines_count;
-      are_times = (
-        record {
-          no_text = no_text size done e.before some (λ is. omega (arith, left)) a.0.text;
-          is_row = times_row_from size done e.row (omega (arith, left)) a.0.row;
-        },
-        on.are_times,
-      );
+      are_times = grind (arith, no_text, times_row_from);
       are_machines = on.are_machines;
     }
 
@@ -128,21 +102,12 @@ machines_on_to : (size : Row) (done : List Row) (rows : List Entry) → jobs_in 
     → AreAccepted taillard (size ∷ done) rows
 machines_on_to size done [] many len h = tt
 machines_on_to size done (e ∷ rows) many len h =
-    grind (
-      arith,
-      common_steps,
-      ne_eqb,
-      machines_row_to,
-      length-append,
-      machines_on_to size (done ++ e.row ∷ []) rows
-          (omega (arith, length-append done (e.row ∷ []))) (omega (arith, len, length-append done (e.row ∷ []))) h.1,
-    )
+    grind (arith, ne_eqb, machines_row_to, length-append, machines_on_to size (done ++ e.row ∷ []) rows)
 
 machines_to : (size : Row) (done : List Row) (rows : List Entry) → length done ≡ jobs_in size
     → length rows ≡ jobs_in size → IsMatrix (MachinesRow size) rows → AreAccepted taillard (size ∷ done) rows
-machines_to size done [] full len h = tt
-machines_to size done (e ∷ rows) full len h =
-    grind (arith, common_steps, ne_eqb, or_right, eq-eqb, machines_row_to, machines_on_to, length-append)
+machines_to size done x full len h =
+    grind (arith, ne_eqb, or_right, eq-eqb, machines_row_to, machines_on_to, length-append)
 
 times_on_to : (size : Row) (done : List Row) (times machines : List Entry) → 0 < length done
     → length done + length times ≡ jobs_in size → length machines ≡ jobs_in size
@@ -150,21 +115,7 @@ times_on_to : (size : Row) (done : List Row) (times machines : List Entry) → 0
     → AreAccepted taillard (size ∷ done) (times ++ machines)
 times_on_to size done [] machines some left len h g = grind (arith, common_steps, machines_to)
 times_on_to size done (e ∷ times) machines some left len h g =
-    grind (
-      arith,
-      common_steps,
-      ne_eqb,
-      times_row_to,
-      length-append,
-      times_on_to size (done ++ e.row ∷ []) times
-          machines (omega (arith, length-append done (e.row ∷ []))) (omega (
-            arith,
-            left,
-            length-append done (e.row ∷
-                []),
-          ))
-          len h.1 g,
-    )
+    grind (arith, ne_eqb, times_row_to, length-append, times_on_to size (done ++ e.row ∷ []) times machines)
 
 -- ---- parts
 
@@ -190,11 +141,7 @@ plain_from (first ∷ top ∷ rows) h =
       size = size;
       times_count = omega (arith, size.some_job, on.times_count);
       machines_count = on.machines_count;
-      are_times = (
-        h.0.1.0.text.0,
-        times_row_from first.row [] top.row (omega (arith, size.some_job)) h.0.1.0.row,
-        on.are_times,
-      );
+      are_times = search (rules, times_row_from);
       are_machines = on.are_machines;
     }
 

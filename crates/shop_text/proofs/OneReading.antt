@@ -1,13 +1,13 @@
 -- A text has one reading at most: lines that are good are good for one list of parts and have no fault, and a fault is
 -- the only one.
 use Rattle.std.proofs.lemmas.Grind.{common_steps}
-use Rattle.std.proofs.Common.{◌≡◌, ℕ, ◌+◌, ◌<◌, inl, inr, Bool, true, false, List, [], ◌∷◌, ◌++◌, length}
+use Rattle.std.proofs.Common.{◌≡◌, ℕ, ◌+◌, ◌<◌, inl, inr, Bool, true, false, List, [], ◌∷◌, ◌++◌, length, rules}
 use Rattle.std.proofs.Common.{Option, Some, None, refl, sym, ap, ◌∙◌, append_assoc, arith}
 use Rattle.std.specs.Prelude.{IsTrue}
 use Rattle.std.specs.List.{AllByRecursion}
 use Rattle.std.proofs.lemmas.List.{append-nil, map-append}
 use Rattle.std.proofs.lemmas.List.Concat.{flat_map-cons}
-use Rattle.shop_text.specs.Lines.{Line, Blank, Numbers, Words, Numbered, lines_of}
+use Rattle.shop_text.specs.Lines.{Line, Blank, Numbers, Words, Numbered}
 use Rattle.shop_text.specs.Texts.{NamedShop, lines_left, named_from, IsText, IsTextFault, OneReading}
 use Rattle.shop_text.specs.Grammar.{Row, Grammar, LineFault, WrongRow, fault_at, Entry, Part, entry_rows}
 use Rattle.shop_text.specs.Grammar.{lines_of_entry, lines_of_part, lines_of_parts, AreText, AreSkipped, IsAccepted}
@@ -63,20 +63,13 @@ read_text : (f : Grammar) (begun : List Entry) (text more lines : List Numbered)
     → IsTrue (f.skips (entry_rows begun)) → read f begun text (more ++ lines) ≡ read f begun (text ++ more) lines
 read_text f begun text [] lines are skips = grind (arith, common_steps, append-nil)
 read_text f begun text ((n, Words words) ∷ more) lines are skips =
-    grind (
-      arith,
-      common_steps,
-      append_assoc,
-      read_text f begun (text ++ (n, Words words) ∷ []) more lines are.1
-          skips,
-    )
+    grind (arith, append_assoc, read_text f begun (text ++ (n, Words words) ∷ []) more lines are.1 skips)
 read_text f begun text ((n, Numbers row) ∷ more) lines are skips = absurd are.0
 read_text f begun text ((n, Blank) ∷ more) lines are skips = absurd are.0
 
 read_skipped : (f : Grammar) (begun : List Entry) (more lines : List Numbered) → AreSkipped f (entry_rows begun) more
     → read f begun [] (more ++ lines) ≡ read f begun more lines
-read_skipped f begun more lines (are, inl none) = rw none refl
-read_skipped f begun more lines (are, inr skips) = read_text f begun [] more lines are skips
+read_skipped f begun more lines x = grind (arith, read_text)
 
 read_entry : (f : Grammar) (begun : List Entry) (e : Entry) (lines : List Numbered) → IsAccepted f (entry_rows begun) e
     → read f begun [] (lines_of_entry e ++ lines)
@@ -101,13 +94,12 @@ read_entries f begun e [] lines a = grind (arith, common_steps, flat_map-cons, a
 read_entries f begun e (next ∷ entries) lines a =
     grind (
       arith,
-      common_steps,
       rows_more,
       flat_map-cons,
       append_assoc,
       read_entry,
-      read_entries f (begun ++ e ∷ [])
-          next entries lines,
+      read_entries f (begun ++ e ∷ []) next entries
+          lines,
     )
 
 -- what each grammar is
@@ -152,17 +144,13 @@ read_begun f is lines later begun b =
     opened : (follow : List Numbered) (es : List Entry) → AreAccepted f [] es → f.is_whole (entry_rows es) ≡ false
         → read f [] [] (lines_of_part es ++ follow) ≡ read f es [] follow
     opened follow [] a room = refl
-    opened follow (e ∷ es) a room =
-        read_entries f [] e es follow a
-        ∙ ap (λ (w : Bool). on_row None (last_line e es) w (e ∷ es) (λ o. read f o [] follow)) room
+    opened follow (e ∷ es) a room = grind (arith, read_entries)
 
 -- a line that is refused ends the reading
 read_line : (f : Grammar) (begun : List Entry) (text : List Numbered) (n : ℕ) (line : Line) (later : List Numbered)
     (name : LineFault) → refusal f (entry_rows begun) line ≡ Some name
     → read f begun text ((n, line) ∷ later) ≡ ([], Refused (fault_at n name))
-read_line f begun text n Blank later name e = absurd cc
-read_line f begun text n (Words words) later name e = grind (arith, common_steps)
-read_line f begun text n (Numbers row) later name e = grind (arith, common_steps)
+read_line f begun text n x later name e = grind arith
 
 pub read_refused : (f : Grammar) → IsGrammar f → (lines : List Numbered) (fault : ReadFault) → IsRefused f lines fault
     → (read f [] [] lines).1 ≡ Refused fault
@@ -180,8 +168,7 @@ read_truncated f is last lines fault t =
     ∙ inside t.begun t.inside
   where
     inside : (es : List Entry) → 0 < length es → at_end es ≡ Inside
-    inside [] h = absurd (omega arith)
-    inside (e ∷ es) h = refl
+    inside x h = grind arith
 
 pub read_nothing : (f : Grammar) → IsGrammar f → (lines : List Numbered) → AreText lines
     → read f [] [] lines ≡ ([], Outside)
@@ -207,14 +194,11 @@ at_inside last r fault e told = grind (arith, common_steps)
 pub fault_read : (f : Grammar) → IsGrammar f → (last : ℕ) (lines : List Numbered) (fault : ReadFault)
     → IsFault f last lines fault → fault_of last (read f [] [] lines) ≡ Some fault
 fault_read f is last lines fault (inl none) = grind (arith, read_nothing)
-fault_read f is last lines fault (inr (inl t)) =
-    at_inside last (read f [] [] lines) fault (read_truncated f is last lines fault t) t.told
-fault_read f is last lines fault (inr (inr r)) =
-    at_refused last (read f [] [] lines) fault (read_refused f is lines fault r)
+fault_read f is last lines fault (inr (inl t)) = search (rules, at_inside, read_truncated)
+fault_read f is last lines fault (inr (inr r)) = search (rules, at_refused, read_refused)
 
 pub no_fault : (last : ℕ) (parts : List Part) → 0 < length parts → fault_of last (parts, Outside) ≡ None
-no_fault last [] h = absurd (omega arith)
-no_fault last (part ∷ parts) h = refl
+no_fault last x h = grind arith
 
 -- what is good has no fault
 pub good_has_no_fault : (f : Grammar) → IsGrammar f → (last : ℕ) (lines : List Numbered) (parts : List Part)
@@ -238,16 +222,14 @@ one_fault f is last lines fault other a b =
 not_both : (f : Grammar) → IsGrammar f → (text : List ℕ) (shops : List NamedShop) (fault : ReadFault)
     → IsText f text shops → IsTextFault f text fault → ⊥
 not_both f is text shops fault a (inl b) = let s = a.short in let l = b.long in omega arith
-not_both f is text shops fault a (inr b) =
-    good_has_no_fault f is (length (lines_of text)) (lines_left f text) a.parts fault a.good b.in_lines
+not_both f is text shops fault a (inr b) = search (rules, good_has_no_fault)
 
 one_text_fault : (f : Grammar) → IsGrammar f → (text : List ℕ) (fault other : ReadFault) → IsTextFault f text fault
     → IsTextFault f text other → fault ≡ other
 one_text_fault f is text fault other (inl a) (inl b) = a.told ∙ sym b.told
 one_text_fault f is text fault other (inl a) (inr b) = absurd (let s = b.short in let l = a.long in omega arith)
 one_text_fault f is text fault other (inr a) (inl b) = absurd (let s = a.short in let l = b.long in omega arith)
-one_text_fault f is text fault other (inr a) (inr b) =
-    one_fault f is (length (lines_of text)) (lines_left f text) fault other a.in_lines b.in_lines
+one_text_fault f is text fault other (inr a) (inr b) = search (rules, one_fault)
 
 pub one_text : (f : Grammar) → IsGrammar f → OneReading f
 one_text f is = record {

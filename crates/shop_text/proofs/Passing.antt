@@ -1,7 +1,7 @@
 -- One more line of a text: what is left behind it, and what a reader makes of it.
 use Rattle.std.proofs.lemmas.Grind.{common_steps}
 use Rattle.std.proofs.Common.{◌≡◌, ℕ, ◌+◌, ◌<◌, ◌≤◌, ◌⊎◌, inl, inr, List, [], ◌∷◌, ◌++◌, length, map, filter, Result}
-use Rattle.std.proofs.Common.{Ok, Err, Vec, refl, ap, ◌∙◌, subst, append_assoc, arith}
+use Rattle.std.proofs.Common.{Err, Vec, ap, ◌∙◌, subst, append_assoc, arith}
 use Rattle.std.specs.List.{list_any, enumerate_from}
 use Rattle.std.specs.declared.alloc.Global.{Global}
 use Rattle.std.proofs.lemmas.List.{append-nil}
@@ -63,8 +63,7 @@ line_refused text n rest bytes after p reader e w short cut (inr refused) =
     in inr (inr (record { short = short; in_lines = inr (inr placed) }))
 
 nothing_after : (n : ℕ) (rest : List ℕ) → length rest ≡ 0 → (lines_after n rest ≡ []) × (length (lines_of rest) ≡ 0)
-nothing_after n [] e = (refl, refl)
-nothing_after n (b ∷ rest) e = absurd (omega arith)
+nothing_after n x e = grind (arith, common_steps)
 
 -- the end of the text
 pub end_read : (text : List ℕ) (n : ℕ) (rest : List ℕ) (p : Format) (reader : Reader)
@@ -81,7 +80,4 @@ end_read text n rest p reader r w short none ends =
   where
     told : (r : Result (Vec Named Global) ReadFault) → Ends (grammar_of p) n w.front r
         → lines_left (grammar_of p) text ≡ w.front → n ≡ length (lines_of text) → IsRead (grammar_of p) text r
-    told (Ok named) h lines last =
-        (record { short = short; parts = h.parts; good = rw lines h.good; shops_are = h.named_are }, h.some)
-    told (Err e) h lines last =
-        inr (inr (record { short = short; in_lines = rw (lines, ← last) h }))
+    told x h lines last = grind arith

@@ -7,7 +7,7 @@ use Rattle.std.specs.List.{AllByRecursion}
 use Rattle.std.proofs.lemmas.List.{append-nil, map-append}
 use Rattle.std.proofs.lemmas.List.Concat.{flat_map-cons}
 use Rattle.shop_text.specs.Lines.{Numbers, Words, Numbered}
-use Rattle.shop_text.specs.Grammar.{Row, Grammar, Entry, Part, entry_rows, lines_of_entry, lines_of_part}
+use Rattle.shop_text.specs.Grammar.{Row, Grammar, Entry, Part, entry_rows, lines_of_part}
 use Rattle.shop_text.specs.Grammar.{lines_of_parts, AreText, IsAccepted, AreAccepted, IsPart, IsBegun}
 use Rattle.shop_text.proofs.OneReading.{IsGrammar, entry, with_row}
 
@@ -18,17 +18,12 @@ text_more (l ∷ t) n words h = (h.0, text_more t n words h.1)
 pub accepted_more : (f : Grammar) (rows : List Row) (es : List Entry) (e : Entry) → AreAccepted f rows es
     → IsAccepted f (rows ++ entry_rows es) e → AreAccepted f rows (es ++ e ∷ [])
 accepted_more f rows [] e a h = grind (arith, common_steps, append-nil)
-accepted_more f rows (x ∷ es) e a h =
-    grind (arith, common_steps, append_assoc, accepted_more f (rows ++ x.row ∷ []) es e a.1)
+accepted_more f rows (x ∷ es) e a h = grind (arith, append_assoc, accepted_more f (rows ++ x.row ∷ []) es e a.1)
 
 pub parts_more : (f : Grammar) (parts : List Part) (p : Part) → AllByRecursion (IsPart f) parts → IsPart f p
     → AllByRecursion (IsPart f) (parts ++ p ∷ [])
 parts_more f [] p h g = (g, tt)
 parts_more f (q ∷ parts) p h g = (h.0, parts_more f parts p h.1 g)
-
-pub entry_last : (begun : List Entry) (e : Entry)
-    → lines_of_part (begun ++ e ∷ []) ≡ lines_of_part begun ++ lines_of_entry e
-entry_last begun e = grind (arith, common_steps, flat_map-append, flat_map-cons, append-nil)
 
 pub part_last : (parts : List Part) (p : Part)
     → lines_of_parts (parts ++ p ∷ []) ≡ lines_of_parts parts ++ lines_of_part p
@@ -43,7 +38,7 @@ pub entry_cut : (parts : List Part) (begun : List Entry) (after : List Numbered)
     (front : List Numbered)
     → front ≡ lines_of_parts parts ++ lines_of_part begun ++ after
     → front ++ (n, Numbers row) ∷ [] ≡ lines_of_parts parts ++ lines_of_part (with_row begun after n row)
-entry_cut parts begun after n row front cut = grind (arith, common_steps, append_assoc, entry_last, entry)
+entry_cut parts begun after n row front cut = grind (arith, common_steps, append_assoc, entry)
 
 -- one more row is accepted
 pub one_more : (f : Grammar) (front : List Numbered) (begun : List Entry) (s : IsBegun f front begun) (n : ℕ)

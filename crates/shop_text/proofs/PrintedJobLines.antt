@@ -1,6 +1,6 @@
 -- The job lines of a report, read as those of a schedule text.
 use Rattle.std.proofs.lemmas.Grind.{common_steps}
-use Rattle.std.proofs.Common.{◌≡◌, ℕ, suc, ◌+◌, ◌^◌, ◌<◌, ◌≤◌, Bool, true, false, ◌&&◌, cond, leb, List}
+use Rattle.std.proofs.Common.{◌≡◌, ℕ, suc, ◌+◌, ◌^◌, ◌<◌, ◌≤◌, true, false, cond, leb, List, rules}
 use Rattle.std.proofs.Common.{[], ◌∷◌, ◌++◌, length, get_or, map, Option, Some, refl, ap, ◌∙◌, arith}
 use Rattle.std.specs.Prelude.{filter, codes}
 use Rattle.std.specs.List.{enumerate_from, list_all, join_with_byte}
@@ -44,27 +44,9 @@ values_read (s ∷ row) small =
 
 -- ---- the label of a job
 
-pub four : (a b c d : Bool) → a ≡ true → b ≡ true → c ≡ true → d ≡ true → (a && b && c && d) ≡ true
-four true true true true e f g h = refl
-four false b c d e f g h = absurd cc
-four true false c d e f g h = absurd cc
-four true true false d e f g h = absurd cc
-four true true true false e f g h = absurd cc
-
 pub label_read : (j : ℕ) → j < 2 ^ 64 → is_label j (decimal j ++ codes ":") ≡ true
 label_read j fits =
-    grind (
-      arith,
-      common_steps,
-      take_at,
-      length-append,
-      four,
-      bytes_eq-Decides,
-      decimal_some,
-      decimal_is_number,
-      eq-eqb,
-      decimal_value,
-    )
+    grind (arith, take_at, length-append, bytes_eq-Decides, decimal_some, decimal_is_number, eq-eqb, decimal_value)
 
 pub row_read : (shop : Shop) (j : ℕ) (row : List ℕ) → j < length shop.jobs → j < 2 ^ 64
     → length row ≡ length (route_of shop j) → AreSmallStarts row → row_in shop j (job_line j row) ≡ Some row
@@ -88,15 +70,7 @@ starts_are_tokens (s ∷ row) small = (
 pub line_is_tokens : (j : ℕ) (row : List ℕ) → AreSmallStarts row
     → tokens_of (join_with_byte 32 (job_line j row)) ≡ job_line j row
 line_is_tokens j row small =
-    tokens_of_joined (job_line j row) (
-      refl,
-      refl,
-      (
-        free_append is_separator (decimal j) (codes ":") (decimal_free is_separator no_separator j) refl,
-        behind_some (decimal j) 58 [],
-        starts_are_tokens row small,
-      ),
-    )
+    search (rules, tokens_of_joined, free_append, decimal_free, no_separator, behind_some, starts_are_tokens)
 
 pub starts_free : (row : List ℕ) → AllFree is_line_feed (map decimal row)
 starts_free [] = tt

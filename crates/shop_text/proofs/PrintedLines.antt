@@ -48,8 +48,7 @@ AreLines (line ∷ lines) = IsFree is_line_feed (join_with_byte 32 line) × AreL
 pub lines_of_front : (lines : List Tokens) (rest : List ℕ) → AreLines lines
     → lines_of (text_of lines ++ rest) ≡ map (join_with_byte 32) lines ++ lines_of rest
 lines_of_front [] rest are = refl
-lines_of_front (line ∷ lines) rest are =
-    grind (arith, common_steps, append_assoc, line_cut, lines_of_front lines rest are.1)
+lines_of_front (line ∷ lines) rest are = grind (arith, append_assoc, line_cut, lines_of_front lines rest are.1)
 
 pub lines_of_text : (lines : List Tokens) → AreLines lines → lines_of (text_of lines) ≡ map (join_with_byte 32) lines
 lines_of_text lines are = ap lines_of (sym (append-nil (text_of lines))) ∙ lines_of_front lines [] are
@@ -69,7 +68,7 @@ pub joined_free : (p : ℕ → Bool) → p 32 ≡ false → (tokens : Tokens) �
 joined_free p space [] free = refl
 joined_free p space (token ∷ []) free = free.0
 joined_free p space (token ∷ next ∷ tokens) free =
-    grind (arith, common_steps, free_append, joined_free p space (next ∷ tokens) free.1)
+    grind (arith, common_steps, joined_free p space (next ∷ tokens) free.1)
 
 -- ---- tokens
 
@@ -93,8 +92,7 @@ first_token token rest free some = grind (arith, common_steps, cut_at, kept)
 pub tokens_of_joined : (tokens : Tokens) → AreTokens tokens → tokens_of (join_with_byte 32 tokens) ≡ tokens
 tokens_of_joined [] are = refl
 tokens_of_joined (token ∷ []) are = grind (arith, common_steps, cut_none, kept)
-tokens_of_joined (token ∷ next ∷ tokens) are =
-    grind (arith, common_steps, first_token, tokens_of_joined (next ∷ tokens) are.2)
+tokens_of_joined (token ∷ next ∷ tokens) are = grind (arith, first_token, tokens_of_joined (next ∷ tokens) are.2)
 
 -- ---- numbers
 
@@ -114,8 +112,7 @@ free_more : (p : ℕ → Bool) → PassesNoDigit p → (d : ℕ) (acc : List ℕ
 free_more p none d acc free = ap (λ (b : Bool). b || list_any p acc) (none _ (glyph d)) ∙ free
 
 free_either : (p : ℕ → Bool) (b : Bool) (xs ys : List ℕ) → IsFree p xs → IsFree p ys → IsFree p (cond b xs ys)
-free_either p true xs ys f g = f
-free_either p false xs ys f g = g
+free_either p x xs ys f g = grind arith
 
 digits_free : (p : ℕ → Bool) → PassesNoDigit p → (k n : ℕ) (acc : List ℕ) → IsFree p acc
     → IsFree p (digits_onto k 10 false n acc)
@@ -138,8 +135,7 @@ pub no_separator : PassesNoDigit is_separator
 no_separator b h = grind (arith, common_steps, not_equal)
 
 some_bytes : (bytes : List ℕ) → 0 < length bytes → is_empty bytes ≡ false
-some_bytes [] h = absurd (omega arith)
-some_bytes (b ∷ bytes) h = refl
+some_bytes x h = grind arith
 
 pub decimal_some : (n : ℕ) → n < 2 ^ 64 → is_empty (decimal n) ≡ false
 decimal_some n h = some_bytes (decimal n) (decimal_nonempty n h)

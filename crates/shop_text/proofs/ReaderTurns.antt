@@ -1,6 +1,6 @@
 -- What a reader has read after one more line.
 use Rattle.std.proofs.lemmas.Grind.{common_steps, flat_map-append}
-use Rattle.std.proofs.Common.{◌≡◌, ℕ, suc, ◌+◌, ◌<◌, ◌⊎◌, inl, inr, true, List, [], ◌∷◌, ◌++◌, length, Option, Some}
+use Rattle.std.proofs.Common.{◌≡◌, ℕ, suc, ◌+◌, ◌<◌, ◌⊎◌, true, List, [], ◌∷◌, ◌++◌, length, Option, Some}
 use Rattle.std.proofs.Common.{None, String, string_bytes, refl, sym, ap, ◌∙◌, subst, append_assoc, arith}
 use Rattle.std.specs.Fmt.{decimal}
 use Rattle.std.specs.declared.alloc.Global.{Global}
@@ -14,7 +14,7 @@ use Rattle.shop_text.specs.Grammar.{Row, Grammar, LineFault, fault_at, Entry, Pa
 use Rattle.shop_text.specs.Grammar.{IsBegun, IsRefused, IsWithoutInstance, AreText}
 use Rattle.shop_text.specs.Texts.{NamedShop, headers_of, last_or, name_of, named_from, OneReading}
 use Rattle.shop_text.specs.Names.{shops_of, shop_of_named}
-use Rattle.shop_text.specs.inner.LineReading.{Fails, located}
+use Rattle.shop_text.specs.inner.LineReading.{Fails}
 use Rattle.shop_text.specs.inner.Drafts.{IsDraft, IsOneMore, IsLastOne}
 use Rattle.shop_text.specs.inner.InstanceReading.{texts_of, name_or, IsLast, IsReadUpTo, AreRead}
 use Rattle.shop_text.specs.declared.instance_drafts.Draft.{Draft}
@@ -22,16 +22,13 @@ use Rattle.shop_text.specs.declared.faults.ReadFault.{ReadFault}
 use Rattle.shop_text.specs.declared.faults.ReadFault.TheVariants.{NoMemory, NoInstance}
 use Rattle.shop_text.specs.declared.names.Named.{Named}
 use Rattle.shop_text.specs.declared.formats.Format.{Format}
-use Rattle.shop_text.specs.declared.formats.Format.TheVariants.{Orlib, Taillard, Routes}
 use Rattle.shop_text.specs.declared.instance_readers.Reader.{Reader}
 use Rattle.shop_text.proofs.OneReading.{IsGrammar, with_row, entry, one_text}
 use Rattle.shop_text.proofs.Places.{words_on, row_on, part_on, rows_more}
 use Rattle.shop_text.proofs.SomeReading.{nothing_yet, refused_here}
 
 pub is_grammar : (p : Format) → IsGrammar (grammar_of p)
-is_grammar Orlib = record { none_whole = refl; skips_first = refl }
-is_grammar Taillard = record { none_whole = refl; skips_first = refl }
-is_grammar Routes = record { none_whole = refl; skips_first = refl }
+is_grammar x = grind arith
 
 pub one_reading : (p : Format) → OneReading (grammar_of p)
 one_reading p = one_text (grammar_of p) (is_grammar p)
@@ -92,8 +89,7 @@ words_read reader name n words front r skips last = record {
   place = words_on (grammar_of reader.format) front r.begun r.place n words skips;
   draft_holds = r.draft_holds;
   named_are = r.named_are;
-  name_is = subst (λ ls. IsLast name (headers_of (grammar_of reader.format) ls))
-      (append_assoc (texts_of r.begun) r.place.after ((n, Words words) ∷ [])) last;
+  name_is = grind (arith, append_assoc);
 }
 
 -- that gives no name
@@ -131,8 +127,7 @@ row_read reader draft n row front r more =
       place = row_on f front r.begun r.place n row more.accepted (ap f.is_whole rows ∙ more.room);
       draft_holds = subst (λ rs. IsDraft reader.format draft rs) (sym rows) more.draft_holds;
       named_are = r.named_are;
-      name_is = subst (λ ls. IsLast reader.name (headers_of f ls))
-          (sym (texts_more r.begun r.place.after n row) ∙ sym (append-nil (texts_of begun))) r.name_is;
+      name_is = grind (arith, texts_more, append-nil);
     }
 
 -- the last one of a part
@@ -162,28 +157,17 @@ part_read reader later instance name n row front r last named pushed none =
     in let named_is : this ≡ record { name = string_bytes name; shop = instance } = rw (name_is, shop_is) refl
     in record {
       begun = [];
-      place = part_on f (is_grammar reader.format) front r.begun r.place n row last.accepted
-          (ap f.is_whole rows ∙ last.whole);
+      place = grind (arith, part_on, is_grammar);
       draft_holds = last.draft_holds;
-      named_are = ap shops_of pushed
-          ∙ map-append shop_of_named reader.named.items (record { name = name; instance = instance } ∷ [])
-          ∙ ap (λ (ns : List NamedShop). ns ++ record { name = string_bytes name; shop = instance } ∷ []) r.named_are
-          ∙ sym (named_push f 1 r.place.parts part
-          ∙ ap (λ (n : NamedShop). named_from f 1 r.place.parts ++ n ∷ []) named_is);
+      named_are = grind (arith, map-append, string_bytes, named_push);
       name_is = λ otherwise. rw none refl;
     }
 
 -- ---- a line that is refused
 
-failed : (e : ReadFault) (n : ℕ) (o : Option LineFault) → located n o ≡ Some e
-    → (name : LineFault) × (o ≡ Some name) × (e ≡ fault_at n name)
-failed e n None h = absurd cc
-failed e n (Some name) h = (name, refl, cc)
-
 pub fails_by : (e : ReadFault) (n : ℕ) (o : Option LineFault) → Fails e n o
     → (e ≡ NoMemory) ⊎ ((name : LineFault) × (o ≡ Some name) × (e ≡ fault_at n name))
-fails_by e n o (inl none) = inl none
-fails_by e n o (inr h) = inr (failed e n o h)
+fails_by e n o x = grind arith
 
 pub row_refused : (reader : Reader) (n : ℕ) (row : Row) (front : List Numbered) (r : IsReadUpTo reader front)
     (e : ReadFault) → Fails e n ((grammar_of reader.format).refuses (entry_rows r.begun) row)
@@ -196,11 +180,7 @@ row_refused reader n row front r e h =
         × ((grammar_of reader.format).refuses (entry_rows r.begun) row ≡ Some name) × (e ≡ fault_at n name))
         → (e ≡ NoMemory)
         ⊎ ((later : List Numbered) → IsRefused (grammar_of reader.format) (front ++ (n, Numbers row) ∷ later) e)
-    told (inl none) = inl none
-    told (inr (name, refused, is)) = inr (λ later.
-        subst (λ x. IsRefused (grammar_of reader.format) (front ++ (n, Numbers row) ∷ later) x) (sym is)
-        (refused_here (grammar_of reader.format) (front ++ (n, Numbers row) ∷ later) front later r.begun r.place n
-        (Numbers row) refl name refused))
+    told x = grind (arith, refused_here)
 
 -- ---- the end
 
@@ -212,8 +192,7 @@ fresh_begun reader lines (e ∷ begun) d fresh = absurd (let s = d.some_job in o
 
 cut_outside : (f : Grammar) (lines : List Numbered) (begun : List Entry) (s : IsBegun f lines begun) → begun ≡ []
     → lines ≡ lines_of_parts s.parts ++ s.after
-cut_outside f lines [] s e = s.cut ∙ ap (λ (ls : List Numbered). ls ++ s.after) (append-nil (lines_of_parts s.parts))
-cut_outside f lines (x ∷ begun) s e = absurd cc
+cut_outside f lines y s e = grind (arith, append-nil)
 
 pub all_read : (reader : Reader) (lines : List Numbered) → IsReadUpTo reader lines → reader.draft.jobs_wanted ≡ 0
     → 0 < length reader.named.items → AreRead (grammar_of reader.format) lines reader.named
@@ -221,8 +200,7 @@ all_read reader lines r fresh some = grind (arith, common_steps, parts_len, cut_
 
 no_parts : (f : Grammar) (lines : List Numbered) (parts : List Part) (after : List Numbered)
     → lines ≡ lines_of_parts parts ++ after → length parts ≡ 0 → AreText after → AreText lines
-no_parts f lines [] after cut none text = subst AreText (sym cut) text
-no_parts f lines (p ∷ parts) after cut none text = absurd (omega arith)
+no_parts f lines x after cut none text = grind (arith, common_steps)
 
 pub none_read : (reader : Reader) (lines : List Numbered) → IsReadUpTo reader lines → reader.draft.jobs_wanted ≡ 0
     → length reader.named.items ≡ 0 → IsWithoutInstance lines NoInstance

@@ -1,24 +1,22 @@
 -- A report, and a Gantt text behind it, read as a schedule text.
 use Rattle.std.proofs.lemmas.Grind.{common_steps}
-use Rattle.std.proofs.Common.{◌≡◌, ℕ, zero, suc, ◌≤◌, Bool, true, false, ◌||◌, List, [], ◌∷◌, ◌++◌}
+use Rattle.std.proofs.Common.{◌≡◌, ℕ, ◌≤◌, Bool, true, false, ◌||◌, List, [], ◌∷◌, ◌++◌, rules}
 use Rattle.std.proofs.Common.{length, get_or, map, Option, Some, None, refl, sym, ap, ◌∙◌, arith, subst}
 use Rattle.std.specs.Prelude.{filter, codes}
-use Rattle.std.specs.List.{enumerate_from, range_with_len, list_any, list_all, join_with_byte}
+use Rattle.std.specs.List.{enumerate_from, list_any, list_all, join_with_byte}
 use Rattle.std.specs.Option.{option_map_or}
-use Rattle.std.specs.Fmt.{decimal}
 use Rattle.std.proofs.lemmas.Bool.{eqb-true, leb-true}
 use Rattle.std.proofs.lemmas.List.{length-append, length-map}
 use Rattle.std.proofs.lemmas.List.Concat.{flat_map-append}
 use Rattle.std.proofs.lemmas.List.FromFn.{length-enumerate_from}
-use Rattle.shop_model.specs.Shop.{Shop, Starts, route_of, end_of}
+use Rattle.shop_model.specs.Shop.{Shop, Starts}
 use Rattle.shop_model.specs.Limits.{AreStarts}
-use Rattle.shop_model.specs.Checking.{HasShape, starts_of}
+use Rattle.shop_model.specs.Checking.{HasShape}
 use Rattle.shop_text.specs.Lines.{is_line_feed, tokens_of}
 use Rattle.shop_text.specs.Formats.{is_visible}
 use Rattle.shop_text.specs.Schedules.{Tokens, is_counted, counted_lines, IsTable}
 use Rattle.shop_text.specs.Writing.{report_text, Reported, printed_line, text_of, number_line, status_word}
-use Rattle.shop_text.specs.Writing.{answer_lines, job_line, job_lines, report_lines, unit_of, character_of}
-use Rattle.shop_text.specs.Writing.{machine_line, gantt_lines}
+use Rattle.shop_text.specs.Writing.{answer_lines, report_lines, character_of, machine_line}
 use Rattle.shop_text.specs.RoundTrip.{ReportsAreSchedules}
 use Rattle.shop_text.proofs.JobLineLemmas.{row_at}
 use Rattle.shop_text.proofs.PrintedLines.{IsFree, free_append, AreLines, lines_of_text, are_lines_append, joined_free}
@@ -33,26 +31,23 @@ visible_free [] e = refl
 visible_free (b ∷ name) e = grind (arith, eqb-true, leb-true, visible_free name)
 
 status_free : (n : ℕ) → IsFree is_line_feed (status_word n)
-status_free zero = refl
-status_free (suc n) = refl
+status_free x = grind arith
 
 number_free : (word : List ℕ) (n : ℕ) → IsFree is_line_feed word
     → IsFree is_line_feed (join_with_byte 32 (number_line word n))
-number_free word n free = grind (arith, common_steps, joined_free, decimal_free, no_line_feed)
+number_free word n free = grind (arith, common_steps, decimal_free, no_line_feed)
 
 pub answer_is_lines : (r : Reported) → list_all is_visible r.name ≡ true → AreLines (answer_lines r)
 answer_is_lines r visible =
     grind (arith, common_steps, joined_free, visible_free, decimal_free, no_line_feed, number_free, status_free)
 
 answer_is_other : (r : Reported) → AreOther (answer_lines r)
-answer_is_other r = grind (arith, common_steps, other_line)
+answer_is_other r = grind (arith, common_steps)
 
 -- ---- Gantt texts
 
 get_free : (p : ℕ → Bool) (xs : List ℕ) (d : ℕ) → IsFree p xs → p d ≡ false → (i : ℕ) → p (get_or xs i d) ≡ false
-get_free p [] d free none i = none
-get_free p (x ∷ xs) d free none zero = grind (arith, common_steps)
-get_free p (x ∷ xs) d free none (suc i) = grind (arith, common_steps)
+get_free p y d free none i = grind (arith, common_steps)
 
 shown_free : (o : Option ℕ) → is_line_feed (option_map_or character_of o 46) ≡ false
 shown_free None = refl
@@ -77,8 +72,7 @@ machines_are_lines shop starts (machine ∷ machines) =
 machines_are_other : (shop : Shop) (starts : Starts) (machines : List ℕ)
     → AreOther (map (machine_line shop starts) machines)
 machines_are_other shop starts [] = tt
-machines_are_other shop starts (machine ∷ machines) =
-    grind (arith, common_steps, other_line, machines_are_other shop starts machines)
+machines_are_other shop starts (machine ∷ machines) = grind (arith, machines_are_other shop starts machines)
 
 -- ---- the law
 
@@ -109,29 +103,9 @@ read_back r others visible shape small lines other short =
     })
   where
     rows : text_of (report_lines r ++ others) ≡ report_text r ++ text_of others → AreRows r.shop 0 r.table
-    rows joined = record {
-      jobs = (let jobs = shape.jobs in omega arith);
-      few = omega (
-        arith,
-        ap length joined,
-        as_many_lines (report_lines r ++ others),
-        length-append (report_lines r) others,
-        length-append (answer_lines r) (job_lines r.table),
-        length-map (enumerate_from 0 r.table) (λ (row : ℕ × List ℕ). job_line row.0 row.1),
-        length-enumerate_from 0 r.table,
-      );
-      steps = λ i below. shape.steps i ∙ ap (λ (k : ℕ). length (route_of r.shop k)) (omega arith);
-      small = λ i k. small i k;
-    }
+    rows joined = grind (arith, as_many_lines, length-append, length-map, length-enumerate_from)
 
 pub reports_are_schedules : ReportsAreSchedules
 reports_are_schedules r false visible shape small short = read_back r [] visible shape small tt tt short
 reports_are_schedules r true visible shape small short =
-    let starts = starts_of r.table
-    in read_back r (gantt_lines r.shop starts) visible shape small (
-      number_free (codes "unit") (unit_of (end_of r.shop starts)) refl,
-      machines_are_lines r.shop starts (range_with_len 0 r.shop.machines),
-    ) (
-      other_line (codes "unit") (decimal (unit_of (end_of r.shop starts))) [] refl refl refl,
-      machines_are_other r.shop starts (range_with_len 0 r.shop.machines),
-    ) short
+    search (rules, read_back, number_free, machines_are_lines, other_line, machines_are_other)

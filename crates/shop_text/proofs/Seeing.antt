@@ -1,5 +1,5 @@
 -- By its tokens a line is blank, numbers or words.
-use Rattle.std.proofs.Common.{◌≡◌, ℕ, ◌<◌, Bool, true, false, cond, inl, inr, List, [], ◌∷◌, ◌++◌, length, map}
+use Rattle.std.proofs.Common.{◌≡◌, ℕ, ◌<◌, Bool, true, false, cond, List, [], ◌∷◌, ◌++◌, length, map}
 use Rattle.std.proofs.Common.{Option, Some, None, refl, sym, ap, ◌∙◌, arith, append_assoc}
 use Rattle.std.specs.Prelude.{MatchOption}
 use Rattle.std.specs.List.{list_all}
@@ -14,32 +14,23 @@ values tokens = map (λ t. capped (value_of t)) tokens
 all_numbers : (ns : List ℕ) (ts : List (List ℕ)) (ms : List ℕ) → with_tokens ns ts ≡ Some ms
     → (list_all is_number ts ≡ true) × (ms ≡ ns ++ values ts)
 all_numbers ns [] ms e = (refl, sym (append-nil ns ∙ cc))
-all_numbers ns (t ∷ ts) ms e = elim (cases_Bool (is_number t)) [
-  | inl is ↦
-      (let rest = all_numbers (ns ++ capped (value_of t) ∷ []) ts ms (sym (rw is refl) ∙ e)
-      in (rw is rest.0, rest.1 ∙ append_assoc ns (capped (value_of t) ∷ []) (values ts)))
-  | inr isnt ↦ (let none : with_tokens ns (t ∷ ts) ≡ None = rw isnt refl in absurd cc)
-]
+all_numbers ns (t ∷ ts) ms e =
+    grind (arith, cases_Bool, append_assoc, all_numbers (ns ++ capped (value_of t) ∷ []) ts ms)
 
 some_word : (ns : List ℕ) (ts : List (List ℕ)) → with_tokens ns ts ≡ None → list_all is_number ts ≡ false
 some_word ns [] e = absurd cc
-some_word ns (t ∷ ts) e = elim (cases_Bool (is_number t)) [
-  | inl is ↦ rw is (some_word (ns ++ capped (value_of t) ∷ []) ts (sym (rw is refl) ∙ e))
-  | inr isnt ↦ rw isnt refl
-]
+some_word ns (t ∷ ts) e = grind (arith, cases_Bool, some_word (ns ++ capped (value_of t) ∷ []) ts)
 
 -- a token that is no number ends it
 pub at_word : (ns : List ℕ) (t : List ℕ) (ts : List (List ℕ)) → is_number t ≡ false → with_tokens ns (t ∷ ts) ≡ None
 at_word ns t ts isnt = rw isnt refl
 
 pub is_words : (ts : List (List ℕ)) → with_tokens [] ts ≡ None → line_of_tokens ts ≡ Words ts
-is_words [] e = absurd cc
-is_words (t ∷ ts) e = rw (some_word [] (t ∷ ts) e) refl
+is_words x e = grind (arith, some_word)
 
 pub is_blank : (ts : List (List ℕ)) (ns : List ℕ) → with_tokens [] ts ≡ Some ns → length ns ≡ 0
     → line_of_tokens ts ≡ Blank
-is_blank [] ns e none = refl
-is_blank (t ∷ ts) ns e none = (let p = all_numbers [] (t ∷ ts) ns e in absurd (omega (arith, none, ap length p.1)))
+is_blank x ns e none = grind (arith, all_numbers)
 
 pub is_numbers : (ts : List (List ℕ)) (ns : List ℕ) → with_tokens [] ts ≡ Some ns → 0 < length ns
     → (row : List ℕ) × (line_of_tokens ts ≡ Numbers row) × (ns ≡ map capped row)
@@ -54,11 +45,9 @@ is_numbers (t ∷ ts) ns e some =
 
 -- what no number is read from is none
 pub no_number : (b : Bool) (n : ℕ) (o : Option ℕ) → o ≡ cond b (Some n) None → ((m : ℕ) → o ≡ Some m → ⊥) → b ≡ false
-no_number true n o e h = absurd (h n e)
-no_number false n o e h = refl
+no_number x n o e h = grind arith
 
 -- what holds where there is nothing, for what is nothing
 pub none_of : {A : Type 0} (P : Type 0) (Q : A → Type 0) (o : Option A) → MatchOption o P Q
     → ((x : A) → o ≡ Some x → ⊥) → P
-none_of P Q None h n = h
-none_of P Q (Some x) h n = absurd (n x refl)
+none_of y z u h n = grind arith

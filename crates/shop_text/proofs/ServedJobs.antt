@@ -1,7 +1,7 @@
 -- In a feasible table a machine serves one job at most at each instant.
 use Rattle.std.proofs.lemmas.Grind.{common_steps}
-use Rattle.std.proofs.Common.{◌≡◌, ℕ, zero, suc, ◌+◌, ◌*◌, ◌<◌, ◌≤◌, Bool, true, false, ◌&&◌, cond}
-use Rattle.std.proofs.Common.{List, length, map, Some, None, refl, sym, ap, ◌∙◌, arith, inl, inr, add-one}
+use Rattle.std.proofs.Common.{◌≡◌, ℕ, zero, suc, ◌+◌, ◌*◌, ◌<◌, ◌≤◌, Bool, true, false, ◌&&◌, rules}
+use Rattle.std.proofs.Common.{List, length, map, Some, None, refl, ap, ◌∙◌, arith, add-one}
 use Rattle.std.specs.Prelude.{find}
 use Rattle.std.specs.List.{range_with_len, list_any}
 use Rattle.std.specs.Option.{option_map_or}
@@ -43,10 +43,7 @@ none_found p a (suc n) none = grind (arith, common_steps, none_found p (a + 1) n
 -- ---- one job at most
 
 three : (a b d : Bool) → (a && b && d) ≡ true → (a ≡ true) × (b ≡ true) × (d ≡ true)
-three true true true e = (refl, refl, refl)
-three true true false e = absurd cc
-three true false d e = absurd cc
-three false b d e = absurd cc
+three x b d e = grind arith
 
 -- what it is to be served
 pub record IsServed (shop : Shop) (starts : Starts) (machine instant j k : ℕ) : Type 0 where
@@ -57,14 +54,10 @@ pub record IsServed (shop : Shop) (starts : Starts) (machine instant j k : ℕ) 
 
 pub served_step : (shop : Shop) (starts : Starts) (machine instant j : ℕ) → serves shop starts machine instant j ≡ true
     → (k : ℕ) × IsServed shop starts machine instant j k
-served_step shop starts machine instant j e =
-    grind (arith, common_steps, some_in_range, three, eqb-true, leb-true, ltb-true)
+served_step shop starts machine instant j e = grind (arith, some_in_range, three, eqb-true, leb-true, ltb-true)
 
 and_three : (a b d : Bool) → a ≡ true → b ≡ true → d ≡ true → (a && b && d) ≡ true
-and_three true true true e f g = refl
-and_three false b d e f g = absurd cc
-and_three true false d e f g = absurd cc
-and_three true true false e f g = absurd cc
+and_three x b d e f g = grind arith
 
 pub serves_step : (shop : Shop) (starts : Starts) (machine instant j k : ℕ) → IsServed shop starts machine instant j k
     → serves shop starts machine instant j ≡ true
@@ -81,7 +74,7 @@ one_job shop starts feasible machine instant i j e f = grind (arith, common_step
 
 serving_job : (shop : Shop) (starts : Starts) (machine instant j : ℕ) → serves shop starts machine instant j ≡ true
     → j < length shop.jobs
-serving_job shop starts machine instant j e = grind (arith, common_steps, served_step)
+serving_job shop starts machine instant j e = grind (arith, common_steps)
 
 pub shown_job : (shop : Shop) (starts : Starts) → IsFeasible shop starts → (machine instant j : ℕ)
     → serves shop starts machine instant j ≡ true → shown_at shop starts machine instant ≡ character_of j
@@ -99,23 +92,12 @@ last_job : (shop : Shop) (starts : Starts) → IsFeasible shop starts → (machi
     → serves shop starts machine instant j ≡ true → last_shown shop starts machine instant n ≡ character_of j
 last_job shop starts feasible machine instant j zero h e = absurd (omega arith)
 last_job shop starts feasible machine instant j (suc n) h e =
-    at (serves shop starts machine instant n) refl (λ below. last_job shop starts feasible machine instant j n below e)
-  where
-    at : (b : Bool) → serves shop starts machine instant n ≡ b
-        → (j < n → last_shown shop starts machine instant n ≡ character_of j)
-        → cond b (character_of n) (last_shown shop starts machine instant n) ≡ character_of j
-    at true here below = ap character_of (one_job shop starts feasible machine instant n j here e)
-    at false here below = below (elim (cases_eq j n) [
-      | inl same ↦
-          absurd (let other = ap (serves shop starts machine instant) same in cc)
-      | inr ne ↦ omega arith
-    ])
+    search (rules, one_job, cases_eq, last_job shop starts feasible machine instant j n)
 
 last_none : (shop : Shop) (starts : Starts) (machine instant n : ℕ)
     → ((i : ℕ) → serves shop starts machine instant i ≡ false) → last_shown shop starts machine instant n ≡ 46
 last_none shop starts machine instant zero none = refl
-last_none shop starts machine instant (suc n) none =
-    grind (arith, common_steps, last_none shop starts machine instant n none)
+last_none shop starts machine instant (suc n) none = grind (arith, last_none shop starts machine instant n none)
 
 -- nobody serves, if none of the jobs does
 none_serves : (shop : Shop) (starts : Starts) (machine instant : ℕ)
@@ -135,24 +117,14 @@ last_is_shown shop starts feasible machine instant =
   where
     at : (b : Bool) → list_any (serves shop starts machine instant) (range_with_len 0 (length shop.jobs)) ≡ b
         → last_shown shop starts machine instant (length shop.jobs) ≡ shown_at shop starts machine instant
-    at true some =
-        let j = some_in_range (serves shop starts machine instant) 0 (length shop.jobs) some
-        in last_job shop starts feasible machine instant j.0 (length shop.jobs) (omega (arith, j.1)) j.2
-        ∙ sym (shown_job shop starts feasible machine instant j.0 j.2)
-    at false none =
-        let all = none_serves shop starts machine instant none
-        in last_none shop starts machine instant (length shop.jobs) all
-        ∙ sym (shown_none shop starts machine instant all)
+    at x some = grind (arith, some_in_range, last_job, shown_job, none_serves, last_none, shown_none)
 
 -- one more job is shown
 pub job_shown : (shop : Shop) (starts : Starts) (machine unit j : ℕ) (cells newer : List ℕ)
     → length newer ≡ length cells → ShowsJobs shop starts machine unit cells j
     → ShowsJob shop starts machine unit j cells newer
     → ShowsJobs shop starts machine unit newer (j + 1)
-job_shown shop starts machine unit j cells newer same so_far here c h =
-    here c (omega arith)
-    ∙ ap (λ (x : ℕ). cond (serves shop starts machine (c * unit) j) (character_of j) x) (so_far c (omega arith))
-    ∙ ap (last_shown shop starts machine (c * unit)) (sym (add-one j))
+job_shown shop starts machine unit j cells newer same so_far here c h = search (rules, add-one)
 
 -- the cells of a machine, all jobs being shown
 pub all_shown : (shop : Shop) (starts : Starts) → IsFeasible shop starts → (machine unit : ℕ) (cells : List ℕ) (n : ℕ)
@@ -166,10 +138,7 @@ all_shown shop starts feasible machine unit cells n same shown =
 
 pub columns_show : ShowsTheJob
 columns_show = record {
-  served = λ shop starts feasible instant j k operation begun not_ended.
-      shown_job shop starts feasible (machine_of shop j k) instant j
-      (serves_step shop starts (machine_of shop j k) instant j k
-      (record { operation = operation; on_machine = refl; begun = begun; not_ended = not_ended }));
+  served = search (rules, shown_job, serves_step);
   idle = λ shop starts machine instant idle. shown_none shop starts machine instant
       (λ i. never shop starts machine instant idle i (serves shop starts machine instant i) refl);
 }
@@ -178,5 +147,4 @@ columns_show = record {
         → ((j k : ℕ) → IsOperation shop j k → machine_of shop j k ≡ machine → starts j k ≤ instant
         → finish_of shop starts j k ≤ instant)
         → (i : ℕ) (b : Bool) → serves shop starts machine instant i ≡ b → b ≡ false
-    never shop starts machine instant idle i false is = refl
-    never shop starts machine instant idle i true is = grind (arith, served_step)
+    never shop starts machine instant idle i x is = grind (arith, served_step)

@@ -1,19 +1,18 @@
 -- The parts of `orlib` and `routes` are those in plain words.
 use Rattle.std.proofs.lemmas.Grind.{common_steps}
-use Rattle.std.proofs.Common.{◌≡◌, ℕ, zero, suc, ◌+◌, ◌*◌, ◌%◌, ◌/◌, inl, inr, cond, not, ◌&&◌, leb}
+use Rattle.std.proofs.Common.{◌≡◌, ℕ, zero, suc, ◌+◌, ◌*◌, ◌%◌, ◌/◌, inr, cond, not, ◌&&◌, leb, rules}
 use Rattle.std.proofs.Common.{eqb, List, [], ◌∷◌, ◌++◌, length, Option, Some, None, refl, sym, ◌∙◌, subst, arith}
 use Rattle.std.specs.List.{AllByRecursion}
 use Rattle.std.proofs.lemmas.Bool.{and_parts, leb-true, le-leb, ltb-true, lt-ltb, eqb-true, eq-eqb, ne_eqb, true≢false}
 use Rattle.std.proofs.lemmas.List.{length-map, length-append}
 use Rattle.shop_model.specs.Shop.{ShopJob}
-use Rattle.shop_text.specs.Lines.{Numbered}
 use Rattle.shop_text.specs.Grammar.{Row, LineFault, WrongShape, WrongRow, WrongTime, Entry}
-use Rattle.shop_text.specs.Grammar.{Part, entry_rows, AreSkipped, AreAccepted, IsPart}
-use Rattle.shop_text.specs.Formats.{orlib_fault, orlib_job, routes_fault, routes_job, grammar_of_rows}
+use Rattle.shop_text.specs.Grammar.{Part, entry_rows, AreAccepted, IsPart}
+use Rattle.shop_text.specs.Formats.{orlib_fault, routes_fault, grammar_of_rows}
 use Rattle.shop_text.specs.Formats.{pairs_fault, size_fault, jobs_in, machines_in}
 use Rattle.shop_text.specs.Shapes.{IsSize, ArePairs, IsOrlibRow, IsRoutesRow, IsRowLine, IsPartOfRows}
 use Rattle.shop_text.specs.Shapes.{OrlibShape, RoutesShape}
-use Rattle.shop_text.proofs.Capping.{no_fault_then, no_fault_if, no_fault_in}
+use Rattle.shop_text.proofs.Capping.{no_fault_then, no_fault_in}
 
 -- ---- a row
 
@@ -33,7 +32,7 @@ pairs_to machines (m ∷ p ∷ rest) h = grind (arith, common_steps, lt-ltb, le-
 -- ---- a size line
 
 pub size_from : (row : Row) → size_fault row ≡ None → IsSize (jobs_in row) (machines_in row)
-size_from row e = grind (arith, common_steps, and_parts, no_fault_if, leb-true)
+size_from row e = grind (arith, common_steps, and_parts, leb-true)
 
 pub size_to : (row : Row) → IsSize (jobs_in row) (machines_in row) → size_fault row ≡ None
 size_to row s = grind (arith, common_steps, le-leb)
@@ -92,19 +91,13 @@ routes_row_to machines row h =
 
 -- ---- the rows behind a size line
 
--- text lines aren't skipped behind a size line
-no_text : (fault : ℕ → Row → Option LineFault) (job : Row → ShopJob) (size : Row) (done : List Row)
-    (lines : List Numbered) → AreSkipped (grammar_of_rows fault job) (size ∷ done) lines → lines ≡ []
-no_text fault job size done lines (are, inl none) = none
-no_text fault job size done lines (are, inr skips) = absurd (true≢false (sym skips))
-
 rows_from : (fault : ℕ → Row → Option LineFault) (job : Row → ShopJob) (IsRow : ℕ → Row → Type 0)
     → ((machines : ℕ) (row : Row) → fault machines row ≡ None → IsRow machines row)
     → (size : Row) (done : List Row) (rows : List Entry) → AreAccepted (grammar_of_rows fault job) (size ∷ done) rows
     → AllByRecursion (IsRowLine (IsRow (machines_in size))) rows
 rows_from fault job IsRow from size done [] a = tt
 rows_from fault job IsRow from size done (e ∷ rows) a =
-    grind (arith, common_steps, no_text, rows_from fault job IsRow from size (done ++ e.row ∷ []) rows a.1)
+    grind (arith, common_steps, rows_from fault job IsRow from size (done ++ e.row ∷ []) rows a.1)
 
 rows_to : (fault : ℕ → Row → Option LineFault) (job : Row → ShopJob) (IsRow : ℕ → Row → Type 0)
     → ((machines : ℕ) (row : Row) → IsRow machines row → fault machines row ≡ None)
@@ -113,14 +106,7 @@ rows_to : (fault : ℕ → Row → Option LineFault) (job : Row → ShopJob) (Is
     → AreAccepted (grammar_of_rows fault job) (size ∷ done) rows
 rows_to fault job IsRow to size done [] len h = tt
 rows_to fault job IsRow to size done (e ∷ rows) len h =
-    grind (
-      arith,
-      common_steps,
-      ne_eqb,
-      length-append,
-      rows_to fault job IsRow to size (done ++ e.row ∷ []) rows
-          (omega (arith, length-append done (e.row ∷ []))) h.1,
-    )
+    grind (arith, ne_eqb, length-append, rows_to fault job IsRow to size (done ++ e.row ∷ []) rows)
 
 -- ---- parts
 
@@ -157,13 +143,7 @@ plain_to fault job IsRow to part p = subst (IsPart (grammar_of_rows fault job)) 
 )
 
 pub orlib_shape : OrlibShape
-orlib_shape part = (
-  plain_from orlib_fault orlib_job IsOrlibRow orlib_row_from part,
-  plain_to orlib_fault orlib_job IsOrlibRow orlib_row_to part,
-)
+orlib_shape part = search (rules, plain_from, orlib_row_from, plain_to, orlib_row_to)
 
 pub routes_shape : RoutesShape
-routes_shape part = (
-  plain_from routes_fault routes_job IsRoutesRow routes_row_from part,
-  plain_to routes_fault routes_job IsRoutesRow routes_row_to part,
-)
+routes_shape part = search (rules, plain_from, routes_row_from, plain_to, routes_row_to)

@@ -129,12 +129,11 @@ left_all ((n, Numbers row) ∷ lines) = (refl, left_all lines)
 left_all ((n, Words words) ∷ lines) = (refl, left_all lines)
 
 left_chosen : (b : Bool) (xs ys : List Numbered) → AreLeft xs → AreLeft ys → AreLeft (cond b xs ys)
-left_chosen true xs ys h g = h
-left_chosen false xs ys h g = g
+left_chosen x xs ys h g = grind arith
 
 left_after : (f : Grammar) (lines : List Numbered) → AreLeft lines → AreLeft (from_first_header f lines)
 left_after f [] h = tt
-left_after f (l ∷ lines) h = grind (arith, common_steps, left_chosen, left_after f lines h.1)
+left_after f (l ∷ lines) h = grind (arith, common_steps, left_after f lines h.1)
 
 pub all_left : (f : Grammar) (text : List ℕ) → AreLeft (lines_left f text)
 all_left f text = grind (arith, common_steps, left_all, left_chosen, left_after)

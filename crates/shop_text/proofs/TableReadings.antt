@@ -45,23 +45,11 @@ is_reading shop first [] [] (line ∷ later) good stopped = grind arith
 is_reading shop first [] (row ∷ rows) later good stopped = absurd cc
 is_reading shop first (line ∷ before) [] later good stopped = absurd cc
 is_reading shop first (line ∷ before) (row ∷ rows) later good stopped =
-    let head : row_in shop first line.1 ≡ Some row = cc
-    in let tail : GivesFrom shop (first + 1) before rows = cc
-    in ap (λ (r : Option (List ℕ)). next_row shop first line (before ++ later) r
-    (reading shop (first + 1) (before ++ later))) head
-    ∙ ap (λ (rest : List (List ℕ) × List Line). (row ∷ rest.0, rest.1))
-    (is_reading shop (first + 1) before rows later tail (subst (λ (j : ℕ). IsStopped shop j later) (omega arith)
-    stopped))
-
--- where it stops
-stopped_there : (shop : Shop) (last j n : ℕ) (later : List Line) → GoesWrong shop last j later n
-    → IsStopped shop j later
-stopped_there shop last j n [] wrong = tt
-stopped_there shop last j n (line ∷ later) wrong = wrong.0
+    grind (arith, is_reading shop (first + 1) before rows later)
 
 bad_reading : (shop : Shop) (text : List ℕ) (n : ℕ) (bad : IsBadAt shop text n)
     → reading shop 0 (counted_lines text) ≡ (bad.rows, bad.later)
-bad_reading shop text n bad = grind (arith, common_steps, is_reading, stopped_there)
+bad_reading shop text n bad = grind (arith, common_steps, is_reading)
 
 good_reading : (shop : Shop) (text : List ℕ) (rows : List (List ℕ)) → IsTable shop text rows
     → reading shop 0 (counted_lines text) ≡ (rows, [])
@@ -72,10 +60,7 @@ good_reading shop text rows table = ap (reading shop 0) (sym (append-nil (counte
 
 same_place : (shop : Shop) (last i j m n : ℕ) (later others : List Line) → later ≡ others
     → GoesWrong shop last i later m → GoesWrong shop last j others n → m ≡ n
-same_place shop last i j m n [] [] e x y = x.1 ∙ sym y.1
-same_place shop last i j m n [] (other ∷ others) e x y = absurd cc
-same_place shop last i j m n (line ∷ later) [] e x y = absurd cc
-same_place shop last i j m n (line ∷ later) (other ∷ others) e x y = grind (arith, common_steps)
+same_place shop last i j m n z u e x y = grind arith
 
 same_bad : (shop : Shop) (text : List ℕ) (m n : ℕ) → IsBadAt shop text m → IsBadAt shop text n → m ≡ n
 same_bad shop text m n x y =
@@ -85,8 +70,7 @@ same_bad shop text m n x y =
 -- a line for each job, and a job that waits
 none_waits : (shop : Shop) (last j n : ℕ) (later : List Line) → later ≡ [] → j ≡ length shop.jobs
     → GoesWrong shop last j later n → ⊥
-none_waits shop last j n [] e all wrong = (let few = wrong.0 in omega arith)
-none_waits shop last j n (line ∷ later) e all wrong = absurd cc
+none_waits shop last j n x e all wrong = grind arith
 
 never_both : (shop : Shop) (text : List ℕ) (rows : List (List ℕ)) (n : ℕ) → IsTable shop text rows
     → IsBadAt shop text n → ⊥

@@ -1,13 +1,12 @@
 -- Texts made of lines, and lines made of tokens.
 use Rattle.std.proofs.lemmas.Grind.{common_steps}
-use Rattle.std.proofs.Common.{◌≡◌, ℕ, ◌+◌, ◌<◌, List, [], ◌∷◌, ◌++◌, length, get_or, take, map, Result, Ok, Err, refl}
+use Rattle.std.proofs.Common.{◌≡◌, ℕ, ◌+◌, ◌<◌, List, [], ◌∷◌, ◌++◌, length, get_or, take, map, Result, refl}
 use Rattle.std.proofs.Common.{sym, ap, ◌∙◌, arith}
 use Rattle.std.specs.Prelude.{flat_map, codes, OnOk, IfOk}
 use Rattle.std.specs.List.{join_with_byte, range_with_len}
 use Rattle.std.proofs.lemmas.List.FromFn.{map-range_with_len_more}
 use Rattle.std.specs.Fmt.{decimal}
 use Rattle.std.proofs.lemmas.List.{append_assoc, append-nil, map-append, take_more, length-take-le}
-use Rattle.std.proofs.lemmas.List.Concat.{flat_map-append}
 use Rattle.shop_text.specs.Schedules.{Tokens}
 use Rattle.shop_text.specs.Writing.{printed_line, text_of, job_line, job_lines}
 use Rattle.shop_text.proofs.JobLineLemmas.{enumerate_push}
@@ -32,14 +31,10 @@ pub job_line_is : (j : ℕ) (starts : List ℕ)
     ≡ printed_line (job_line j starts)
 job_line_is j starts = grind (arith, common_steps, joined_is, flat_map-map)
 
-pub text_push : (lines : List Tokens) (line : Tokens)
-    → text_of (lines ++ line ∷ []) ≡ text_of lines ++ printed_line line
-text_push lines line = grind (arith, common_steps, flat_map-append, append-nil)
-
 -- one more line behind what is written
 pub text_more : (old new start : List ℕ) (lines : List Tokens) (line : Tokens) → old ≡ start ++ text_of lines
     → new ≡ old ++ printed_line line → new ≡ start ++ text_of (lines ++ line ∷ [])
-text_more old new start lines line e f = grind (arith, common_steps, append_assoc, text_push)
+text_more old new start lines line e f = grind (arith, common_steps, append_assoc)
 
 pub job_lines_more : (rows : List (List ℕ)) (j : ℕ) → j < length rows
     → job_lines (take (j + 1) rows) ≡ job_lines (take j rows) ++ job_line j (get_or rows j []) ∷ []
@@ -61,13 +56,11 @@ line_more old new first line n e f =
 -- ---- what a call that may want memory has written
 
 pub written : {X E : Type 0} (r : Result X E) (P Q : Type 0) → OnOk r P → (P → Q) → OnOk r Q
-written (Ok x) P Q h f = f h
-written (Err e) P Q h f = h
+written y z u h f = grind arith
 
 pub same_text : {X E : Type 0} (bytes : X → List ℕ) (r : Result X E) (a b : List ℕ) → IfOk r (λ x. bytes x ≡ a) → a ≡ b
     → IfOk r (λ x. bytes x ≡ b)
-same_text bytes (Ok x) a b h e = h ∙ e
-same_text bytes (Err x) a b h e = h
+same_text bytes y a b h e = grind arith
 
 -- ---- verdicts
 

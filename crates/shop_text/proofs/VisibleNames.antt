@@ -2,20 +2,17 @@
 use Rattle.std.proofs.lemmas.Grind.{common_steps}
 use Rattle.std.proofs.Common.{◌≡◌, ℕ, zero, suc, ◌+◌, ◌/◌, ◌%◌, ◌<◌, Bool, true, false, cond, ltb, eqb}
 use Rattle.std.proofs.Common.{List, [], ◌∷◌, Option, Some, None, refl, subst, arith}
-use Rattle.std.specs.Prelude.{find, IsTrue}
+use Rattle.std.specs.Prelude.{IsTrue}
 use Rattle.std.specs.List.{list_all, AllByRecursion}
-use Rattle.std.specs.Str.{bytes_eq}
 use Rattle.std.specs.Fmt.{decimal, digits, digits_onto}
 use Rattle.std.proofs.lemmas.Bool.{le-leb, lt-ltb}
-use Rattle.shop_text.specs.Lines.{Line, Numbered, Blank, Numbers, Words}
+use Rattle.shop_text.specs.Lines.{Numbered}
 use Rattle.shop_text.specs.Grammar.{Part}
 use Rattle.shop_text.specs.Formats.{is_visible, grammar_of}
 use Rattle.shop_text.specs.Texts.{NamedShop, IsText, last_or, headers_of, named_from}
 use Rattle.shop_text.specs.Names.{first_named}
 use Rattle.shop_text.specs.RoundTrip.{NamesAreVisible}
 use Rattle.shop_text.specs.declared.formats.Format.{Format}
-use Rattle.shop_text.specs.declared.formats.Format.TheVariants.{Orlib, Taillard, Routes}
-use Rattle.shop_text.proofs.Headers.{header_visible, blank_header, numbers_header}
 
 abbrev IsVisible : List ℕ → Type 0
 IsVisible bytes = list_all is_visible bytes ≡ true
@@ -29,8 +26,7 @@ visible_more : (b : ℕ) (bytes : List ℕ) → is_visible b ≡ true → IsVisi
 visible_more b bytes h g = rw (h, g) refl
 
 either_visible : (b : Bool) (xs ys : List ℕ) → IsVisible xs → IsVisible ys → IsVisible (cond b xs ys)
-either_visible true xs ys f g = f
-either_visible false xs ys f g = g
+either_visible x xs ys f g = grind arith
 
 digits_visible : (k n : ℕ) (acc : List ℕ) → IsVisible acc → IsVisible (digits_onto k 10 false n acc)
 digits_visible zero n acc h = h
@@ -45,31 +41,15 @@ decimal_visible n = digits_visible 64 n [] refl
 
 -- ---- headers
 
-line_visible : (p : Format) (line : Line) (bytes : List ℕ) → (grammar_of p).header line ≡ Some bytes → IsVisible bytes
-line_visible p Blank bytes e = absurd (let none = blank_header p in cc)
-line_visible p (Numbers row) bytes e = absurd (let none = numbers_header p row in cc)
-line_visible Orlib (Words words) bytes e = header_visible words bytes e
-line_visible Routes (Words words) bytes e = header_visible words bytes e
-line_visible Taillard (Words words) bytes e = absurd cc
-
--- the name after one more line, from what the line gives and from what comes after it
-last_of : (p : Format) (name : List ℕ) (line : Numbered) (lines : List Numbered) (o : Option (List ℕ))
-    → (grammar_of p).header line.1 ≡ o → IsVisible name
-    → ((next : List ℕ) → IsVisible next → IsVisible (last_or next (headers_of (grammar_of p) lines)))
-    → IsVisible (last_or name (headers_of (grammar_of p) (line ∷ lines)))
-last_of p name line lines None e h later = rw e (later name h)
-last_of p name line lines (Some bytes) e h later = rw e (later bytes (line_visible p line.1 bytes e))
-
 last_visible : (p : Format) (lines : List Numbered) (name : List ℕ) → IsVisible name
     → IsVisible (last_or name (headers_of (grammar_of p) lines))
 last_visible p [] name h = h
-last_visible p (line ∷ lines) name h = grind (arith, last_of, last_visible p lines)
+last_visible p (line ∷ lines) name h = grind (arith, last_visible p lines)
 
 named_visible : (p : Format) (n : ℕ) (parts : List Part)
     → AllByRecursion (λ (s : NamedShop). IsTrue (list_all is_visible s.name)) (named_from (grammar_of p) n parts)
 named_visible p n [] = tt
-named_visible p n (part ∷ parts) =
-    grind (arith, common_steps, last_visible, decimal_visible, named_visible p (n + 1) parts)
+named_visible p n (part ∷ parts) = grind (arith, last_visible, decimal_visible, named_visible p (n + 1) parts)
 
 pub names_visible : (p : Format) → NamesAreVisible (grammar_of p)
 names_visible p text shops is = grind (arith, common_steps, named_visible)
@@ -78,22 +58,12 @@ names_visible p text shops is = grind (arith, common_steps, named_visible)
 
 -- what holds of all instances holds of the one that is picked
 module _ (P : NamedShop → Type 0) where
-  found_first : (name : List ℕ) (s : NamedShop) (shops : List NamedShop) (asked : NamedShop) (b : Bool)
-      → bytes_eq s.name name ≡ b → P s → (find (λ (t : NamedShop). bytes_eq t.name name) shops ≡ Some asked → P asked)
-      → find (λ (t : NamedShop). bytes_eq t.name name) (s ∷ shops) ≡ Some asked → P asked
-  found_first name s shops asked true is h later e =
-      let now = rw is at e
-      in let first : s ≡ asked = cc
-      in subst P first h
-  found_first name s shops asked false is h later e = later (rw is at e)
-
   pub picked_has : (shops : List NamedShop) (name : Option (List ℕ)) (asked : NamedShop) → AllByRecursion P shops
       → first_named shops name ≡ Some asked → P asked
   picked_has [] None asked all e = absurd cc
   picked_has (s ∷ shops) None asked all e = let first : s ≡ asked = cc in subst P first all.0
   picked_has [] (Some name) asked all e = absurd cc
-  picked_has (s ∷ shops) (Some name) asked all e =
-      found_first name s shops asked (bytes_eq s.name name) refl all.0 (picked_has shops (Some name) asked all.1) e
+  picked_has (s ∷ shops) (Some name) asked all e = grind (arith, picked_has shops (Some name) asked all.1)
 
 pub asked_visible : (p : Format) (text : List ℕ) (shops : List NamedShop) (name : Option (List ℕ))
     (asked : NamedShop) → IsText (grammar_of p) text shops → first_named shops name ≡ Some asked

@@ -12,8 +12,7 @@ overflow_add-head-in-loop-settled-2 g c =
     grind (arith, load_fits c.loop-settled.invariant c.load_of-load.ensures g.B.Block.GREATEST c.requires.fits)
 
 pub returns-then-upto-load : goal.returns-then-upto-load
-returns-then-upto-load g c =
-    leaps_within c.loop-settled.invariant c.load_of-load.ensures c.if-upto-load.true c.args.limit
+returns-then-upto-load g c = search (rules, leaps_within)
 
 pub returns-then-ahead-upto : goal.returns-then-ahead-upto
 returns-then-ahead-upto g c = leaps_past c.loop-settled.invariant c.load_of-load.ensures g.B.Block.GREATEST

@@ -1,4 +1,4 @@
-use Rattle.std.proofs.Common.{arith, map, sym}
+use Rattle.std.proofs.Common.{arith, sym, rules}
 use Rattle.std.proofs.lemmas.List.{length-map}
 use Rattle.shop_lanes.proofs.Extremes.{least_le_top}
 use Rattle.shop_lanes.proofs.BlockMasks.{first_of_least}
@@ -8,12 +8,7 @@ pub position_of-requires-clause-fits : goal.position_of-requires-clause-fits
 position_of-requires-clause-fits g c = grind (arith, least_le_top)
 
 pub returns-clause-first : goal.returns-clause-first
-returns-clause-first g c =
-    let row = map g.B.Block.value c.args.numbers.now
-    in let some = c.requires.some
-    in first_of_least g.B.Block.GREATEST row c.least_number-least.result c.position_of.result
-    (omega (arith, length-map c.args.numbers.now g.B.Block.value)) c.requires.fits c.least_number-least.ensures
-    c.position_of.ensures
+returns-clause-first g c = search (rules, first_of_least, length-map)
 
 pub returns-clause-least : goal.returns-clause-least
 returns-clause-least g c = sym (c.position_of.ensures.found (returns-clause-first g c).within)

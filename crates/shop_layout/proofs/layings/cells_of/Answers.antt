@@ -1,13 +1,13 @@
 use Rattle.std.proofs.Common.{◌∙◌, ◌≡◌, ◌/◌, length, ap, map, sym, arith}
-use Rattle.shop_layout.proofs.CellLemmas.{cells_turn, count_small, last_small}
+use Rattle.shop_layout.proofs.CellLemmas.{cells_turn}
 use Rattle.shop_layout.proofs.SlotLists.{items_read}
 use Rattle.shop_layout.proofs.layings.cells_of.Goals as goal
 
 pub add_blocks-requires : goal.add_blocks-requires
-add_blocks-requires c = grind (arith, count_small, items_read)
+add_blocks-requires c = grind (arith, items_read)
 
 pub overflow_cast-len : goal.overflow_cast-len
-overflow_cast-len c = grind (arith, last_small, items_read)
+overflow_cast-len c = grind (arith, items_read)
 
 pub loop-m-preserved : goal.loop-m-preserved
 loop-m-preserved c =

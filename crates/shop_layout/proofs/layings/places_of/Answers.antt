@@ -1,5 +1,5 @@
+use Rattle.std.proofs.lemmas.Grind.{common_steps}
 use Rattle.std.proofs.Common.{◌≡◌, ◌∙◌, ℕ, ◌+◌, ◌-◌, ◌*◌, ◌<◌, List, [], get_or, length, map, sym, subst, arith}
-use Rattle.std.specs.List.{All}
 use Rattle.std.specs.Prelude.{Vec}
 use Rattle.std.specs.declared.alloc.Global.{Global}
 use Rattle.std.proofs.lemmas.List.{length-map}
@@ -7,7 +7,7 @@ use Rattle.shop_model.specs.Shop.{Shop}
 use Rattle.shop_layout.specs.declared.slots.Slot.{Slot}
 use Rattle.shop_layout.specs.Ranks.{ranked}
 use Rattle.shop_layout.specs.Slots.{AreMachineSlots, AreSlotsOf}
-use Rattle.shop_layout.specs.inner.Layings.{AreNoted, ArePlaces, IsInRows}
+use Rattle.shop_layout.specs.inner.Layings.{AreNoted, ArePlaces}
 use Rattle.shop_layout.proofs.ApartSlots.{slots_apart}
 use Rattle.shop_layout.proofs.Written.{written_vec}
 use Rattle.shop_layout.proofs.LaidLists.{places_turn}
@@ -30,16 +30,7 @@ of_machine : (shop : Shop) (lists : List (Vec Slot Global)) → AreMachineSlots 
 of_machine shop lists are m here slots e = grind (arith, known shop lists are m here)
 
 pub note_places-requires-clause-rows : goal.note_places-requires-clause-rows
-note_places-requires-clause-rows c =
-    let shop = ranked c.requires.slots.0 c.args.instance.now in let m = c.loop-m.m
-    in let slots = c.as_slice.result.now
-    in let is = at_hand c.args.lists.now m c.index-lists-m.result slots c.loop-m-test.true c.index-lists-m.is
-    c.as_slice.ensures.value
-    in subst (λ (vs : List (Vec ℕ Global)). All (IsInRows (map (λ v. v.items) vs)) slots)
-    (sym c.as_mut_slice.ensures.value)
-    (rows_by_rank c.requires.slots.0 c.args.instance.now (map (λ v. v.items) c.loop-m.places.items)
-    c.loop-m.invariant.shape m slots
-    (of_machine shop c.args.lists.now c.requires.slots.1 m c.loop-m-test.true slots is))
+note_places-requires-clause-rows c = grind (arith, common_steps, at_hand, rows_by_rank, of_machine)
 
 pub note_places-requires-clause-apart : goal.note_places-requires-clause-apart
 note_places-requires-clause-apart c =
@@ -50,14 +41,7 @@ note_places-requires-clause-apart c =
     in slots_apart shop m slots (of_machine shop c.args.lists.now c.requires.slots.1 m c.loop-m-test.true slots is)
 
 pub note_places-requires-clause-small : goal.note_places-requires-clause-small
-note_places-requires-clause-small c =
-    let ranks = c.requires.slots.0 in let shop = ranked ranks c.args.instance.now in let m = c.loop-m.m
-    in let is = at_hand c.args.lists.now m c.index-lists-m.result c.as_slice.result.now c.loop-m-test.true
-    c.index-lists-m.is c.as_slice.ensures.value
-    in let here = known shop c.args.lists.now c.requires.slots.1 m c.loop-m-test.true
-    in let room = c.requires.room m here
-    in let long = c.requires.blocks
-    in let block = c.requires.few (m + 1) 0 (omega arith) in omega (arith, room, block)
+note_places-requires-clause-small c = grind (arith, common_steps, at_hand, known)
 
 pub loop-m-preserved : goal.loop-m-preserved
 loop-m-preserved c =

@@ -1,21 +1,16 @@
-use Rattle.std.proofs.Common.{◌∙◌, ◌≡◌, ℕ, ap, length, map, subst, sym}
+use Rattle.std.proofs.Common.{◌∙◌, ap, map, sym, arith}
 use Rattle.std.proofs.lemmas.List.{length-map}
-use Rattle.shop_layout.specs.Ranks.{AreRanks, ranked, ranked_op}
+use Rattle.shop_layout.specs.Ranks.{ranked, ranked_op}
 use Rattle.shop_layout.proofs.RankedShops.{route_ranked}
 use Rattle.shop_layout.proofs.SlotLists.{jobs_written}
 use Rattle.shop_bound.proofs.TimeSums.{times_small}
 use Rattle.shop_layout.proofs.slots.operations_by_machine.Goals as goal
 
 pub add_operations-requires-clause-times : goal.add_operations-requires-clause-times
-add_operations-requires-clause-times c =
-    times_small c.args.instance.now c.route.ensures.limits c.loop-j.j c.route.result.now c.route.ensures.route
+add_operations-requires-clause-times c = grind (arith, times_small)
 
 pub add_operations-requires-clause-ranks : goal.add_operations-requires-clause-ranks
-add_operations-requires-clause-ranks c =
-    let long : c.args.instance.now.machines ≡ length c.as_mut_slice.result.now =
-    sym (ap length c.as_mut_slice.ensures.value ∙ (sym (length-map c.loop-j.lists.items (λ slots. slots.items))
-    ∙ c.loop-j.invariant.machines))
-    in subst (λ (n : ℕ). AreRanks n c.args.ranks.now) long c.requires
+add_operations-requires-clause-ranks c = grind (arith, length-map)
 
 pub loop-j-preserved : goal.loop-j-preserved
 loop-j-preserved c = jobs_written (ranked c.args.ranks.now c.args.instance.now) c.loop-j.j

@@ -1,9 +1,10 @@
-use Rattle.std.proofs.Common.{◌≡◌, inr, refl, subst, sym, ap, ◌∙◌, length, ℕ, arith, Some, None, ◌∷◌, ◌+◌, ◌<◌}
+use Rattle.std.proofs.lemmas.Grind.{common_steps}
+use Rattle.std.proofs.Common.{◌≡◌, inr, refl, sym, ap, ◌∙◌, length, ℕ, arith, None, ◌∷◌, ◌+◌, ◌<◌}
 use Rattle.std.specs.Prelude.{codes}
 use Rattle.std.proofs.lemmas.List.{length-map}
 use Rattle.shop_text.specs.Lines.{tokens_of}
 use Rattle.shop_text.specs.Schedules.{row_in}
-use Rattle.shop_text.specs.inner.ScheduleReading.{IsReadSoFar, rows_held, row_read}
+use Rattle.shop_text.specs.inner.ScheduleReading.{rows_held, row_read}
 use Rattle.shop_text.proofs.JobLineLemmas.{bad_line, missed_line, one_more, rows_push}
 use Rattle.shop_text.proofs.schedules.rows_in.Goals as goal
 
@@ -27,20 +28,7 @@ returns-in_default-2 c =
     ))
 
 pub loop-rest-preserved : goal.loop-rest-preserved
-loop-rest-preserved c =
-    let rows = c.loop-rest.rows
-    in let behind = tokens_of c.in-Some.behind.now
-    in let count : c.len.result ≡ length (rows_held c.loop-rest.rows) =
-    c.len.ensures ∙ omega (arith, c.loop-rest.rows.ok.0, length-map c.loop-rest.rows.items (λ row. row.items))
-    in let some : Some c.in-Some-2.row.items ≡ row_in c.args.instance.now (length (rows_held c.loop-rest.rows))
-    (codes "job" ∷ tokens_of c.in-Some.behind.now) =
-    sym (ap row_read c.in-Some-2.is) ∙ c.in_ok-row.ensures
-    ∙ ap (λ (j : ℕ). row_in c.args.instance.now j (codes "job" ∷ tokens_of c.in-Some.behind.now)) count
-    in subst (IsReadSoFar c.args.instance.now c.args.text.now (c.loop-rest.number + 1) c.next_line.result.1.now)
-    (sym (rows_push rows c.push.new.self c.in-Some-2.row c.in_ok-push.ensures.items))
-    (one_more c.args.instance.now c.args.text.now c.loop-rest.number c.loop-rest.rest.now c.next_line.result.0.now
-    c.next_line.result.1.now behind (rows_held rows) c.in-Some-2.row.items c.loop-rest.invariant
-    c.next_line.ensures.cut c.next_line.ensures.shorter c.in-Some.ensures some)
+loop-rest-preserved c = grind (arith, common_steps, length-map, rows_push, one_more)
 
 pub returns-else-len-jobs : goal.returns-else-len-jobs
 returns-else-len-jobs c =

@@ -1,4 +1,4 @@
-use Rattle.std.proofs.Common.{arith}
+use Rattle.std.proofs.Common.{arith, rules}
 use Rattle.shop_lanes.proofs.OwnRows.{owns_of_cut}
 use Rattle.shop_lanes.proofs.RowValues.{lanes_of_cut, long_cut}
 use Rattle.shop_lanes.proofs.block_lanes.BlockLanesStateLanes.own_spans.Goals as goal
@@ -7,7 +7,4 @@ pub own_spans-requires : goal.own_spans-requires
 own_spans-requires g c = grind (arith, long_cut, lanes_of_cut)
 
 pub returns-clause-owns : goal.returns-clause-owns
-returns-clause-owns g c =
-    let rows = c.rows.ensures
-    in owns_of_cut g.B.Block.value c.blocks-2.ensures rows.heads rows.times rows.tails c.requires.blocks
-    c.own_spans.new.owns c.own_spans.ensures.owns
+returns-clause-owns g c = search (rules, owns_of_cut)

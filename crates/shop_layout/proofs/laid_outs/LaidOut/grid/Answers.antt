@@ -1,9 +1,6 @@
-use Rattle.std.proofs.Common.{subst}
-use Rattle.shop_bound.specs.Renumbered.{IsRenumbered}
-use Rattle.shop_layout.specs.LaidOuts.{LaidOutState}
+use Rattle.std.proofs.Common.{arith}
 use Rattle.shop_layout.proofs.RankedShops.{is_renumbered}
 use Rattle.shop_layout.proofs.laid_outs.LaidOut.grid.Goals as goal
 
 pub returns-clause-renumbered : goal.returns-clause-renumbered
-returns-clause-renumbered g c = subst (λ (l : LaidOutState). IsRenumbered l.asked l.shop) c.self.view_is
-    (is_renumbered c.self.inside.ranks c.self.inside.instance.now c.self.invariant.2 c.self.invariant.3)
+returns-clause-renumbered g c = grind (arith, is_renumbered)

@@ -1,4 +1,4 @@
-use Rattle.std.proofs.Common.{◌≡◌, ◌∙◌, ℕ, ◌+◌, ◌-◌, ◌≤◌, ◌<◌, List, get_or, length, map, refl, ap, sym, subst, arith}
+use Rattle.std.proofs.Common.{rules, ◌≡◌, ◌∙◌, ℕ, ◌+◌, ◌-◌, ◌≤◌, ◌<◌, List, length, map, refl, ap, sym, subst, arith}
 use Rattle.std.specs.List.{All}
 use Rattle.std.specs.Prelude.{Vec}
 use Rattle.std.specs.declared.alloc.Global.{Global}
@@ -10,7 +10,7 @@ use Rattle.shop_layout.specs.Ranks.{AreRanks, ranked}
 use Rattle.shop_layout.specs.Slots.{AreMachineSlots}
 use Rattle.shop_layout.specs.inner.Layings.{AreCells, ArePlaces, AreShorter, place_after}
 use Rattle.shop_layout.specs.Positions.{AreMachinesOf}
-use Rattle.shop_layout.proofs.LaidLists.{blocks_few, blocks_rise, cells_known, laid_out, machine_few}
+use Rattle.shop_layout.proofs.LaidLists.{blocks_few, cells_known, laid_out, machine_few}
 use Rattle.shop_layout.proofs.RankedShops.{jobs_ranked, limits_ranked}
 use Rattle.shop_layout.proofs.RankedSlots.{places_ranked}
 use Rattle.shop_layout.proofs.positions.Positions.of.Goals as goal
@@ -35,9 +35,6 @@ module _ {shop : Shop} (limits : IsWithinLimits shop) {ranks : List ℕ} (by : A
 
     few : All (λ b. b ≤ 10000800) blocks
     few = blocks_few (ranked ranks shop) within (map (λ v. v.items) now) are cells blocks laid
-
-    rise : (m : ℕ) → m < shop.machines → get_or blocks m 0 ≤ get_or blocks (m + 1) 0
-    rise m known = blocks_rise (ranked ranks shop) within (map (λ v. v.items) now) are cells blocks laid m known
 
     known : {read : List Slot} → read ≡ cells → All (λ s. (s.job < length shop.jobs) × (s.step < 100)) read
     known e =
@@ -75,15 +72,7 @@ machines_of-requires c =
     c.in_ok-slots.ensures
     in let long = cells.machines
     in let many = c.keeps_limits.ensures.machines
-    in rw c.as_slice-8.ensures.value (record {
-      from_0 = cells.from_0;
-      some = omega arith;
-      ordered = λ m known. rise c.keeps_limits.ensures c.requires c.as_slice.ensures.value c.in_ok-lists.ensures
-          c.in_ok-slots.ensures m (omega arith);
-      few = few c.keeps_limits.ensures c.requires c.as_slice.ensures.value c.in_ok-lists.ensures
-          c.in_ok-slots.ensures;
-      small = omega arith;
-    })
+    in search (rules, few)
 
 pub following_of-requires : goal.following_of-requires
 following_of-requires c =
@@ -95,10 +84,8 @@ following_of-requires c =
           c.in_ok-slots.ensures c.as_slice-9.ensures.value (length c.as_slice-10.result.now)
           (ap length c.as_slice-10.ensures.value
           ∙ (sym (length-map c.in_ok-places.places.items (λ v. v.items)) ∙ rows));
-      steps = step_small c.keeps_limits.ensures c.requires c.as_slice.ensures.value c.in_ok-lists.ensures
-          c.in_ok-slots.ensures c.as_slice-9.ensures.value;
-      few = (let a = ap length c.as_slice-9.ensures.value in let b = cells.few
-          in let d = c.keeps_limits.ensures.machines in omega arith);
+      steps = grind (arith, step_small);
+      few = grind arith;
     }
 
 -- the lists that were lent, as they are
