@@ -70,7 +70,8 @@ pub(crate) fn leap<B: Block>(
     bound
 }
 
-/// Calls `leap` for any number of blocks, with a literal `count` for one to eight blocks. Kept out of line.
+/// Calls `leap` for any number of blocks, with a literal `count` for one to eight blocks, in lanes of 64 bits for one to
+/// three. Kept out of line.
 #[inline(never)]
 pub(crate) fn leap_over<B: Block>(
     rows: &LaneRows<B::Number>,
@@ -84,7 +85,7 @@ pub(crate) fn leap_over<B: Block>(
     ensures { IsRaisedBelow limit
         (max most (spans_between range.above range.upto (lanes_in B.value rows.now))) result }
 {
-    if are_wide::<B>() {
+    if are_wide::<B>() && rows.heads.len() > 24 {
         return leap::<B>(rows.heads.len(), rows, range, most, limit);
     }
     match rows.heads.len() {
