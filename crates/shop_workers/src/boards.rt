@@ -1,5 +1,5 @@
 // A board, on which threads claim the pieces of a round, and seats, the threads' handles on the board.
-ghost use Rattle.std.specs.Prelude.{◌≡◌, ◌+◌, ◌≤◌, [], ◌∷◌, ◌++◌, replicate, length, true, IfOk};
+ghost use Rattle.std.specs.Prelude.{◌≡◌, ℕ, ◌+◌, ◌≤◌, [], ◌∷◌, ◌++◌, replicate, length, true, IfOk};
 ghost use Rattle.shop_workers.specs.Views.{once, ArePieces};
 
 use crate::round_hits::RoundHits;
@@ -42,7 +42,7 @@ fn first_words(alloc: Global, pieces: usize) -> Result<Vec<u64>, NoMemory>
 }
 
 impl<'r> Board<'r> {
-    ghost use Rattle.std.specs.Prelude.{◌<◌, ℕ};
+    ghost use Rattle.std.specs.Prelude.{◌<◌};
     ghost use Rattle.shop_runs.specs.Hits.{hits_of_round, is_hit_in, IsHitOrEnd, IsLeastHit};
     ghost use Rattle.shop_workers.specs.Views.{has, HasServed, HasAll};
     ghost use Rattle.shop_workers.specs.Moves.{newcomer, empty_handed, joined};
