@@ -1,5 +1,5 @@
 // A board, on which threads claim the pieces of a round, and seats, the threads' handles on the board.
-ghost use Rattle.std.specs.Prelude.{◌≡◌, ◌+◌, ◌≤◌, [], ◌∷◌, ◌++◌, replicate, length, true, IfOk};
+ghost use Rattle.std.specs.Prelude.{◌≡◌, ℕ, ◌+◌, ◌≤◌, [], ◌∷◌, ◌++◌, replicate, length, true, IfOk};
 ghost use Rattle.shop_workers.specs.Views.{once, ArePieces};
 
 use crate::round_hits::RoundHits;
