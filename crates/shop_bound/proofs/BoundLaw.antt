@@ -1,5 +1,5 @@
 -- No table under a word ends before the word's lower bound.
-use Rattle.std.proofs.Common.{◌≡◌, ℕ, zero, suc, ◌+◌, ◌-◌, ◌≤◌, ◌<◌, max, ◌⊎◌, inl, inr, List, [], ◌∷◌, length}
+use Rattle.std.proofs.Common.{◌≡◌, ℕ, zero, suc, ◌+◌, ◌-◌, ◌≤◌, ◌<◌, max, ◌⊎◌, inl, inr, List, [], ◌∷◌, length, rules}
 use Rattle.std.proofs.Common.{map, drop, get_or, refl, sym, ◌∙◌, ap, arith, eqb}
 use Rattle.std.specs.List.{AllByRecursion, filter, flat_map, sum_by, range_with_len}
 use Rattle.std.proofs.lemmas.Bool.{cases_lt, eqb-true}
@@ -71,12 +71,7 @@ module _ (shop : Shop) (starts : Starts) (feasible : IsFeasible shop starts) whe
       in let fm : free (machine_of shop j k) ≡ free o.machine = ap free m
       in let a = r x.0
       in let b = f k (omega arith) x.0
-      in (
-        record { operation = x.0; machine = sym m; time = sym t; head = omega arith; tail = rest_fits j k o os e },
-        waiting_from-fits free j (k + 1) (max ready (free o.machine) + o.time) os x.2
-            (λ op. let c = feasible.in_order j k op in omega arith)
-            (λ l h op. f l (omega arith) op),
-      )
+      in grind (arith, rest_fits, waiting_from-fits free j (k + 1) (max ready (free o.machine) + o.time) os x.2)
 
   pub waiting-fits : (p : Placing) → Follows shop p starts → (js : List ℕ)
       → AllByRecursion (Fits shop starts) (flat_map (λ j. waiting_of shop p j) js)
@@ -215,8 +210,4 @@ full_word shop w full =
     (λ k. finish_of shop p.begins j k)) (λ j. greatest_below (p.steps j) (λ k. finish_of shop p.begins j k))
     (length shop.jobs)
     (λ j _. ap (λ n. greatest_below n (λ k. finish_of shop p.begins j k)) (sym (full j) ∙ sym (a.steps j)))
-    in record {
-      feasible = whole.feasible;
-      under = λ v later e. under_beginning shop w v later p.begins e whole;
-      ends = omega arith;
-    }
+    in search (rules, under_beginning)

@@ -1,6 +1,5 @@
 -- What a desk's trail says after one more dispatch, and without the last one.
-use Rattle.std.proofs.Common.{rules}
-use Rattle.std.proofs.Common.{◌≡◌, ℕ, ◌≤◌, List, [], ◌∷◌, ◌++◌, length, get_or, refl, arith, vec_capacity}
+use Rattle.std.proofs.Common.{rules, ◌≡◌, ℕ, ◌≤◌, List, [], ◌∷◌, ◌++◌, length, get_or, refl, arith, vec_capacity}
 use Rattle.std.specs.List.{fold}
 use Rattle.shop_model.specs.declared.ops.Op.{Op}
 use Rattle.shop_model.specs.Shop.{Shop, no_op, route_of}
@@ -67,8 +66,7 @@ dispatched d j is fits e shop jobs r more replaced places jobs_room replaced_roo
       limits = is.limits;
       word = rw jobs fits;
       placed = rw (jobs, placing-snoc s d.jobs.items j) (places (placing s d.jobs.items) is.placed);
-      replaced = rw (jobs, more)
-          (replaced_more s (none_placed s) d.jobs.items d.replaced.items j r is.replaced replaced);
+      replaced = grind (arith, replaced_more);
       jobs_room = omega arith;
       replaced_room = omega arith;
       room = rw room is.room;

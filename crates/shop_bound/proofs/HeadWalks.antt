@@ -1,10 +1,10 @@
 -- The operations that wait, as the walk along the routes lists them, have the heads and the tails of their
 -- definitions.
-use Rattle.std.proofs.Common.{◌≡◌, ℕ, ◌+◌, ◌-◌, ◌≤◌, List, [], ◌∷◌, length, map, drop, get_or, refl, arith}
+use Rattle.std.proofs.Common.{◌≡◌, ℕ, ◌+◌, ◌-◌, ◌≤◌, List, [], ◌∷◌, length, map, drop, refl, arith}
 use Rattle.std.specs.List.{flat_map, range_with_len}
 use Rattle.std.proofs.lemmas.List.{length-drop}
 use Rattle.shop_model.specs.declared.ops.Op.{Op}
-use Rattle.shop_model.specs.Shop.{Shop, no_op, route_of}
+use Rattle.shop_model.specs.Shop.{Shop, route_of}
 use Rattle.shop_model.specs.Word.{Placing}
 use Rattle.shop_bound.specs.Bound.{waiting_from, waiting_of, waiting}
 use Rattle.shop_bound.specs.Heads.{ready_after, waiting_at, steps_left}
@@ -17,12 +17,7 @@ module _ (shop : Shop) (p : Placing) (j : ℕ) where
       → waiting_from p.free j k (ready_after shop p j (k - p.steps j)) os
       ≡ map (waiting_at shop p j) (range_with_len k (length os))
   walk_from k [] e h = refl
-  walk_from k (o ∷ os) e h =
-      let front = front_of (route_of shop j) k o os e
-      in let more = ready_more shop p j k h
-      in let rest = walk_from (k + 1) os front.2 (omega arith)
-      in let here = get_or (route_of shop j) k no_op
-      in grind (arith, front, more, rest, here)
+  walk_from k (o ∷ os) e h = grind (arith, front_of, ready_more, walk_from (k + 1) os)
 
   waiting_of-is : waiting_of shop p j ≡ map (waiting_at shop p j) (steps_left shop p j)
   waiting_of-is =

@@ -38,10 +38,7 @@ length-triples m free j k ready (o ∷ os) =
     let head = max ready (free o.machine)
     in let rest = length-triples m free j (k + 1) (head + o.time) os
     in let more = sum_by-cons (λ (p : Op). visit m p) o os
-    in elim (cases_eq o.machine m) [
-      | inl e ↦ grind (arith, first_on, visit_on)
-      | inr n ↦ grind (arith, first_off, visit_off)
-    ]
+    in grind (arith, cases_eq, first_on, visit_on, first_off, visit_off)
 
 -- a list of vectors, at one of which another stands
 module _ (lists : List (Vec Triple Global)) (i : ℕ) (now new : Vec Triple Global) (here : i < length lists)

@@ -1,16 +1,13 @@
 -- What a turn of a schedule does to the operations that are not done.
-use Rattle.std.proofs.Common.{rules}
-use Rattle.std.proofs.Common.{◌≡◌, ◌≢◌, ℕ, zero, suc, ◌+◌, ◌≤◌, ◌<◌, min, ◌⊎◌, inl, inr, true, false, cond, ◌==◌}
-use Rattle.std.proofs.Common.{List, []}
-use Rattle.std.proofs.Common.{◌∷◌, length, get_or, map, Option, Some, None, refl, sym, ◌∙◌, ap, subst, arith, eq-eqb}
+use Rattle.std.proofs.Common.{rules, ◌≡◌, ◌≢◌, ℕ, zero, suc, ◌+◌, ◌≤◌, ◌<◌, min, inl, inr, true, false, cond, ◌==◌}
+use Rattle.std.proofs.Common.{List, [], ◌∷◌, length, get_or, map, Option, Some, None, refl, sym, ◌∙◌, ap, subst, arith}
+use Rattle.std.proofs.Common.{eq-eqb}
 use Rattle.std.specs.BinaryHeap.{heap_items, heap_len, heap_capacity}
-use Rattle.std.specs.List.{All, AllByRecursion}
+use Rattle.std.specs.List.{All}
 use Rattle.std.specs.Prelude.{IsPermutation}
-use Rattle.std.specs.Ordering.{nat_cmp, ordering_then, is_lt}
 use Rattle.std.proofs.Math.ListN.{set}
 use Rattle.std.specs.Option.{MatchOption, is_some}
-use Rattle.std.proofs.lemmas.Bool.{cases_Bool, cases_lt, cases_eq, cases_order, ne_eqb, lt-ltb, le-ltb, true≢false}
-use Rattle.std.proofs.lemmas.Map.Keys.{ge_from_not_lt}
+use Rattle.std.proofs.lemmas.Bool.{cases_Bool, cases_lt, cases_eq, ne_eqb, true≢false}
 use Rattle.std.proofs.lemmas.List.{get_or-set_same, get_or-set_other, length-set, length-map}
 use Rattle.std.proofs.lemmas.List.Elements.{All-cons, All-head, All-tail}
 use Rattle.std.proofs.lemmas.List.Sums.{sum_by-cons}
@@ -19,7 +16,7 @@ use Rattle.shop_bound.specs.declared.triples.Triple.{Triple}
 use Rattle.shop_bound.specs.declared.works.Work.{Work}
 use Rattle.shop_bound.specs.inner.Thresholds.{no_triple}
 use Rattle.shop_bound.specs.inner.Serving.{work_at, fresh, undone_of, Waits, IsServed, IsStop, IsReady}
-use Rattle.shop_bound.specs.inner.HeapOrders.{Coming, Waiting, by_head}
+use Rattle.shop_bound.specs.inner.HeapOrders.{Coming, Waiting}
 use Rattle.shop_bound.specs.inner.Queues.{coming_place, waiting_place, times, IsToCome, IsInLine}
 use Rattle.shop_bound.specs.inner.Queues.{AreQueued, ComeLater, IsNextRelease, IsBehind, IsFirst, TakesReleased}
 use Rattle.shop_bound.specs.inner.Queues.{IsQueue, IsWithoutFirst, KeepsRoom}
@@ -64,17 +61,6 @@ module _ {A : Type 0} (place : A → ℕ) where
 
   pub all-top : (P : A → Type 0) (xs : List A) (x : A) → 0 < length xs → x ≡ get_or xs 0 x → All P xs → P x
   all-top P xs x some top all = subst P (sym top) (all 0 x some)
-
--- what a heap's order says of its top
-then_less : (a b c d : ℕ) → is_lt (ordering_then (nat_cmp a b) (nat_cmp c d)) ≡ false
-    → (b < a) ⊎ ((b ≡ a) × (d ≤ c))
-then_less a b c d h = grind (arith, cases_order, ge_from_not_lt, le-ltb, eq-eqb, true≢false, lt-ltb)
-
-pub least_from : (c : Coming) (cs : List Coming)
-    → AllByRecursion (λ d. is_lt (by_head c d) ≡ false) cs
-    → All (λ d. c.0.0 ≤ d.0.0) cs
-least_from c [] h = λ k d l. absurd (omega arith)
-least_from c (x ∷ xs) h = grind (arith, then_less, least_from c xs h.1)
 
 -- how many of an operation that is done, and of one that isn't
 count_done : (w : Work) → w.done ≡ true → undone_of w ≡ 0

@@ -1,5 +1,5 @@
 -- Lists of operations whose heads are raised, and from which one is taken.
-use Rattle.std.proofs.Common.{◌≡◌, ℕ, ◌+◌, ◌≤◌, ◌⊎◌, inl, inr, List, [], ◌∷◌, ◌++◌, refl, arith}
+use Rattle.std.proofs.Common.{◌≡◌, ℕ, ◌+◌, ◌≤◌, ◌⊎◌, inl, inr, List, [], ◌∷◌, ◌++◌, refl, arith, rules}
 use Rattle.std.specs.List.{AllByRecursion, sum_by}
 use Rattle.std.proofs.lemmas.Bool.{cases_Bool}
 use Rattle.std.proofs.lemmas.List.Sums.{sum_by-cons}
@@ -48,10 +48,7 @@ raised_times : (xs ys : List Triple) → AreRaised xs ys → sum_by (λ t. t.tim
 raised_times [] [] r = refl
 raised_times [] (y ∷ ys) r = absurd r
 raised_times (x ∷ xs) [] r = absurd r
-raised_times (x ∷ xs) (y ∷ ys) r =
-    let a = raised_times xs ys r.3 in let b = r.1
-    in let c =
-    sum_by-cons (λ (t : Triple). t.time) x xs in let d = sum_by-cons (λ (t : Triple). t.time) y ys in omega arith
+raised_times (x ∷ xs) (y ∷ ys) r = search (rules, sum_by-cons, raised_times xs ys r.3)
 
 -- so no span falls
 span_raised : (xs ys : List Triple) → AreRaised xs ys → span_of xs ≤ span_of ys

@@ -1,6 +1,6 @@
 -- Instances that differ in the numbers of their machines alone have the same words, with the same bounds and conflict
 -- sets.
-use Rattle.std.proofs.Common.{◌≡◌, ℕ, suc, ◌+◌, ◌≤◌, ◌<◌, max, inl, inr, Bool, List, [], ◌∷◌, length}
+use Rattle.std.proofs.Common.{◌≡◌, ℕ, suc, ◌+◌, ◌≤◌, ◌<◌, max, Bool, List, [], ◌∷◌, length, rules}
 use Rattle.std.proofs.Common.{drop, get_or, eqb, refl, sym, ◌∙◌, ap, arith, eq-eqb, ◌↔◌}
 use Rattle.std.specs.List.{AllByRecursion, AllZip, filter, flat_map, range_with_len, sum_by}
 use Rattle.std.proofs.lemmas.Bool.{cases_eq, eqb-true, ltb-true, ne_eqb}
@@ -50,10 +50,7 @@ module _ (f g : ℕ → ℕ) (m n : ℕ) where
   times_same [] [] h = refl
   times_same [] (p ∷ ps) h = absurd h
   times_same (o ∷ os) [] h = absurd h
-  times_same (o ∷ os) (p ∷ ps) h =
-      let a = sum_by-cons (λ (o : Op). o.time) o os
-      in let b = sum_by-cons (λ (o : Op). o.time) p ps
-      in let c = times_same os ps h.1 in let d = h.0.0 in omega arith
+  times_same (o ∷ os) (p ∷ ps) h = search (rules, sum_by-cons, times_same os ps h.1)
 
   -- what waits of two such routes on the two machines has the same triples
   walk_same : (j k r : ℕ) (os ps : List Op) → AllZip (AreOne f g m n) os ps
@@ -67,10 +64,7 @@ module _ (f g : ℕ → ℕ) (m n : ℕ) where
       in let tail = times_same os ps h.1
       in let here : head ≡ max r (g p.machine) = ap (max r) (sym h.0.1)
       in let rest = walk_same j (k + 1) (head + o.time) os ps h.1
-      in elim (cases_eq o.machine m) [
-        | inl e ↦ grind (arith, first_on)
-        | inr ne ↦ grind (arith, first_off)
-      ]
+      in grind (arith, cases_eq, first_on, first_off)
 
 -- An operation that waits is one of the instance, on its machine.
 abbrev IsKnown : Shop → Waiting → Type 0
@@ -80,11 +74,7 @@ known_walk : (shop : Shop) (free : ℕ → ℕ) (j k r : ℕ) (os : List Op) →
     → AllByRecursion (IsKnown shop) (waiting_from free j k r os)
 known_walk shop free j k r [] e = tt
 known_walk shop free j k r (o ∷ os) e =
-    let front = front_of (route_of shop j) k o os e
-    in (
-      (front.0, ap (λ (p : Op). p.machine) (sym front.1)),
-      known_walk shop free j (k + 1) (max r (free o.machine) + o.time) os front.2,
-    )
+    grind (arith, front_of, known_walk shop free j (k + 1) (max r (free o.machine) + o.time) os)
 
 known_jobs : (shop : Shop) (p : Placing) (js : List ℕ)
     → AllByRecursion (IsKnown shop) (flat_map (λ j. waiting_of shop p j) js)

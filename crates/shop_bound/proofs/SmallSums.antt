@@ -1,5 +1,5 @@
 -- Within the limits no sum of what a word leaves is large.
-use Rattle.std.proofs.Common.{◌≡◌, ℕ, zero, suc, ◌+◌, ◌*◌, ◌^◌, ◌≤◌, ◌<◌, max, List, [], ◌∷◌, length}
+use Rattle.std.proofs.Common.{ℕ, zero, suc, ◌+◌, ◌*◌, ◌^◌, ◌≤◌, ◌<◌, max, List, [], ◌∷◌, length, rules}
 use Rattle.std.proofs.Common.{length-append, map, drop, get_or, eqb, arith}
 use Rattle.std.specs.List.{AllByRecursion, filter, flat_map, range_with_len, sum_by}
 use Rattle.std.proofs.lemmas.List.{get_or-drop, length-drop, length-map}
@@ -86,9 +86,7 @@ module _ (shop : Shop) (limits : IsWithinLimits shop) (w : List ℕ) (word : IsW
       times-le : (ts : List Triple) → AllByRecursion (λ x. x.time ≤ 1000000000) ts
           → sum_by (λ x. x.time) ts ≤ length ts * 1000000000
       times-le [] h = omega arith
-      times-le (x ∷ xs) h =
-          let a = times-le xs h.1 in let b = sum_by-cons (λ (y : Triple). y.time) x xs in let c = h.0
-          in let m : suc (length xs) * 1000000000 ≡ length xs * 1000000000 + 1000000000 = omega arith in omega arith
+      times-le (x ∷ xs) h = search (rules, sum_by-cons, times-le xs h.1)
 
   all_triples : (P : Triple → Type 0) (ws : List Waiting) → AllByRecursion (λ x. P x.triple) ws
       → AllByRecursion P (map (λ x. x.triple) ws)

@@ -1,6 +1,5 @@
 -- How many turns are left, and how many works are not done.
-use Rattle.std.proofs.Common.{◌≡◌, ℕ, zero, suc, ◌+◌, ◌≤◌, ◌<◌, inl, inr, true, false}
-use Rattle.std.proofs.Common.{List, [], ◌∷◌, length, refl, arith}
+use Rattle.std.proofs.Common.{◌≡◌, ℕ, zero, suc, ◌+◌, ◌≤◌, ◌<◌, true, false, List, [], ◌∷◌, length, refl, arith}
 use Rattle.std.proofs.Math.ListN.{set}
 use Rattle.std.proofs.lemmas.Bool.Decides.{nat_tests}
 use Rattle.std.proofs.lemmas.List.Sums.{sum_by-cons, sum_by-set}
@@ -49,9 +48,7 @@ turns_left-done ws i a v lt same done undone = grind (arith, sum_by-set)
 
 pub ready_turns : (ws : List Work) (clock ready : ℕ) → IsReady ws clock ready
     → turns_left ws ready ≤ turns_left ws clock
-ready_turns ws clock ready (inl w) = turns_left-le ws clock ready (let e = w.1 in omega arith)
-ready_turns ws clock ready (inr (inl r)) = turns_left-le ws clock ready (let e = r.later in omega arith)
-ready_turns ws clock ready (inr (inr d)) = turns_left-le ws clock ready (let e = d.1 in omega arith)
+ready_turns ws clock ready x = grind (arith, turns_left-le)
 
 -- a turn ends one operation at most, so that each takes a turn
 pub undone_of-one : (w : Work) → undone_of w ≤ 1

@@ -1,5 +1,5 @@
 -- Rounds up to the answer.
-use Rattle.std.proofs.Common.{◌≡◌, ℕ, zero, suc, ◌+◌, ◌-◌, ◌*◌, ◌≤◌, ◌<◌, List, [], ◌∷◌, ◌++◌, length, refl, sym}
+use Rattle.std.proofs.Common.{◌≡◌, ℕ, suc, ◌+◌, ◌-◌, ◌*◌, ◌≤◌, ◌<◌, List, [], ◌++◌, length, refl, sym}
 use Rattle.std.proofs.Common.{◌∙◌, ap, subst, arith, append-nil, ltb}
 use Rattle.std.specs.Prelude.{unwrap_or}
 use Rattle.std.proofs.lemmas.List.Elements.{All-filter}
@@ -8,16 +8,13 @@ use Rattle.std.proofs.lemmas.List.{length-map}
 use Rattle.shop_runs.specs.Plans.{Planned, planned}
 use Rattle.shop_runs.specs.declared.plans.Plan.{Plan}
 use Rattle.shop_nodes.specs.declared.nodes.Node.{Node}
-use Rattle.shop_runs.specs.Round.{Stand, Told, cut_of, gathered, round}
+use Rattle.shop_runs.specs.Round.{Stand, Told, cut_of, gathered, round, opening, in_order, words_below}
 use Rattle.shop_runs.specs.Answers.{rounds_from, unless_closed, answer}
-use Rattle.shop_runs.specs.Round.{opening}
 use Rattle.shop_runs.specs.Laws.{StandsCovering}
 use Rattle.shop_runs.specs.Trust.{IsTrustworthy}
-use Rattle.shop_nodes.specs.Nodes.{words_of}
+use Rattle.shop_nodes.specs.Nodes.{words_of, IsNode, AreNodes}
 use Rattle.shop_bound.specs.Bound.{lb}
-use Rattle.shop_nodes.specs.Nodes.{IsNode, AreNodes}
 use Rattle.shop_runs.specs.Entries.{told}
-use Rattle.shop_runs.specs.Round.{in_order, words_below}
 use Rattle.shop_runs.specs.Runs.{Says}
 use Rattle.shop_runs.specs.declared.open_nodes.OpenNodes.{OpenNodes}
 use Rattle.shop_runs.specs.declared.plans.Order.{Order}
@@ -47,22 +44,16 @@ pub goes_first : (shop : Shop) (plan : Planned) → GoesTo shop plan 0 (opening 
 goes_first shop plan = grind arith
 
 pub closed : (shop : Shop) (plan : Planned) (n : ℕ) (s : Stand) → s.open_words ≡ [] → rounds_from shop plan n s ≡ s
-closed shop plan zero s e = refl
-closed shop plan (suc n) s e = ap (λ ws. unless_closed ws s (λ t. rounds_from shop plan n (round shop plan t))) e
+closed shop plan x s e = grind arith
 
 opened : (s : Stand) (go : Stand → Stand) (ws : List (List ℕ)) → 0 < length ws → unless_closed ws s go ≡ go s
-opened s go [] h = absurd (omega arith)
-opened s go (w ∷ ws) h = refl
+opened s go x h = grind arith
 
 pub goes_on : (shop : Shop) (plan : Planned) (i : ℕ) (s : Stand) → GoesTo shop plan i s → i < plan.rounds
     → 0 < length s.open_words → GoesTo shop plan (i + 1) (round shop plan s)
 goes_on shop plan i s g h o =
     let e : plan.rounds - i ≡ suc (plan.rounds - (i + 1)) = omega arith
-    in record {
-      within = omega arith;
-      goes_to = sym (opened s (λ t. rounds_from shop plan (plan.rounds - (i + 1)) (round shop plan t)) s.open_words o)
-          ∙ (sym (ap (λ n. rounds_from shop plan n s) e) ∙ g.goes_to);
-    }
+    in grind (arith, opened)
 
 pub goes_closed : (shop : Shop) (plan : Planned) (i : ℕ) (s : Stand) → GoesTo shop plan i s → s.open_words ≡ []
     → s ≡ answer shop plan

@@ -1,6 +1,5 @@
 -- How far the rounds done and the nodes counted rise in a round.
-use Rattle.std.proofs.Common.{◌≡◌, ℕ, zero, suc, ◌+◌, ◌*◌, ◌≤◌, Option, Some, None, List, [], ◌∷◌}
-use Rattle.std.proofs.Common.{length, refl, arith}
+use Rattle.std.proofs.Common.{◌≡◌, ℕ, zero, suc, ◌+◌, ◌*◌, ◌≤◌, Option, Some, None, List, [], ◌∷◌, length, arith}
 use Rattle.std.specs.List.{sum_by}
 use Rattle.std.proofs.lemmas.List.{length-map}
 use Rattle.std.proofs.lemmas.List.Sums.{sum_by-cons}
@@ -33,8 +32,7 @@ module _ where
   after_le : (r : Told) (ss : List Walk) (o : Option (Walk × List Walk)) → few_counted r.bound (length ss) ss o
       → ((after_round r ss o).rounds ≡ r.rounds + 1) × ((after_round r ss o).nodes ≤ r.nodes + length ss * r.budget)
   unfolding few_counted
-  after_le r ss None h = (refl, (let a = taken-le r.budget ss in omega arith))
-  after_le r ss (Some (k, counted)) h = grind (arith, taken-le, times-le)
+  after_le r ss x h = grind (arith, taken-le, times-le)
 
 pub counts_small : CountsStaySmall
 counts_small r = grind (arith, after_le, counted-le, length-map)

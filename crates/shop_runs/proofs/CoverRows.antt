@@ -1,6 +1,5 @@
 -- Worked rows of what is said of all tables: lying under a word, the least makespan, and covering.
-use Rattle.std.proofs.Common.{◌≡◌, ℕ, zero, suc, ◌≤◌, List, [], ◌∷◌, ◌++◌, refl}
-use Rattle.std.proofs.Common.{arith, lit<, lit≤}
+use Rattle.std.proofs.Common.{◌≡◌, ℕ, zero, suc, ◌≤◌, List, [], ◌∷◌, ◌++◌, refl, arith, lit<, lit≤}
 use Rattle.shop_model.specs.Shop.{IsOperation, IsFeasible, IsLeast, Starts, machine_of, finish_of}
 use Rattle.shop_model.specs.Word.{count_of, IsUnder}
 use Rattle.shop_model.specs.Checking.{starts_of}

@@ -1,6 +1,5 @@
 -- Rounds keep the cover.
-use Rattle.std.proofs.Common.{◌≡◌, ◌≤◌, ◌⊎◌, inl, inr, Option, Some, None, List, [], ◌∷◌, ◌++◌}
-use Rattle.std.proofs.Common.{refl, sym, subst, arith}
+use Rattle.std.proofs.Common.{◌≡◌, ◌≤◌, ◌⊎◌, inl, inr, Option, Some, None, List, [], ◌∷◌, ◌++◌, refl, sym, subst, arith}
 use Rattle.std.specs.Prelude.{Contains}
 use Rattle.std.specs.List.{AllByRecursion, flat_map}
 use Rattle.shop_model.specs.Shop.{Shop, Starts, IsFeasible, end_of}
@@ -13,9 +12,8 @@ use Rattle.shop_nodes.proofs.Members.{In, in_contains, contains_in, all_contains
 use Rattle.shop_nodes.proofs.Members.{in_flat_map, in_left, in_right}
 use Rattle.shop_nodes.proofs.Found.{searches_keep}
 use Rattle.shop_runs.specs.Plans.{Planned}
-use Rattle.shop_runs.specs.Round.{Stand, Told, words_of_round, sheet_in, sheets_of, cut_of, in_order}
-use Rattle.shop_runs.specs.Round.{up_to_hit, best_word, after_round}
-use Rattle.shop_runs.specs.Round.{Covers}
+use Rattle.shop_runs.specs.Round.{Stand, Told, words_of_round, sheet_in, sheets_of, cut_of, in_order, up_to_hit}
+use Rattle.shop_runs.specs.Round.{best_word, after_round, Covers}
 use Rattle.shop_runs.specs.Laws.{IsStanding, StandsCovering, IsRound, OpeningCovers, CutsCover, GatheringCovers}
 use Rattle.shop_runs.specs.Laws.{RoundsKeepTheCover}
 use Rattle.shop_runs.proofs.Opening.{start_full}
@@ -91,8 +89,7 @@ module _ (r : Told) (is : IsRound r) (covers : Covers r.shop r.best (words_of_ro
           ])
       | inr k ↦ inr (record {
         word = h.word;
-        member = contains_in h.word (flat_map (λ t. t.left) (sheets_of r) ++ r.rest)
-            (in_right h.word (flat_map (λ t. t.left) (sheets_of r)) r.rest k);
+        member = grind (arith, contains_in, in_right);
         better = h.better;
         under = h.under;
         ends = h.ends;
@@ -108,18 +105,14 @@ module _ (r : Told) (is : IsRound r) (covers : Covers r.shop r.best (words_of_ro
         after_is_standing r is None e,
         λ starts f. elim (keeps_open b starts f) [
           | inl a ↦ inl a
-          | inr h ↦ still_better r.shop (lb r.shop (best_word r.best r.word (sheets_of r)))
-              (flat_map (λ t. t.left) (sheets_of r) ++ r.rest) starts (open_all r is) h
+          | inr h ↦ grind (arith, still_better, open_all)
         ],
       )
   after_keeps (Some (h, counted)) e =
       let m = hit_in r.bound (sheets_of r) h counted e
       in let k = in_all (IsOfRound r.shop r.best) h (sheets_of r) m.0 (known r is)
       in let f = found_is r.shop r.word r.best r.bound h.found h.best is.best is.full k.found m.1
-      in (
-        after_is_standing r is (Some (h, counted)) e,
-        λ starts feasible. let a = opening_bound starts feasible in let b = f.1 in inl (omega arith),
-      )
+      in grind (arith, after_is_standing, opening_bound)
 
 pub gather_covers : GatheringCovers
 gather_covers r k = after_keeps r k.0 k.1 (up_to_hit r.bound (sheets_of r)) refl

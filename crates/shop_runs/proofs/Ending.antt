@@ -9,11 +9,9 @@ use Rattle.shop_nodes.specs.Branching.{insert_by, sort_by}
 use Rattle.shop_nodes.specs.Walking.{Walk}
 use Rattle.shop_nodes.proofs.Members.{in_all}
 use Rattle.shop_runs.specs.declared.plans.Order.{Order}
-use Rattle.shop_runs.specs.declared.plans.Order.TheVariants.{Kept, Bound}
 use Rattle.shop_runs.specs.Plans.{Planned}
-use Rattle.shop_runs.specs.Round.{Stand, Told, cut_into, in_order, up_to_hit, after_round}
-use Rattle.shop_runs.specs.Round.{words_of_round, sheet_in, sheets_of, cut_of, round}
-use Rattle.shop_runs.specs.Round.{opening, makespan_of}
+use Rattle.shop_runs.specs.Round.{Stand, Told, cut_into, in_order, up_to_hit, after_round, words_of_round, sheet_in}
+use Rattle.shop_runs.specs.Round.{sheets_of, cut_of, round, opening, makespan_of}
 use Rattle.shop_runs.specs.Answers.{unless_closed, rounds_from, answer}
 use Rattle.shop_runs.specs.Laws.{IsStanding, IsRound}
 use Rattle.shop_runs.specs.Exact.{with_rounds, SearchesEnd, MoreRoundsAreNoWorse, SolvedStays}
@@ -41,8 +39,7 @@ module _ (shop : Shop) where
   size_sort key (w ∷ ws) = grind (arith, size_insert, size_cons, size_sort key ws)
 
   size_order : (order : Order) (ws : List (List ℕ)) → size_all shop (in_order shop order ws) ≡ size_all shop ws
-  size_order Kept ws = refl
-  size_order Bound ws = size_sort (lb shop) ws
+  size_order x ws = grind (arith, size_sort)
 
   size_zero : (ws : List (List ℕ)) → size_all shop ws ≤ 0 → ws ≡ []
   size_zero [] h = refl
@@ -82,12 +79,7 @@ module _ (r : Told) where
   -- what stands open after a round is smaller than what was open before it
   after_smaller : (o : Option (Walk × List Walk)) → 1 ≤ r.budget → HasFirst r.pieces
       → size_all r.shop (after_round r (sheets_of r) o).open_words < size_all r.shop (words_of_round r)
-  after_smaller None some first = grind (arith, size_filter, size_append, lefts_less)
-  after_smaller (Some (h, counted)) some first =
-      let z = size_none r.shop
-      in let c = size_append r.shop (flat_map (λ p. p) r.pieces) r.rest
-      in let d = lefts_less r.pieces some first
-      in omega arith
+  after_smaller x some first = grind (arith, size_filter, size_append, lefts_less, size_none)
 
   -- and the makespan is no greater
   after_no_worse : IsRound r → (o : Option (Walk × List Walk)) → up_to_hit r.bound (sheets_of r) ≡ o
@@ -126,8 +118,7 @@ module _ (shop : Shop) (plan : Planned) where
 
   unless_ends : (ws : List (List ℕ)) (s : Stand) (go : Stand → Stand) → s.open_words ≡ ws
       → (0 < length ws → (go s).open_words ≡ []) → (unless_closed ws s go).open_words ≡ []
-  unless_ends [] s go e h = e
-  unless_ends (w ∷ ws) s go e h = h (omega arith)
+  unless_ends x s go e h = grind arith
 
   -- as many rounds as there are words below the open ones are enough
   ends : 1 ≤ plan.budget → 1 ≤ plan.piece → (n : ℕ) (s : Stand) → size_all shop s.open_words ≤ n
@@ -140,8 +131,7 @@ module _ (shop : Shop) (plan : Planned) where
   unless_no_worse : (ws : List (List ℕ)) (s : Stand) (go : Stand → Stand)
       → makespan_of shop (go s) ≤ makespan_of shop s
       → makespan_of shop (unless_closed ws s go) ≤ makespan_of shop s
-  unless_no_worse [] s go h = omega arith
-  unless_no_worse (w ∷ ws) s go h = h
+  unless_no_worse x s go h = grind arith
 
   no_worse : (n : ℕ) (s : Stand) → IsStanding shop s → makespan_of shop (rounds_from shop plan n s) ≤ makespan_of shop s
   no_worse zero s is = omega arith
@@ -151,8 +141,7 @@ module _ (shop : Shop) (plan : Planned) where
 
   unless_stands : (ws : List (List ℕ)) (s : Stand) (go : Stand → Stand) → IsStanding shop s → IsStanding shop (go s)
       → IsStanding shop (unless_closed ws s go)
-  unless_stands [] s go is h = is
-  unless_stands (w ∷ ws) s go is h = h
+  unless_stands x s go is h = grind arith
 
   stay_standings : (n : ℕ) (s : Stand) → IsStanding shop s → IsStanding shop (rounds_from shop plan n s)
   stay_standings zero s is = is
@@ -164,8 +153,7 @@ module _ (shop : Shop) (plan : Planned) where
       ≡ rounds_from shop plan k (rounds_from shop plan n (round shop plan s))
       → unless_closed ws s (λ t. rounds_from shop plan (n + k) (round shop plan t))
       ≡ rounds_from shop plan k (unless_closed ws s (λ t. rounds_from shop plan n (round shop plan t)))
-  split n k s [] e h = sym (closed shop plan k s e)
-  split n k s (w ∷ ws) e h = h
+  split n k s x e h = grind (arith, closed)
 
   -- n rounds, and then k more
   in_two : (n k : ℕ) (s : Stand) → rounds_from shop plan (n + k) s ≡ rounds_from shop plan k (rounds_from shop plan n s)

@@ -1,6 +1,5 @@
 -- The front that is cut off a run's open nodes.
-use Rattle.std.proofs.Common.{rules}
-use Rattle.std.proofs.Common.{◌≡◌, ℕ, ◌*◌, ◌<◌, ◌≤◌, List, [], length, take, drop, sym, ◌∙◌, ap, subst, arith}
+use Rattle.std.proofs.Common.{rules, ◌≡◌, ℕ, ◌*◌, ◌<◌, ◌≤◌, List, [], length, take, drop, sym, ◌∙◌, ap, subst, arith}
 use Rattle.std.proofs.lemmas.List.{drop-map, length-map}
 use Rattle.std.proofs.lemmas.List.Elements.{All-take}
 use Rattle.shop_model.specs.Shop.{Shop}
@@ -59,17 +58,7 @@ module _ (shop : Shop) (plan : Planned) (t : OpenRun) (bound : ℕ) (front : Lis
         ∙ cut_front 256 plan.piece (256 * plan.piece) nodes cut.some (omega arith))) ∙ ap (cut_into 256 plan.piece)
         words
         in let others : words_of rest ≡ [] = ap words_of none
-        in (λ i. record {
-          shop = shop;
-          word = t.word;
-          best = best i;
-          bound = least i;
-          budget = plan.budget;
-          pieces = all i;
-          rest = others i;
-          rounds = t.rounds;
-          nodes = t.nodes;
-        })
+        in grind arith
 
     pub made_round : IsRound (told_of shop t.word t.makespan bound plan.budget ps rest t.rounds t.nodes)
     made_round = search (rules, made_told, front_is_round, cut_is_round)

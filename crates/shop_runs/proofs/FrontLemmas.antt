@@ -1,7 +1,6 @@
 -- A run whose open nodes stand in order: the front that is cut, and what joins it again.
-use Rattle.std.proofs.Common.{◌≡◌, ℕ, suc, ◌≤◌, ◌<◌, Option, Some, None, List}
-use Rattle.std.proofs.Common.{[], ◌∷◌, ◌++◌, length, drop, refl, sym, ◌∙◌, ap, subst, arith, ltb}
-use Rattle.std.proofs.Common.{append-nil, min}
+use Rattle.std.proofs.Common.{◌≡◌, ℕ, suc, ◌≤◌, ◌<◌, Option, Some, None, List, [], ◌∷◌, ◌++◌, length, drop, refl, sym}
+use Rattle.std.proofs.Common.{◌∙◌, ap, subst, arith, ltb, append-nil, min}
 use Rattle.std.specs.Prelude.{Contains}
 use Rattle.std.specs.List.{AllByRecursion, flat_map}
 use Rattle.std.proofs.lemmas.Bool.{cases_Bool}
@@ -40,24 +39,19 @@ module _ (shop : Shop) where
   IsInOrder Bound ws = Rises (lb shop) ws
 
   pub none_in_order : (o : Order) → IsInOrder o []
-  none_in_order Kept = tt
-  none_in_order Bound = tt
+  none_in_order x = grind arith
 
   order_fixed : (o : Order) (ws : List (List ℕ)) → IsInOrder o ws → in_order shop o ws ≡ ws
-  order_fixed Kept ws r = refl
-  order_fixed Bound ws r = sort_fixed (lb shop) ws r
+  order_fixed x ws r = grind (arith, sort_fixed)
 
   pub in_order_is : (o : Order) (ws : List (List ℕ)) → IsInOrder o (in_order shop o ws)
-  in_order_is Kept ws = tt
-  in_order_is Bound ws = sort_rises (lb shop) ws
+  in_order_is x ws = grind (arith, sort_rises)
 
   pub order_drop : (o : Order) (n : ℕ) (ws : List (List ℕ)) → IsInOrder o ws → IsInOrder o (drop n ws)
-  order_drop Kept n ws r = tt
-  order_drop Bound n ws r = rises_drop (lb shop) n ws r
+  order_drop x n ws r = grind (arith, rises_drop)
 
   order_below : (o : Order) (c : ℕ) (ws : List (List ℕ)) → IsInOrder o ws → IsInOrder o (words_below shop c ws)
-  order_below Kept c ws r = tt
-  order_below Bound c ws r = rises_filter (lb shop) (λ w. ltb (lb shop w) c) ws r
+  order_below x c ws r = grind (arith, rises_filter)
 
   pub ordered_twice : (o : Order) (ws : List (List ℕ)) → in_order shop o (in_order shop o ws) ≡ in_order shop o ws
   ordered_twice o ws = order_fixed o (in_order shop o ws) (in_order_is o ws)
@@ -70,19 +64,16 @@ module _ (shop : Shop) where
   put_in_order : (o : Order) (w : List ℕ) (ws vs : List (List ℕ))
       → put_word o w (in_order shop o (ws ++ vs)) ≡ in_order shop o (w ∷ ws ++ vs)
   unfolding put_word
-  put_in_order Kept w ws vs = refl
-  put_in_order Bound w ws vs = refl
+  put_in_order x w ws vs = grind arith
 
   put_words : (o : Order) (n : Node) (ns : List Node) → IsNode shop n → AllByRecursion (IsNode shop) ns
       → words_of (put_before o n ns) ≡ put_word o n.word (words_of ns)
   unfolding put_word
-  put_words Kept n ns p a = refl
-  put_words Bound n ns p a = insert_words shop n ns p a
+  put_words x n ns p a = grind (arith, insert_words)
 
   put_nodes : (o : Order) (n : Node) (ns : List Node) → IsNode shop n → AllByRecursion (IsNode shop) ns
       → AllByRecursion (IsNode shop) (put_before o n ns)
-  put_nodes Kept n ns p a = (p, a)
-  put_nodes Bound n ns p a = all_insert (λ m. m.bound) (IsNode shop) n ns p a
+  put_nodes x n ns p a = grind (arith, all_insert)
 
   put_all_nodes : (o : Order) (ns others : List Node) → AllByRecursion (IsNode shop) ns
       → AllByRecursion (IsNode shop) others → AllByRecursion (IsNode shop) (put_all_before o ns others)
@@ -108,8 +99,7 @@ module _ (shop : Shop) where
 
   pub least_order : (o : Order) (c : ℕ) (ws : List (List ℕ))
       → least_bound shop c (in_order shop o ws) ≡ least_bound shop c ws
-  least_order Kept c ws = refl
-  least_order Bound c ws = sort_least c ws
+  least_order x c ws = grind (arith, sort_least)
 
   insert_length : (w : List ℕ) (ws : List (List ℕ)) → length (insert_by (lb shop) w ws) ≡ suc (length ws)
   insert_length w [] = refl
@@ -120,8 +110,7 @@ module _ (shop : Shop) where
   sort_length (w ∷ ws) = insert_length w (sort_by (lb shop) ws) ∙ ap suc (sort_length ws)
 
   pub length_order : (o : Order) (ws : List (List ℕ)) → length (in_order shop o ws) ≡ length ws
-  length_order Kept ws = refl
-  length_order Bound ws = sort_length ws
+  length_order x ws = grind (arith, sort_length)
 
 -- the front of a round is a round
 part_of_words : (P : List ℕ → Type 0) (xs ys : List (List ℕ)) → ((w : List ℕ) → Contains (xs ++ ys) w → P w)
@@ -179,8 +168,7 @@ module _ (shop : Shop) (o : Order) (s : Stand) (left : List Node) (others : Open
 
   pub joined_at : IsSearchAt shop o s t
   joined_at = record {
-    stands_at = (λ i. record (stand_of t) { open_words = open_words_are i })
-        ∙ (λ i. record (sym whole i) { open_words = in_order shop o s.open_words });
+    stands_at = grind (arith, open_words_are);
     makespan = makespan ∙ ap (λ (x : Stand). lb shop x.word) (sym whole);
     bounds = subst (AreNodes shop) (sym open_is) (All-from_recursion (IsNode shop)
         (put_all_before o left low) (put_all_nodes shop o left low

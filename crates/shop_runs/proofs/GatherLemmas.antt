@@ -1,8 +1,6 @@
 -- Entries gathered in turn.
-use Rattle.std.proofs.Common.{rules}
-use Rattle.std.proofs.Common.{◌≡◌, ℕ, zero, suc, ◌+◌, ◌*◌, ◌≤◌, ◌<◌, Bool, true, false, cond}
-use Rattle.std.proofs.Common.{List, [], ◌∷◌, ◌++◌, map, length, get_or, take, refl, sym, ◌∙◌, ap, subst, arith, eqb}
-use Rattle.std.proofs.Common.{ltb}
+use Rattle.std.proofs.Common.{rules, ◌≡◌, ℕ, zero, suc, ◌+◌, ◌*◌, ◌≤◌, ◌<◌, Bool, false, cond, List, [], ◌∷◌, ◌++◌, map}
+use Rattle.std.proofs.Common.{length, get_or, take, refl, sym, ◌∙◌, ap, subst, arith, eqb, ltb}
 use Rattle.std.specs.Prelude.{unwrap_or, slice_index_or}
 use Rattle.std.specs.List.{flat_map, fold, sum_by}
 use Rattle.std.proofs.lemmas.Bool.{cases_lt}
@@ -122,13 +120,11 @@ module _ (r : Told) (i : ℕ) (s : Sheet) (at : IsSheetAt r i s) where
 
     makespan_by : (b : Bool) → cond b s.makespan o.makespan ≡ (better b).best
     unfolding better
-    makespan_by true = refl
-    makespan_by false = was.makespan_is
+    makespan_by x = grind arith
 
     word_by : (b : Bool) → unwrap_or (cond b s.found o.found) r.word ≡ unwrap_or (better b).found r.word
     unfolding better
-    word_by true = refl
-    word_by false = was.word_is
+    word_by x = grind arith
 
     -- a turn: one more sheet, which doesn't end at the opening bound, is taken in
     pub gathered_turn : (t : RoundResult) → eqb s.makespan r.bound ≡ false → TakesIn o s t → GatheredSoFar r (i + 1) t
@@ -136,12 +132,4 @@ module _ (r : Told) (i : ℕ) (s : Sheet) (at : IsSheetAt r i s) where
         let b = ltb s.makespan o.makespan
         in let more : left_open t.left.items ≡ left_open o.left.items ++ open_of s.left =
         ap left_open takes.left ∙ sym (flat_map_more open_of [] o.left.items s.left)
-        in record {
-          none_hits = none_here e;
-          makespan_is = takes.makespan ∙ (makespan_by b ∙ sym (ap (λ (w : Walk). w.best) best_here));
-          word_is = grind (arith, word_by, best_here);
-          left_is = ap words_of more ∙ left_here;
-          nodes_left = subst (AreNodes r.shop) (sym more) nodes_left_here;
-          nodes_is = takes.nodes ∙ nodes_here;
-          few = (let a = few_here in let b = takes.nodes in omega arith);
-        }
+        in grind (arith, none_here, makespan_by, best_here, word_by, left_here, nodes_left_here, nodes_here, few_here)

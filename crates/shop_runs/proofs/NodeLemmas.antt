@@ -1,6 +1,5 @@
 -- Nodes against their words: bounds, places by bound, and what is below a makespan.
-use Rattle.std.proofs.Common.{arith}
-use Rattle.std.proofs.Common.{◌≡◌, ℕ, min, inl, inr, List, [], ◌∷◌, refl, ◌∙◌, ap, leb, ltb}
+use Rattle.std.proofs.Common.{arith, ◌≡◌, ℕ, min, List, [], ◌∷◌, refl, ap, leb, ltb}
 use Rattle.std.specs.List.{AllByRecursion}
 use Rattle.std.proofs.lemmas.Bool.{cases_Bool}
 use Rattle.std.proofs.lemmas.List.Elements.{recursion_from_All}
@@ -28,10 +27,7 @@ module _ (shop : Shop) where
   below_by_recursion c (n ∷ ns) a =
       let same : ltb n.bound c ≡ ltb (lb shop n.word) c = ap (λ b. ltb b c) a.0.1
       in let rest = below_by_recursion c ns a.1
-      in elim (cases_Bool (ltb (lb shop n.word) c)) [
-        | inl e ↦ rw (same ∙ e, e) (ap (λ ws. n.word ∷ ws) rest)
-        | inr e ↦ rw (same ∙ e, e) rest
-      ]
+      in grind (arith, cases_Bool)
 
   pub below_is : (c : ℕ) (ns : List Node) → AreNodes shop ns
       → words_of (nodes_below c ns) ≡ words_below shop c (words_of ns)
@@ -43,7 +39,4 @@ module _ (shop : Shop) where
   insert_words n (m ∷ ns) p a =
       let same : leb n.bound m.bound ≡ leb (lb shop n.word) (lb shop m.word) = (λ i. leb (p.1 i) (a.0.1 i))
       in let rest = insert_words n ns p a.1
-      in elim (cases_Bool (leb (lb shop n.word) (lb shop m.word))) [
-        | inl e ↦ rw (same ∙ e, e) refl
-        | inr e ↦ rw (same ∙ e, e) (ap (λ ws. m.word ∷ ws) rest)
-      ]
+      in grind (arith, cases_Bool)

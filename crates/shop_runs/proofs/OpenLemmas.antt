@@ -1,5 +1,5 @@
 -- Open words: their order, their least bound, and what is below a makespan.
-use Rattle.std.proofs.Common.{◌≡◌, ℕ, ◌≤◌, ◌<◌, min, ◌⊎◌, inl, inr, List, [], ◌∷◌, ◌++◌, arith, ltb}
+use Rattle.std.proofs.Common.{◌≡◌, ℕ, ◌≤◌, ◌<◌, min, ◌⊎◌, List, [], ◌∷◌, ◌++◌, arith, ltb}
 use Rattle.std.specs.List.{AllByRecursion}
 use Rattle.std.proofs.lemmas.Bool.{cases_Bool, ltb-true, ltb-false}
 use Rattle.shop_model.specs.Shop.{Shop, Starts, IsFeasible, end_of}
@@ -10,7 +10,6 @@ use Rattle.shop_bound.proofs.Lists.{all_filter}
 use Rattle.shop_nodes.specs.Laws.{HasBetter}
 use Rattle.shop_nodes.proofs.Members.{In, in_contains, contains_in, contains_all, in_all, all_sort, in_sort, in_filter}
 use Rattle.shop_runs.specs.declared.plans.Order.{Order}
-use Rattle.shop_runs.specs.declared.plans.Order.TheVariants.{Kept, Bound}
 use Rattle.shop_runs.specs.Round.{in_order, words_below, least_bound}
 use Rattle.shop_runs.specs.Laws.{IsStanding}
 
@@ -23,31 +22,18 @@ least_bound-le shop c (x ∷ ws) = grind (arith, least_bound-le shop (min c (lb 
 module _ (shop : Shop) where
   -- in their order, the words are the same
   pub ordered_in : (order : Order) (w : List ℕ) (ws : List (List ℕ)) → In w ws → In w (in_order shop order ws)
-  ordered_in Kept w ws h = h
-  ordered_in Bound w ws h = in_sort (lb shop) w ws h
+  ordered_in x w ws h = grind (arith, in_sort)
 
   pub ordered_all : (order : Order) (P : List ℕ → Type 0) (ws : List (List ℕ)) → AllByRecursion P ws
       → AllByRecursion P (in_order shop order ws)
-  ordered_all Kept P ws a = a
-  ordered_all Bound P ws a = all_sort (lb shop) P ws a
+  ordered_all x y ws a = grind (arith, all_sort)
 
   -- a table under one of the words ends at c or later, or lies under one whose bound is below c
   pub still_better : (c : ℕ) (ws : List (List ℕ)) (starts : Starts) → AllByRecursion (IsWord shop) ws
       → HasBetter shop ws starts → (c ≤ end_of shop starts) ⊎ HasBetter shop (words_below shop c ws) starts
   still_better c ws starts all h =
       let member = in_contains h.word ws h.member
-      in elim (cases_Bool (ltb (lb shop h.word) c)) [
-        | inl e ↦ inr (record {
-          word = h.word;
-          member = contains_in h.word (words_below shop c ws) (in_filter (λ w. ltb (lb shop w) c) h.word ws member e);
-          better = h.better;
-          under = h.under;
-          ends = h.ends;
-        })
-        | inr e ↦ inl (let a = ltb-false (lb shop h.word) c e
-            in let b = lb-le-end shop h.word h.better (in_all (IsWord shop) h.word ws member all) h.under
-            in let d = h.ends in omega arith)
-      ]
+      in grind (arith, cases_Bool, contains_in, in_filter, ltb-false, lb-le-end, in_all)
 
   -- a full word, with the words whose bounds are below its own
   pub standing_from : (word : List ℕ) (ws : List (List ℕ)) (rounds nodes : ℕ) → IsFull shop word

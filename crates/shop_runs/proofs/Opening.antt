@@ -1,5 +1,5 @@
 -- The start word is full.
-use Rattle.std.proofs.Common.{◌≡◌, ℕ, zero, suc, ◌+◌, ◌≤◌, ◌<◌, ◌⊎◌, inl, inr, cond, List, ◌∷◌, length, refl, ◌∙◌, ap}
+use Rattle.std.proofs.Common.{◌≡◌, ℕ, zero, suc, ◌+◌, ◌≤◌, ◌<◌, ◌⊎◌, inl, inr, cond, List, ◌∷◌, length, refl, ap}
 use Rattle.std.proofs.Common.{arith, eqb}
 use Rattle.std.specs.Prelude.{replicate}
 use Rattle.std.specs.List.{flat_map, range_with_len}
@@ -8,8 +8,7 @@ use Rattle.std.proofs.lemmas.Bool.Decides.{eqb_tells}
 use Rattle.std.proofs.lemmas.List.{get_or_past}
 use Rattle.std.proofs.lemmas.List.Sums.{sum_by-cons, sum_by-append}
 use Rattle.shop_model.specs.Shop.{Shop, ShopJob, no_job, route_of}
-use Rattle.shop_model.specs.Word.{count_of, IsFull}
-use Rattle.shop_model.specs.Word.{start_jobs}
+use Rattle.shop_model.specs.Word.{count_of, IsFull, start_jobs}
 
 count-replicate : (j i n : ℕ) → count_of j (replicate n i) ≡ cond (eqb i j) n 0
 count-replicate j i zero = elim (eqb_tells i j) [ inl e ↦ rw e.0 refl | inr e ↦ rw e.0 refl ]
@@ -17,12 +16,7 @@ count-replicate j i (suc n) =
     let a : count_of j (i ∷ replicate n i) ≡ cond (eqb i j) 1 0 + count_of j (replicate n i) =
     sum_by-cons (λ x. cond (eqb x j) 1 0) i (replicate n i)
     in let b = count-replicate j i n
-    in elim (eqb_tells i j) [
-      | inl e ↦ (let c : count_of j (i ∷ replicate n i) ≡ 1 + n = a
-          ∙ (ap (λ k. cond (eqb i j) 1 0 + k) b ∙ ap (λ t. cond t 1 0 + cond t n 0) e.0) in rw e.0 (omega arith))
-      | inr e ↦ (let c : count_of j (i ∷ replicate n i) ≡ 0 = a
-          ∙ (ap (λ k. cond (eqb i j) 1 0 + k) b ∙ ap (λ t. cond t 1 0 + cond t n 0) e.0) in rw e.0 (omega arith))
-    ]
+    in grind (arith, eqb_tells)
 
 module _ (shop : Shop) where
   from_jobs : ℕ → ℕ → List ℕ
@@ -55,10 +49,7 @@ module _ (shop : Shop) where
           in let r = outside j (a + 1) n (inl (omega arith))
           in let g : length (route_of shop a) ≡ length (route_of shop j) = ap (λ i. length (route_of shop i)) f
           in omega arith)
-      | inr e ↦ (let ne = e.1
-          in let d : cond (eqb a j) (length (route_of shop a)) 0 ≡ 0 = ap (λ t. cond t (length (route_of shop a)) 0) e.0
-          in let later : a + 1 ≤ j = elim (cases_lt a j) [ inl x ↦ (omega arith) | inr x ↦ absurd (ne (omega arith)) ]
-          in let r = inside j (a + 1) n later (omega arith) in omega arith)
+      | inr e ↦ grind (arith, cases_lt, inside j (a + 1) n)
     ]
 
   pub start_full : IsFull shop (start_jobs shop)

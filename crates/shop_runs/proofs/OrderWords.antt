@@ -1,6 +1,5 @@
 -- A word that is that of no order in the list of all.
-use Rattle.std.proofs.Common.{arith}
-use Rattle.std.proofs.Common.{◌≡◌, ℕ, ◌<◌, List, [], ◌∷◌, false, true, get_or, lit<, refl}
+use Rattle.std.proofs.Common.{arith, ◌≡◌, ℕ, ◌<◌, List, [], ◌∷◌, false, true, get_or}
 use Rattle.std.specs.Str.{bytes_eq}
 use Rattle.shop_runs.specs.Orders.{order_word, IsNoOrderWord}
 use Rattle.shop_runs.specs.declared.plans.Order.TheVariants.{Kept, Bound}
@@ -11,5 +10,4 @@ not_the_same word other same differ e = grind arith
 pub no_word : (word : List ℕ)
     → ((k : ℕ) → k < 2 → bytes_eq (order_word (get_or (Kept ∷ Bound ∷ []) k Kept)) word ≡ false)
     → IsNoOrderWord word
-no_word word h Kept e = not_the_same (order_word Kept) word refl (h 0 (lit< tt)) e
-no_word word h Bound e = not_the_same (order_word Bound) word refl (h 1 (lit< tt)) e
+no_word word h x e = grind (arith, not_the_same)

@@ -1,7 +1,6 @@
 -- What the entries of a round come to: at the first sheet that ends at the opening bound, or at the end.
-use Rattle.std.proofs.Common.{◌≡◌, ℕ, zero, suc, ◌+◌, ◌≤◌, ◌<◌, Bool, true, false, Some, None}
-use Rattle.std.proofs.Common.{List, [], ◌∷◌, ◌++◌, length, get_or, take, refl, sym, ◌∙◌, ap, arith}
-use Rattle.std.proofs.Common.{eqb, ltb, eqb-true}
+use Rattle.std.proofs.Common.{◌≡◌, ℕ, zero, suc, ◌+◌, ◌≤◌, ◌<◌, Bool, true, false, Some, None, List, [], ◌∷◌, ◌++◌}
+use Rattle.std.proofs.Common.{length, get_or, take, refl, sym, ◌∙◌, ap, arith, eqb, ltb, eqb-true}
 use Rattle.std.specs.Prelude.{unwrap_or}
 use Rattle.std.specs.List.{AllByRecursion, flat_map, sum_by}
 use Rattle.std.proofs.lemmas.List.{take_all, length-map}
@@ -22,8 +21,7 @@ use Rattle.shop_runs.specs.Entries.{is_hit}
 use Rattle.shop_runs.proofs.SheetLemmas.{hit_in, found_is, least_is_bound}
 use Rattle.shop_runs.proofs.StandingLemmas.{known, best_of_round, rest_closed}
 use Rattle.shop_runs.proofs.GatherLemmas.{GatheredSoFar, IsSheetAt, whole_of, below_best, best_among, first_sheets}
-use Rattle.shop_runs.proofs.GatherLemmas.{map_at, inside, at_place}
-use Rattle.shop_runs.proofs.GatherLemmas.{next_sheets, next_taken, few_here}
+use Rattle.shop_runs.proofs.GatherLemmas.{map_at, inside, at_place, next_sheets, next_taken, few_here}
 
 -- the first of some walks that ends at c, where none before it does
 hit_at : (c : ℕ) (ss : List Walk) (i : ℕ) (w : Walk) → i < length ss

@@ -1,7 +1,6 @@
 -- Nodes cut into pieces.
-use Rattle.std.proofs.Common.{◌≡◌, ℕ, zero, suc, ◌+◌, ◌-◌, ◌*◌, ◌≤◌, ◌<◌, Bool, true, false, ◌&&◌, List}
-use Rattle.std.proofs.Common.{[], ◌∷◌, ◌++◌, map, length, get_or, take, drop, refl, sym, ◌∙◌, ap, subst, arith, eqb}
-use Rattle.std.proofs.Common.{append_assoc}
+use Rattle.std.proofs.Common.{◌≡◌, ℕ, zero, suc, ◌+◌, ◌-◌, ◌*◌, ◌≤◌, ◌<◌, Bool, true, false, ◌&&◌, List, [], ◌∷◌, ◌++◌}
+use Rattle.std.proofs.Common.{map, length, get_or, take, drop, refl, sym, ◌∙◌, ap, subst, arith, eqb, append_assoc}
 use Rattle.std.specs.List.{AllByRecursion}
 use Rattle.std.proofs.lemmas.Bool.{eqb-true, eq-eqb}
 use Rattle.std.proofs.lemmas.List.{map-append, take-take, drop-take, take-map, drop-map, append-nil}
@@ -15,9 +14,7 @@ use Rattle.shop_runs.specs.Nodes.{pieces_in, ArePieces, numbered}
 use Rattle.shop_runs.specs.inner.NodeLists.{nodes_in}
 
 both : (a b : Bool) → (a && b) ≡ true → (a ≡ true) × (b ≡ true)
-both true true e = (refl, refl)
-both true false e = absurd (cc)
-both false b e = absurd (cc)
+both x b e = grind arith
 
 -- the piece at place n has the number n
 pub numbered_at : (k : ℕ) (ps : List Piece) (n : ℕ) (d : Piece) → numbered k ps ≡ true → n < length ps
@@ -49,12 +46,10 @@ module _ {A : Type 0} where
   -- a piece is cut off what is left
   pub cut_next : (m size : ℕ) (xs : List A) → 0 < length xs
       → cut_into (suc m) size xs ≡ take size xs ∷ cut_into m size (drop size xs)
-  cut_next m size [] h = absurd (omega arith)
-  cut_next m size (x ∷ xs) h = refl
+  cut_next m size y h = grind arith
 
   pub cut_none : (m size : ℕ) → cut_into m size (let xs : List A = [] in xs) ≡ []
-  cut_none zero size = refl
-  cut_none (suc m) size = refl
+  cut_none x size = grind arith
 
   -- no more than n pieces
   pub few_pieces : (n size : ℕ) (xs : List A) → length (cut_into n size xs) ≤ n
@@ -141,15 +136,11 @@ cut_turn ps p n size rest rest' all h some e f was =
 
 module _ {A : Type 0} where
   pub take_some : (n : ℕ) (xs : List A) → 0 < length (take n xs) → 0 < length xs
-  take_some zero xs h = absurd (omega arith)
-  take_some (suc n) [] h = absurd (omega arith)
-  take_some (suc n) (x ∷ xs) h = omega arith
+  take_some y xs h = grind arith
 
   -- where a piece of some size is empty, nothing is left
   pub take_none : (n : ℕ) (xs : List A) → 0 < n → length (take n xs) ≡ 0 → xs ≡ []
-  take_none zero xs h e = absurd (omega arith)
-  take_none (suc n) [] h e = refl
-  take_none (suc n) (x ∷ xs) h e = absurd (let a : suc (length (take n xs)) ≡ 0 = e in omega arith)
+  take_none y xs h e = grind arith
 
 -- once nothing is left, or no piece may be added, the pieces are all
 pub cut_empty : (ps : List Piece) (m size : ℕ) (rest : List Node) (cut : List (List Node)) → rest ≡ []
@@ -161,5 +152,4 @@ pub cut_last : (ps : List Piece) (m size : ℕ) (rest : List Node) (cut : List (
 cut_last ps m size rest cut e was = grind (arith, append-nil)
 
 pub some_open : (n m : ℕ) → n ≡ m → false ≡ eqb n 0 → 0 < m
-some_open zero m e f = absurd (cc)
-some_open (suc n) m e f = omega arith
+some_open x m e f = grind arith

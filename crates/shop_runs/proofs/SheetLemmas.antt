@@ -1,7 +1,6 @@
 -- The sheets of a round: the best word of them, and the first that ends at a bound.
-use Rattle.std.proofs.Common.{rules}
-use Rattle.std.proofs.Common.{◌≡◌, ℕ, ◌≤◌, ◌<◌, inl, inr, false, cond, Option, Some, None, List, [], ◌∷◌, map, refl}
-use Rattle.std.proofs.Common.{sym, ◌∙◌, ap, subst, arith, ltb, eqb}
+use Rattle.std.proofs.Common.{rules, ◌≡◌, ℕ, ◌≤◌, ◌<◌, inl, inr, false, cond, Option, Some, None, List, [], ◌∷◌, map}
+use Rattle.std.proofs.Common.{refl, sym, ◌∙◌, ap, subst, arith, ltb, eqb}
 use Rattle.std.specs.Prelude.{unwrap_or}
 use Rattle.std.specs.List.{AllByRecursion, flat_map, fold}
 use Rattle.std.proofs.lemmas.Bool.{cases_Bool, ltb-true, ltb-false, eqb-true}
@@ -54,8 +53,7 @@ better_of b s = cond (ltb s.best b.best) s b
 module _ (shop : Shop) (c : ℕ) where
   held_from : (b s : Walk) (o : Option (List ℕ)) → s.found ≡ o → IsBestOf shop c s.best o → s.best < b.best → b.best ≤ c
       → IsHeld shop c s
-  held_from b s None e i less below = absurd (omega arith)
-  held_from b s (Some w) e i less below = record { word = w; found = e; full = i.0; best = i.1; below = omega arith }
+  held_from b s x e i less below = grind arith
 
   -- the first of the least best of the walks
   pub record IsLeastHeld (b : Walk) (ss : List Walk) (r : Walk) : Type 0 where
@@ -67,14 +65,7 @@ module _ (shop : Shop) (c : ℕ) where
       → IsLeastHeld b ss (fold better_of b ss)
   least_held b [] held a = record { held = held; first = omega arith; each = λ s h. absurd h }
   least_held b (s ∷ ss) held a = elim (cases_Bool (ltb s.best b.best)) [
-    | inl e ↦ (let less = ltb-true s.best b.best e in let low = held.below in let known = a.0
-        in let r = least_held s ss (held_from b s s.found refl known.found less low) a.1
-        in let same : better_of b s ≡ s = ap (λ t. cond t s b) e
-        in subst (λ t. IsLeastHeld b (s ∷ ss) (fold better_of t ss)) (sym same) (record {
-          held = r.held;
-          first = (let x = r.first in omega arith);
-          each = λ t h. grind arith;
-        }))
+    | inl e ↦ grind (arith, ltb-true, held_from, least_held s ss)
     | inr e ↦ grind (arith, ltb-false, least_held b ss held a.1)
   ]
 
@@ -98,11 +89,7 @@ best_is shop c word ss e full a =
     let r = held_of shop c word ss e full a
     in let held = r.held
     in let same : best_word c word ss ≡ held.word = ap (λ o. unwrap_or o word) held.found
-    in subst (IsBestWord shop c ss) (sym same) (record {
-      full = held.full;
-      below = (let x = held.best in let y = held.below in omega arith);
-      each = λ s h. let x = held.best in let y = r.each s h in omega arith;
-    })
+    in grind arith
 
 -- the least makespan of some sheets is the bound of their best word
 pub least_is_bound : (shop : Shop) (c : ℕ) (word : List ℕ) (ss : List Walk) → c ≡ lb shop word → IsFull shop word
@@ -124,8 +111,7 @@ module _ (c : ℕ) where
   hit_in [] h counted e = absurd (cc)
   hit_in (s ∷ ss) h counted e = elim (cases_Bool (eqb s.best c)) [
     | inl t ↦ grind (arith, eqb-true)
-    | inr t ↦ later (up_to_hit c ss) (λ k more f. hit_in ss k more f)
-        (sym (ap (λ x. hit_or x s (up_to_hit c ss)) t) ∙ e)
+    | inr t ↦ grind (arith, later, hit_in ss)
   ]
     where
       later : (o : Option (Walk × List Walk))
@@ -139,5 +125,4 @@ module _ (c : ℕ) where
 pub found_is : (shop : Shop) (word : List ℕ) (start c : ℕ) (o : Option (List ℕ)) (best : ℕ) → start ≡ lb shop word
     → IsFull shop word → IsBestOf shop start best o → best ≡ c
     → IsFull shop (unwrap_or o word) × (lb shop (unwrap_or o word) ≡ c)
-found_is shop word start c None best s full i e = (full, omega arith)
-found_is shop word start c (Some w) best s full i e = (i.0, (let a = i.1 in omega arith))
+found_is shop word start c x best s full i e = grind arith

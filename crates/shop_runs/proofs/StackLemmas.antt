@@ -11,8 +11,7 @@ use Rattle.std.specs.Cmp.{nat_cmp_is}
 use Rattle.std.specs.Ordering.{nat_cmp, is_gt}
 use Rattle.std.proofs.lemmas.Cmp.{ranked}
 use Rattle.std.specs.declared.cmp.Ordering.TheVariants.{Less, Equal, Greater}
-use Rattle.std.proofs.lemmas.Bool.{cases_Bool, cases_lt, cases_eq}
-use Rattle.std.proofs.lemmas.Bool.{lt-ltb, le-ltb, le-leb, lt-leb, ltb-false}
+use Rattle.std.proofs.lemmas.Bool.{cases_Bool, cases_lt, cases_eq, lt-ltb, le-ltb, le-leb, lt-leb, ltb-false}
 use Rattle.std.proofs.lemmas.List.Elements.{recursion_from_All, filter-append}
 use Rattle.shop_nodes.specs.declared.nodes.Node.{Node}
 use Rattle.shop_nodes.specs.Branching.{insert_by}
@@ -73,14 +72,7 @@ put_is (x ∷ es) w k s sorted e = elim (cases_lt k x.0) [
       ∙ sym (insert_here (record { word = w; bound = k }) x.0 x.1 (nodes_by_bound es) (omega arith))))
   | inr more ↦ elim (cases_eq k x.0) [
     | inl same ↦ grind (arith, cmp_equal, insert_here)
-    | inr other ↦ (let below : x.0 < k = omega arith
-        in let missed : lookup (is_at (nat_cmp k)) (x ∷ es) ≡ lookup (is_at (nat_cmp k)) es =
-        rw (cmp_greater k x.0 below) refl
-        in let words : words_on s ≡ w ∷ words_left (lookup (is_at (nat_cmp k)) es) =
-        e ∙ ap (λ o. w ∷ words_left o) missed
-        in rw (cmp_greater k x.0 below) (ap (λ ns. nodes_of_bound x.0 (words_on x.1) ++ ns)
-        (put_is es w k s sorted.1 words)
-        ∙ sym (insert_past (record { word = w; bound = k }) x.0 (words_on x.1) (nodes_by_bound es) below)))
+    | inr other ↦ grind (arith, cmp_greater, insert_past, put_is es w k s sorted.1)
   ]
 ]
 
@@ -100,8 +92,7 @@ pub next_is : (before after rest : List (ℕ × Stack)) (k : ℕ) (s : Stack) (w
     → before ≡ (k, s) ∷ rest → All (IsLtBy nat_cmp k) (keys_of rest) → words_on s ≡ w ∷ words_left left
     → IsPutBack k rest left after
     → nodes_by_bound before ≡ record { word = w; bound = k } ∷ nodes_by_bound after
-next_is before after rest k s w None is above words back = grind arith
-next_is before after rest k s w (Some t) is above words back = grind (arith, put_first, recursion_from_All)
+next_is before after rest k s w x is above words back = grind (arith, put_first, recursion_from_All)
 
 -- nodes of one bound are below a makespan or not together
 pub below_one : (c b : ℕ) (ws : List (List ℕ))

@@ -1,7 +1,6 @@
 -- Open nodes in the order of the next cut, through what is put, taken and let go.
-use Rattle.std.proofs.Common.{◌≡◌, ℕ, suc, ◌<◌, min, Bool, true, false, List, [], ◌∷◌, ◌++◌, length}
-use Rattle.std.proofs.Common.{append-nil, ltb, reverse, refl, sym, ◌∙◌, ap, arith, eqb, filter, inl, inr, cond}
-use Rattle.std.proofs.Common.{drop, get_or, ◌+◌}
+use Rattle.std.proofs.Common.{◌≡◌, ℕ, suc, ◌<◌, min, Bool, true, false, List, [], ◌∷◌, ◌++◌, length, append-nil, ltb}
+use Rattle.std.proofs.Common.{reverse, refl, sym, ◌∙◌, ap, arith, eqb, filter, inl, inr, cond, drop, get_or, ◌+◌}
 use Rattle.std.specs.Prelude.{IsTrue, ◌↔◌}
 use Rattle.std.proofs.lemmas.Bool.{cases_Bool, cases_lt, ne_eqb, lt-ltb, le-ltb}
 use Rattle.std.proofs.lemmas.List.Elements.{filter-append}

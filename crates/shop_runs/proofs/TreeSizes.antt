@@ -1,5 +1,5 @@
 -- The tree below a word is finite, and each node that a walk takes makes what it leaves smaller.
-use Rattle.std.proofs.Common.{◌≡◌, ℕ, zero, suc, ◌+◌, ◌≤◌, ◌<◌, Bool, true, false, List, [], ◌∷◌, ◌++◌, length}
+use Rattle.std.proofs.Common.{◌≡◌, ℕ, zero, suc, ◌+◌, ◌≤◌, ◌<◌, Bool, List, [], ◌∷◌, ◌++◌, length}
 use Rattle.std.proofs.Common.{map, refl, sym, ◌∙◌, ap, arith, leb}
 use Rattle.std.specs.List.{AllByRecursion, fold, sum_by}
 use Rattle.std.proofs.lemmas.List.{length-append}
@@ -36,8 +36,7 @@ module _ (shop : Shop) where
   size_append vs ws = sum_by-append (size_of shop) vs ws
 
   some_within : (n : ℕ) (w : List ℕ) → 1 ≤ size_within shop n w
-  some_within zero w = omega arith
-  some_within (suc n) w = omega arith
+  some_within x w = grind arith
 
   pub size_some : (w : List ℕ) → 1 ≤ size_of shop w
   unfolding size_of
@@ -95,13 +94,11 @@ module _ (shop : Shop) where
   taking_takes : (b : ℕ) (s : Walk) (w : List ℕ) (go : Walk → Walk) → s.budget ≡ b
       → ((t : Walk) → t.left ≡ s.left → t.budget + 1 ≡ s.budget → GoesOn s (go t) (size_of shop w))
       → Takes s (taking b s w go) w
-  taking_takes zero s w go e h = grind (arith, size_append, size_cons, size_none)
-  taking_takes (suc b) s w go e h = grind arith
+  taking_takes x s w go e h = grind (arith, size_append, size_cons, size_none)
 
   cut_goes_on : (test : Bool) (s t : Walk) (go : Walk → Walk) (size : ℕ) → t.left ≡ s.left → t.budget + 1 ≡ s.budget
       → 1 ≤ size → GoesOn s (go t) size → GoesOn s (unless_cut test t go) size
-  cut_goes_on true s t go size same e some g = grind arith
-  cut_goes_on false s t go size same e some g = g
+  cut_goes_on x s t go size same e some g = grind arith
 
   pub fold_uses : (f : Walk → List ℕ → Walk) (P : List ℕ → Type 0)
       → ((s : Walk) (w : List ℕ) → P w → Uses s (f s w) (size_of shop w))

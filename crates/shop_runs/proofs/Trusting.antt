@@ -1,5 +1,5 @@
 -- Rounds keep the cover up to the answer, so it can be trusted.
-use Rattle.std.proofs.Common.{◌≡◌, ℕ, zero, suc, ◌≤◌, inl, inr, List, [], ◌∷◌, length, refl, sym, ap, arith}
+use Rattle.std.proofs.Common.{◌≡◌, ℕ, zero, suc, ◌≤◌, inl, inr, List, [], ◌∷◌, length, refl, sym, arith}
 use Rattle.std.proofs.lemmas.List.{append-nil}
 use Rattle.shop_model.specs.Shop.{Shop, Starts, IsFeasible, end_of}
 use Rattle.shop_model.specs.Word.{placed}
@@ -7,7 +7,7 @@ use Rattle.shop_bound.specs.Bound.{lb}
 use Rattle.shop_bound.proofs.BoundLaw.{lb-le-end, full_word}
 use Rattle.shop_nodes.proofs.Members.{in_contains}
 use Rattle.shop_runs.specs.Plans.{Planned}
-use Rattle.shop_runs.specs.Round.{Stand, least_bound, round, opening, makespan_of}
+use Rattle.shop_runs.specs.Round.{Stand, round, opening, makespan_of}
 use Rattle.shop_runs.specs.Laws.{StandsCovering}
 use Rattle.shop_runs.proofs.Covering.{opens_covering, round_covers}
 use Rattle.shop_runs.proofs.OpenLemmas.{least_bound-le}
@@ -45,20 +45,7 @@ trust shop s k =
           in let d = lb-le-end shop h.word h.better (standing.words h.word h.member) h.under in let e = h.ends
           in omega arith)
     ])
-    in record {
-      full = standing.full;
-      feasible = feasible;
-      ends = p.ends;
-      bound = bound;
-      least = λ none. record {
-        table = placed shop s.word;
-        feasible = feasible;
-        ends = p.ends;
-        least = λ starts f. let same : bound_of shop s ≡ makespan_of shop s =
-            ap (λ ws. least_bound shop (lb shop s.word) ws) (none_from s.open_words none) in let b = bound starts f
-            in omega arith;
-      };
-    }
+    in grind (arith, none_from)
 
 pub trustworthy : AnswersAreTrustworthy
 trustworthy shop plan = trust shop (answer shop plan)

@@ -1,7 +1,6 @@
 -- One more operation in the heads by position.
-use Rattle.std.proofs.Common.{rules}
-use Rattle.std.proofs.Common.{◌≡◌, ℕ, ◌+◌, ◌≤◌, ◌<◌, ◌^◌, inl, inr, List, [], ◌∷◌, ◌++◌, length}
-use Rattle.std.proofs.Common.{get_or, set, refl, sym, ◌∙◌, ap, subst, arith}
+use Rattle.std.proofs.Common.{rules, ◌≡◌, ℕ, ◌+◌, ◌≤◌, ◌<◌, ◌^◌, inl, inr, List, [], ◌∷◌, ◌++◌, length, get_or, set}
+use Rattle.std.proofs.Common.{refl, sym, ◌∙◌, ap, subst, arith}
 use Rattle.std.proofs.lemmas.Bool.{cases_eq, cases_lt, lt-ltb, le-ltb}
 use Rattle.std.proofs.lemmas.Grind.{get_or-set_at}
 use Rattle.std.proofs.lemmas.List.{get_or-set_other, length-set}
@@ -141,8 +140,7 @@ module _ {greatest : ℕ} {shop : Shop} {l : LayoutState} {rows : Rows} {w : Lis
           in let long = lifted_here
           in raising.ends.each i known (ap (λ (xs : List ℕ). get_or xs i 0) lifted_ends
           ∙ (was ∙ (elim (cases_lt x (length rows.heads)) [
-            | inl lt ↦ rw (lt-ltb x (length rows.heads) lt, lt-ltb x (length lifted.heads) (omega arith))
-                (omega arith)
+            | inl lt ↦ grind (arith, lt-ltb)
             | inr ge ↦ rw (le-ltb x (length rows.heads) ge, le-ltb x (length lifted.heads) (omega arith)) refl
           ])))
 

@@ -1,6 +1,5 @@
 -- Heads behind operations of a machine are raised, one operation after the other.
-use Rattle.std.proofs.Common.{◌≡◌, ℕ, ◌+◌, ◌≤◌, ◌<◌, ◌⊎◌, inl, inr, [], length, get_or, refl, sym, ◌∙◌, ap, subst}
-use Rattle.std.proofs.Common.{arith}
+use Rattle.std.proofs.Common.{◌≡◌, ℕ, ◌+◌, ◌≤◌, ◌<◌, ◌⊎◌, inl, inr, [], length, get_or, refl, sym, ◌∙◌, subst, arith}
 use Rattle.std.proofs.lemmas.Bool.{cases_eq, cases_lt}
 use Rattle.std.proofs.lemmas.List.{get_or_default, get_or_past}
 use Rattle.shop_lanes.specs.Rows.{Rows}
@@ -11,7 +10,7 @@ use Rattle.shop_layout.proofs.RouteLegs.{index_known, leg_behind, leg_here}
 use Rattle.shop_states.specs.inner.Raises.{AreInRouteOrder, IsFollowed, IsIndexed, IsPlace, IsPosition, IsRaisable}
 use Rattle.shop_states.specs.inner.Raises.{IsRaised, Raises, at_in, steps_of}
 use Rattle.shop_states.specs.inner.Siblings.{CanRaiseBehind, IsEndAt, IsLateIn, IsRaisedBehind, RaisesBehind}
-use Rattle.shop_states.proofs.Followed.{place_past, place_there}
+use Rattle.shop_states.proofs.Followed.{place_there}
 use Rattle.shop_states.proofs.RaiseWalks.{apart}
 
 -- nothing more is raised
@@ -60,16 +59,7 @@ module _ {l : LayoutState} {A B C : ℕ → ℕ → Type 0} {a b : Rows} (x : Ra
   pub then_behind : {c : Rows} → RaisesBehind l B b c → ((q e : ℕ) → C q e → A q e ⊎ B q e) → RaisesBehind l C a c
   then_behind {c} y split = record {
     positions = y.positions ∙ x.positions;
-    raised = record {
-      rises = λ q. let u = x.raised.rises q in let v = y.raised.rises q in omega arith;
-      rests = λ q none. y.raised.rests q (x.raised.rests q none);
-      order = y.raised.order;
-      behind = λ j k e two at waits. elim (split (place l j k) e at) [
-        | inl before ↦ (let u = x.raised.behind j k e two before waits in let v = y.raised.rises (place l j (k + 1))
-            in omega arith)
-        | inr now ↦ y.raised.behind j k e two now (let u = x.raised.rises (place l j k) in omega arith)
-      ];
-    };
+    raised = grind arith;
     least = λ other raised. y.least other (still_raised other raised);
     times = y.times ∙ x.times;
     tails = y.tails ∙ x.tails;
@@ -99,14 +89,11 @@ module _ {greatest : ℕ} {l : LayoutState} {rows : Rows} {p free : ℕ}
     its_leg = let a = index_known l job its_place.job (step + 1) (let b = its_place.step in omega arith) in omega arith
 
     module _ {leg : Leg} (is : leg ≡ get_or (all_legs l) index (end_of 0)) where
-      read : leg ≡ get_or (all_legs l) (leg_index l job (step + 1)) (end_of 0)
-      read = is ∙ ap (λ (i : ℕ). get_or (all_legs l) i (end_of 0)) index_is
-
       stands : leg.position ≡ place_or (length rows.heads) l.places job (step + 1)
-      stands = grind (arith, cases_lt, read, leg_here, its_place, place_there, leg_behind, place_past)
+      stands = grind (arith, cases_lt, leg_here, its_place, place_there, leg_behind)
 
       pub leg_up_to : leg.position ≤ length rows.heads
-      leg_up_to = grind (arith, stands, cases_lt, place_there, place_past)
+      leg_up_to = grind (arith, stands, cases_lt, place_there)
 
       -- where the next operation on the route stands, if there is one
       next_at : step + 1 < steps_of l job → leg.position ≡ place l job (step + 1)
@@ -134,10 +121,10 @@ module _ {greatest : ℕ} {l : LayoutState} {rows : Rows} {p free : ℕ}
           next_read = looked ∙ get_or_default rows.heads leg.position greatest 0 next_there
 
           more : step + 1 < steps_of l job
-          more = grind (arith, cases_lt, next_there, stands, place_past)
+          more = grind (arith, cases_lt, next_there, stands)
 
           pub next_machine : leg.machine ≡ get_or l.machines leg.position 0
-          next_machine = grind (arith, read, leg_here, its_place, more, next_at)
+          next_machine = grind (arith, leg_here, its_place, more)
 
           pub next_waits : 0 < get_or rows.heads leg.position 0
           next_waits = grind (arith, its_place, more, next_at)
@@ -149,10 +136,7 @@ module _ {greatest : ℕ} {l : LayoutState} {rows : Rows} {p free : ℕ}
 
           pub next_raisable : IsRaisable greatest l [] rows (IsPosition leg.position) ready
           next_raisable = record {
-            firsts = record {
-              own = λ j known here. absurd (omega arith);
-              first = λ j i k known more at. absurd (omega arith);
-            };
+            firsts = grind arith;
             ends = omega arith;
             indexed = can.indexed;
             followed = can.followed;
@@ -171,19 +155,7 @@ module _ {greatest : ℕ} {l : LayoutState} {rows : Rows} {p free : ℕ}
               → RaisesBehind l (IsEndAt p free) rows new
           raised_behind {new} raises = record {
             positions = raises.raised.positions;
-            raised = record {
-              rises = raises.raised.raised.rises;
-              rests = raises.raised.raised.rests;
-              order = raises.raised.raised.order;
-              behind = λ j k e two at waits.
-                  let next = followed_here j k two at.0
-                  in let reach = raises.raised.raised.reach leg.position refl next_waits
-                  in let now : get_or new.heads (place l j (k + 1)) 0 ≡ get_or new.heads leg.position 0 =
-                  ap (λ (x : ℕ). get_or new.heads x 0) next.1
-                  in let time : get_or l.times (place l j k) 0 ≡ get_or l.times p 0 =
-                  ap (λ (x : ℕ). get_or l.times x 0) at.0
-                  in let e_is = at.1 in omega arith;
-            };
+            raised = grind (arith, followed_here, next_waits);
             least = λ other raised. raises.raised.least other (raised_there other raised);
             times = raises.times;
             tails = raises.tails;
@@ -194,7 +166,7 @@ module _ {greatest : ℕ} {l : LayoutState} {rows : Rows} {p free : ℕ}
 module _ {l : LayoutState} {from last end second : ℕ} where
   pub late_begins : {greatest to : ℕ} (rows : Rows) → CanRaiseBehind greatest l rows (IsLateIn from to last end second)
       → RaisesBehind l (IsLateIn from from last end second) rows rows
-  late_begins rows can = grind (arith, behind_same)
+  late_begins rows can = grind arith
 
   module _ {old now : Rows} {p : ℕ} (so_far : RaisesBehind l (IsLateIn from p last end second) old now) (low : from ≤ p)
     where
@@ -231,17 +203,7 @@ module _ {l : LayoutState} {from last end second : ℕ} where
           order = so_far.raised.order;
           behind = λ j k e two at waits. elim (cases_eq (place l j k) p) [
             | inr ne ↦ so_far.raised.behind j k e two (at.0, let b = at.1 in omega arith, at.2) waits
-            | inl is ↦ (let now_there : get_or now.heads (place l j k) 0 ≡ get_or now.heads p 0 =
-                ap (λ (x : ℕ). get_or now.heads x 0) is
-                in let rises = so_far.raised.rises (place l j k)
-                in let most : e ≤ end = elim at.2 [
-                  | inl it ↦ (let s = it.1 in omega arith)
-                  | inr it ↦ (let s = it.1 in omega arith)
-                ]
-                in elim enough [
-                  | inl none ↦ absurd (omega arith)
-                  | inr late ↦ (let o = so_far.raised.order j k two (omega arith) in omega arith)
-                ])
+            | inl is ↦ grind arith
           ];
         };
         least = λ other raised. so_far.least other (record {

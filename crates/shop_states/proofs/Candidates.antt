@@ -1,7 +1,6 @@
 -- The candidates of a word, and what is foreseen of the bound after one.
-use Rattle.std.proofs.Common.{rules}
-use Rattle.std.proofs.Common.{◌≡◌, ℕ, ◌+◌, ◌-◌, ◌<◌, ◌^◌, max, min, List}
-use Rattle.std.proofs.Common.{[], ◌∷◌, ◌++◌, length, get_or, ap, arith}
+use Rattle.std.proofs.Common.{rules, ◌≡◌, ℕ, ◌+◌, ◌-◌, ◌<◌, ◌^◌, max, min, List, [], ◌∷◌, ◌++◌, length, get_or, ap}
+use Rattle.std.proofs.Common.{arith}
 use Rattle.shop_lanes.specs.Rows.{Rows}
 use Rattle.shop_model.specs.Limits.{IsWithinLimits}
 use Rattle.shop_model.specs.Shop.{Shop, IsOperation, machine_of}
@@ -11,7 +10,7 @@ use Rattle.shop_bound.specs.Bound.{lb}
 use Rattle.std.specs.Prelude.{Option, Some, None}
 use Rattle.shop_states.specs.States.{TellsBoundBelow}
 use Rattle.shop_bound.proofs.SmallSums.{sums_small}
-use Rattle.shop_bound.specs.Conflicts.{chosen_of, conflict, conflict_among, conflicts_with, open_jobs}
+use Rattle.shop_bound.specs.Conflicts.{conflict, conflict_among, open_jobs}
 use Rattle.shop_bound.proofs.Entries.{IsWord-snoc}
 use Rattle.shop_states.specs.inner.Advances.{IsAdvancing, IsLeastAt, foreseen}
 use Rattle.shop_states.specs.inner.LaneChoices.{AreChoosable}
@@ -25,8 +24,7 @@ use Rattle.shop_states.proofs.StateSteps.{next_at}
 
 -- a conflict set is a part of the open jobs
 conflict_in : (shop : Shop) (p : Placing) (js : List ℕ) (q : ℕ) → IsIn (conflict_among shop p js) q → IsIn js q
-conflict_in shop p [] q h = h
-conflict_in shop p (j ∷ js) q h = (in_filter (conflicts_with shop p (chosen_of shop p j js)) (j ∷ js) q h).0
+conflict_in shop p x q h = grind (arith, in_filter)
 
 module _ (shop : Shop) (w : List ℕ) (word : IsWord shop w) where
   known : (q : ℕ) → IsIn (conflict shop w) q → (q < length shop.jobs) × IsOperation shop q ((placing shop w).steps q)

@@ -1,6 +1,5 @@
 -- What is read of the next operation of a job, and what is foreseen of the bound after it.
-use Rattle.std.proofs.Common.{◌≡◌, ℕ, ◌+◌, ◌≤◌, max, ◌-◌, List, [], ◌∷◌, ◌++◌, set}
-use Rattle.std.proofs.Common.{get_or, ◌∙◌, ap, arith}
+use Rattle.std.proofs.Common.{◌≡◌, ℕ, ◌+◌, ◌≤◌, max, ◌-◌, List, [], ◌∷◌, ◌++◌, set, get_or, ◌∙◌, ap, arith}
 use Rattle.shop_lanes.specs.Rows.{Rows, with_head}
 use Rattle.shop_lanes.specs.Spans.{span}
 use Rattle.shop_model.specs.Shop.{Shop, machine_of, time_of, IsOperation}

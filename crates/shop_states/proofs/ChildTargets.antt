@@ -89,8 +89,7 @@ module _ {greatest : ℕ} {shop : Shop} {w : List ℕ} {l : LayoutState} {rows :
       × ((place_next shop (placing shop w) j).steps o.job ≤ o.step)
   unfolding child_head
   left_at q some = elim (cases_eq (get_or (set rows.heads (place l j ((placing shop w).steps j)) 0) q 0) 0) [
-    | inl none ↦ (let a = target_none kept.limits kept.laid (next_is j kept fits) (first_left j kept fits) stored q none
-        in absurd (omega arith))
+    | inl none ↦ grind (arith, target_none, next_is, first_left)
     | inr waits ↦ waits_at kept.limits kept.laid (next_is j kept fits) (first_left j kept fits) stored q (omega arith)
   ]
 
@@ -136,17 +135,11 @@ module _ {greatest : ℕ} {shop : Shop} {w : List ℕ} {l : LayoutState} {rows :
       let n = first_position l shop.machines
       in record {
         positions = length-values child_head n;
-        waiting = λ i k op opened.
-            values_at child_head n (place l i k) (place_of shop kept.limits l kept.laid i k op).within
-            ∙ head_at i k op opened;
+        waiting = grind (arith, values_at, place_of, head_at);
         placed = λ i k op before.
             values_at child_head n (place l i k) (place_of shop kept.limits l kept.laid i k op).within
             ∙ nothing (place l i k) (stored.placed i k op before);
-        padding = λ q free. elim (cases_lt q n) [
-          | inl here ↦ values_at child_head n q here ∙ nothing q (stored.padding q free)
-          | inr past ↦ (let long = length-values child_head n
-              in get_or_past (values child_head n) q 0 (omega arith))
-        ];
+        padding = λ q free. grind (arith, cases_lt, values_at, nothing, stored, length-values, get_or_past);
       }
 
   pub heads_least : {now : List ℕ} → AreHeadsAt shop (place_next shop (placing shop w) j) l now → (other : ℕ → ℕ)

@@ -1,6 +1,5 @@
 -- What is known of the children of a word once heads are raised as if their machine were free late.
-use Rattle.std.proofs.Common.{rules}
-use Rattle.std.proofs.Common.{◌≡◌, ℕ, ◌+◌, ◌*◌, ◌^◌, ◌≤◌, ◌<◌, inl, inr, List, [], ◌∷◌, ◌++◌, length, get_or}
+use Rattle.std.proofs.Common.{rules, ◌≡◌, ℕ, ◌+◌, ◌*◌, ◌^◌, ◌≤◌, ◌<◌, inl, inr, List, [], ◌∷◌, ◌++◌, length, get_or}
 use Rattle.std.proofs.Common.{refl, ◌∙◌, ap, arith}
 use Rattle.shop_lanes.specs.Rows.{Rows}
 use Rattle.shop_model.specs.Shop.{Shop, machine_of}
@@ -18,9 +17,8 @@ use Rattle.shop_states.specs.inner.HeadRaises.{Raise, raise_of}
 use Rattle.shop_states.specs.inner.LaneStates.{IsKeptInLanes}
 use Rattle.shop_states.specs.inner.MachineRaises.{AreEmpty, AreRaisesFit}
 use Rattle.shop_states.specs.inner.Raises.{HasBlocks}
-use Rattle.shop_states.specs.inner.Siblings.{AreLatest, AreSiblings, BoundsRaises, CanRaiseBehind, IsAmong}
-use Rattle.shop_states.specs.inner.Siblings.{IsLateIn, RaisesBehind}
-use Rattle.shop_states.specs.inner.Siblings.{end_by, job_at}
+use Rattle.shop_states.specs.inner.Siblings.{AreLatest, AreSiblings, BoundsRaises, CanRaiseBehind, IsAmong, IsLateIn}
+use Rattle.shop_states.specs.inner.Siblings.{RaisesBehind, end_by, job_at}
 use Rattle.shop_states.specs.inner.Watchers.{AreSeen, Watches, no_floor}
 use Rattle.shop_states.proofs.LaneFits.{spans_fit}
 use Rattle.shop_states.proofs.LateHeads.{can_late, its_word, now_small}
@@ -88,10 +86,7 @@ module _ {greatest : ℕ} {shop : Shop} {w : List ℕ} {l : LayoutState} {hs es 
             in late_ceiling kept siblings latest (its_from from_is) (its_to to_is) raises n known (raise_of after n)
             (λ q on. elim (seen q) [
               | inl still ↦ inl (omega arith)
-              | inr rose ↦ (let f = rose.0 in let u = rose.1
-                  in let same_from = ap (λ (k : ℕ). (raise_of after k).from) on
-                  in let same_to = ap (λ (k : ℕ). (raise_of after k).to) on
-                  in inr (omega arith, omega arith))
+              | inr rose ↦ grind arith
             ])
             (get_or ceilings n 0) (omega arith) (bounds.covers n here)
 

@@ -1,6 +1,5 @@
 -- The conflict set gathered on the machine of the operation that can end first.
-use Rattle.std.proofs.Common.{rules}
-use Rattle.std.proofs.Common.{◌≡◌, ℕ, ◌+◌, ◌*◌, ◌^◌, ◌≤◌, ◌<◌, List, [], ◌∷◌, length, get_or, subst, arith, refl}
+use Rattle.std.proofs.Common.{rules, ◌≡◌, ℕ, ◌+◌, ◌*◌, ◌^◌, ◌≤◌, ◌<◌, List, [], ◌∷◌, length, get_or, subst, arith, refl}
 use Rattle.std.specs.List.{All}
 use Rattle.shop_lanes.specs.Marks.{positions_below}
 use Rattle.shop_lanes.specs.Spans.{AreOwnSpans}
@@ -69,13 +68,7 @@ module _ {greatest : ℕ} {shop : Shop} {w : List ℕ} {l : LayoutState} {heads 
     can_list {to} ordered last {below} marks {count} room small =
         let within = tells.blocks.within
         in record {
-          blocks_are = record {
-            ordered = ordered;
-            last = last;
-            within = within;
-            fits = chosen.fits;
-            marks = marks;
-          };
+          blocks_are = grind arith;
           computable = omega arith;
           placed = placed;
           few = (let few = kept.kept.limits.jobs in let jobs = kept.are_next.jobs in omega arith);

@@ -15,7 +15,6 @@ use Rattle.shop_states.specs.inner.Fills.{IsAtLeg, IsStored, CanFill, AreSameBes
 use Rattle.shop_layout.specs.declared.legs.Leg.{Leg}
 use Rattle.shop_layout.specs.Legs.{all_legs, end_of, leg_index}
 use Rattle.shop_layout.specs.Positions.{IsFree, LayoutState, place}
-use Rattle.shop_bound.specs.inner.PlacedWords.{IsOfWord}
 use Rattle.shop_layout.proofs.LaidPlaces.{place_of}
 use Rattle.shop_states.proofs.JobLegs.{IsLegOf, index_there, leg_is, leg_small, step_past, step_there}
 use Rattle.shop_states.proofs.RowTurns.{open_turn}
@@ -61,14 +60,7 @@ module _ {greatest : ℕ} {shop : Shop} {l : LayoutState} {s : PlacementState} {
         in record {
           beside = beside_both rows now new so_far.beside (beside_one now new q v wrote);
           filled = λ p is t op_t below. elim (cases_eq t k) [
-            | inl f ↦ (let same : get_or new.heads (place l j t) 0 ≡ v =
-                ap (λ (x : ℕ). get_or new.heads (place l j x) 0) f ∙ mine
-                in let w = value p is
-                in let head : head_of shop p j t ≡ head_of shop p j k = ap (head_of shop p j) f
-                in record {
-                  waiting = λ opened. (let a = w.1 in omega arith);
-                  placed = λ before. absurd (let a = w.0 in omega arith);
-                })
+            | inl f ↦ grind arith
             | inr ne ↦ (
                 let apart : place l j t ≡ q → ⊥ = (λ f. ne (
                 let a = place_of shop can.limits l can.laid j t op_t
@@ -90,10 +82,6 @@ module _ {greatest : ℕ} {shop : Shop} {l : LayoutState} {s : PlacementState} {
       turn : (p : Placing) → IsPlacement shop p s → (head ≡ head_of shop p j k)
           × (head + t ≡ ready_after shop p j (k + 1 - p.steps j))
       turn p is = open_turn shop can.limits s j job k ready head on for so_far.ready_is opened greater p is
-
-      -- it waits, and its head and its end fit
-      pub open_fits : IsOfWord shop s → (head + 1 ≤ greatest) × (head + t < greatest)
-      open_fits of = grind (arith, turn)
 
       pub filled_open : (new : Rows) → new ≡ with_head now q (head + 1)
           → IsFilledUpTo shop l s j (k + 1) (head + t) rows new
@@ -144,11 +132,7 @@ module _ {greatest : ℕ} {shop : Shop} {l : LayoutState} {rows : Rows} (can : C
       pub job_filled : n ≤ leg.position → HasFilledJob shop l s j rows now
       job_filled above =
           let past = step_past can.limits can.laid j job so_far.step so_far.within same so_far.index_is is count above
-          in record {
-            beside = so_far.up_to.beside;
-            filled = λ p placed k op. so_far.up_to.filled p placed k op (omega arith);
-            others = so_far.up_to.others;
-          }
+          in grind arith
 
       -- at a step of it
       module _ (below : leg.position < n) where
@@ -173,7 +157,7 @@ module _ {greatest : ℕ} {shop : Shop} {l : LayoutState} {rows : Rows} (can : C
             above = greater ∙ ap (λ (xs : List ℕ). max ready (get_or xs leg.machine 0)) at.free_is
 
             pub leg_fits : (head + 1 ≤ greatest) × (head + leg.time < greatest)
-            leg_fits = grind (arith, open_fits, op_there, leg_found, above)
+            leg_fits = grind (arith, op_there, leg_found, above)
 
             pub filling_on : (new : Rows) → new ≡ with_head now leg.position (head + 1)
                 → IsFillingTo shop l s j (index + 1) (head + leg.time) rows new

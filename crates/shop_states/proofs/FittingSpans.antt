@@ -4,7 +4,7 @@ use Rattle.std.proofs.lemmas.Bool.{cases_lt}
 use Rattle.std.proofs.lemmas.List.Sums.{sum_by-cons}
 use Rattle.shop_lanes.specs.Rows.{Lane}
 use Rattle.shop_lanes.specs.Spans.{FitsSpan, greatest_by, span, spans_between, spans_from}
-use Rattle.shop_states.proofs.SpanTurns.{span_left, span_served, spans_counted, spans_high, spans_low}
+use Rattle.shop_states.proofs.SpanTurns.{span_left, spans_counted, spans_high, spans_low}
 
 pub span_within : (least start : ℕ) (xs : List Lane)
     → span least start xs ≤ start + sum_by (λ x. x.time) xs + greatest_by (λ x. x.tail) xs
@@ -13,7 +13,7 @@ span_within least start (x ∷ xs) =
     let sum = sum_by-cons (λ (l : Lane). l.time) x xs
     in elim (cases_lt x.head least) [
       | inl left ↦ (let e = span_left least start x xs left in let rest = span_within least start xs in omega arith)
-      | inr served ↦ grind (arith, span_served, span_within least (start + x.time) xs)
+      | inr served ↦ grind (arith, span_within least (start + x.time) xs)
     ]
 
 pub spans_within : (limit above upto : ℕ) (all : List Lane) → FitsSpan limit upto all → (xs : List Lane)
@@ -21,10 +21,7 @@ pub spans_within : (limit above upto : ℕ) (all : List Lane) → FitsSpan limit
 spans_within limit above upto all fits [] = omega arith
 spans_within limit above upto all fits (x ∷ xs) =
     let rest = spans_within limit above upto all fits xs
-    in elim (cases_lt above x.head) [
-      | inl after ↦ grind (arith, cases_lt, spans_high, spans_counted, span_within)
-      | inr low ↦ (let e = spans_low above upto all x xs low in omega arith)
-    ]
+    in grind (arith, cases_lt, spans_high, spans_counted, span_within, spans_low)
 
 -- what bounds each span that begins between two moments bounds all of them
 spans_each_of : (c above upto : ℕ) (all : List Lane) → ((h : ℕ) → above < h → h ≤ upto → span h h all ≤ c)

@@ -58,8 +58,7 @@ in_bits (suc n) at word q h = elim (cases_eq (word % 2) 1) [
     | inl e ↦ (zero, omega arith, omega arith, bit_at_lowest word ∙ odd)
     | inr g ↦ later_bit n at word q (in_bits n (at + 1) (word / 2) q g)
   ]
-  | inr other ↦ later_bit n at word q (in_bits n (at + 1) (word / 2) q
-      (subst (λ (xs : List ℕ). IsIn xs q) (set_bits-even n at word (omega arith)) h))
+  | inr other ↦ grind (arith, later_bit, set_bits-even, in_bits n (at + 1) (word / 2) q)
 ]
 
 bits_in : (n at word i : ℕ) → i < n → bit_at word i ≡ 1 → IsIn (set_bits n at word) (at + i)

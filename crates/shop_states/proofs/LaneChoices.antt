@@ -56,10 +56,6 @@ module _ (rows : Rows) (from to limit : ℕ) (ordered : from ≤ to) (within : 8
 
 -- some blocks, and those behind them
 module _ (l : LayoutState) (heads : List ℕ) (limit : ℕ) where
-  moved : (among others : ℕ → Type 0) → (j : ℕ) → (next : IsJobBelow l heads among limit j) → others next.position
-      → IsJobBelow l heads others limit j
-  moved among others j next there = grind arith
-
   pub none_gathered : (from : ℕ) (old : List ℕ)
       → HasGathered (IsJobBelow l heads (IsInBlocks from from) limit) old old
   none_gathered from old = grind arith
@@ -71,20 +67,10 @@ module _ (l : LayoutState) (heads : List ℕ) (limit : ℕ) where
   more_gathered first from to old now new low high before then = record {
     kept = λ j h. then.kept j (before.kept j h);
     gathered = λ j next. elim (cases_lt next.position (8 * from)) [
-      | inl lt ↦ then.kept j (before.gathered j
-          (moved (IsInBlocks first to) (IsInBlocks first from) j next (next.there.0, lt)))
-      | inr ge ↦ then.gathered j
-          (moved (IsInBlocks first to) (IsInBlocks from to) j next (ge, next.there.1))
+      | inl lt ↦ grind arith
+      | inr ge ↦ grind arith
     ];
-    only = λ j h. elim (then.only j h) [
-      | inl g ↦ elim (before.only j g) [
-        | inl f ↦ inl f
-        | inr next ↦ inr (moved (IsInBlocks first from) (IsInBlocks first to) j next
-            (let a = next.there.0 in let b = next.there.1 in (omega arith, omega arith)))
-      ]
-      | inr next ↦ inr (moved (IsInBlocks from to) (IsInBlocks first to) j next
-          (let a = next.there.0 in let b = next.there.1 in (omega arith, omega arith)))
-    ];
+    only = λ j h. grind arith;
   }
 
 -- what is put in first, and all that is gathered then
@@ -112,9 +98,6 @@ alone_with l nexts rows placed from to limit j ordered within known all = record
       (record { there = next.there; waits = next.waits; below = next.below }))
       in let high = next.there.1
       in inl (sym next.job ∙ ap (λ (x : ℕ). get_or l.jobs x 0) at ∙ placed.own j known (omega arith));
-  only = λ q h. elim h [
-    | inl e ↦ inl e
-    | inr nothing ↦ absurd nothing
-  ];
+  only = λ q h. grind arith;
   rises = ((λ q h. absurd h), tt);
 }

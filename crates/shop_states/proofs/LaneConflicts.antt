@@ -1,5 +1,5 @@
 -- The conflict set is the chosen job and the jobs that are gathered from the lanes.
-use Rattle.std.proofs.Common.{◌≡◌, ℕ, zero, suc, ◌+◌, ◌≤◌, ◌<◌, ◌⊎◌, inl, inr, Bool, true, false, ◌||◌, List}
+use Rattle.std.proofs.Common.{◌≡◌, ℕ, zero, suc, ◌+◌, ◌≤◌, ◌<◌, ◌⊎◌, inl, inr, Bool, true, ◌||◌, List}
 use Rattle.std.proofs.Common.{[], ◌∷◌, length, get_or, refl, sym, ◌∙◌, ap, subst, arith, eqb, ltb}
 use Rattle.std.specs.List.{filter, range_with_len, best_of}
 use Rattle.std.proofs.lemmas.Bool.{cases_Bool, cases_eq, cases_lt, and_from, and_parts, lt-ltb}
@@ -102,8 +102,7 @@ module _ (shop : Shop) (p : Placing) where
       (lt-ltb (p.steps j) (length (route_of shop j)) op)
 
 either : (a b : Bool) → (a || b) ≡ true → (a ≡ true) ⊎ (b ≡ true)
-either true b e = inl refl
-either false b e = inr e
+either x b e = grind arith
 
 -- what follows a next operation begins no earlier than that can end
 ready_from_end : (shop : Shop) (p : Placing) (j n : ℕ) → next_end shop p j ≤ ready_after shop p j (suc n)
@@ -139,9 +138,7 @@ module _ {shop : Shop} {p : Placing} {l : LayoutState} {nexts : List ℕ} {rows 
             | inl before ↦ absurd (let a = can.heads.placed o.job o.step o.is before in omega arith)
             | inr opened ↦ (let a = can.heads.waiting o.job o.step o.is opened
                 in elim (cases_lt (p.steps o.job) o.step) [
-                  | inl later ↦ absurd (let op = o.is
-                      in let b = later_head shop p o.job o.step later
-                      in let d = least o.job (omega arith) in omega arith)
+                  | inl later ↦ grind (arith, later_head)
                   | inr same ↦ (let e : o.step ≡ p.steps o.job = omega arith
                       in let op = subst (IsOperation shop o.job) e o.is
                       in subst (λ (j : ℕ). IsOperation shop j (p.steps j) × (get_or nexts j 0 ≡ q)) job
@@ -160,20 +157,14 @@ module _ {shop : Shop} {p : Placing} {l : LayoutState} {nexts : List ℕ} {rows 
         in let waits = is.waits in let below = is.below
         in let known = IsOperation-job shop (get_or l.jobs is.position 0) (p.steps (get_or l.jobs is.position 0)) w.0
         in let many = can.are.jobs in let job = is.job
-        in record {
-          job = omega arith;
-          there = subst among (sym at) is.there;
-          waits = omega arith;
-          below = omega arith;
-        }
+        in grind arith
 
     from_next : (among : ℕ → Type 0) (j : ℕ) → IsNextBelow nexts rows.heads among limit j
         → IsJobBelow l rows.heads among limit j
     from_next among j is =
         let here : get_or nexts j 0 < length rows.heads = elim (cases_lt (get_or nexts j 0) (length rows.heads)) [
           | inl h ↦ h
-          | inr past ↦ absurd (let a = is.waits in let b = get_or_past rows.heads (get_or nexts j 0) 0 past
-              in omega arith)
+          | inr past ↦ grind (arith, get_or_past)
         ]
         in record {
           position = get_or nexts j 0;
@@ -206,14 +197,7 @@ module _ {shop : Shop} {p : Placing} {l : LayoutState} {nexts : List ℕ} {rows 
           (omega arith)
           in let head = stored_head can i o
           in let under = next.below
-          in (
-            o,
-            or_right (eqb i r) _
-                (and_from (eqb (next_machine shop p i) (next_machine shop p r))
-                (ltb (next_head shop p i) (next_end shop p r))
-                (eq-eqb (next_machine shop p i) (next_machine shop p r) (machine ∙ on))
-                (lt-ltb (next_head shop p i) (next_end shop p r) (omega arith))),
-          )
+          in grind (arith, or_right, and_from, eq-eqb, lt-ltb)
 
       below_from : (i : ℕ) → IsOperation shop i (p.steps i) → next_machine shop p i ≡ next_machine shop p r
           → next_head shop p i < next_end shop p r → Below i
@@ -229,12 +213,7 @@ module _ {shop : Shop} {p : Placing} {l : LayoutState} {nexts : List ℕ} {rows 
           in let behind : first_position l (machine_of shop i (p.steps i) + 1) ≡ first_position l (m + 1) =
           ap (λ (x : ℕ). first_position l (x + 1)) its
           in let from = stands.from in let to = stands.to
-          in record {
-            job = omega arith;
-            there = (omega arith, omega arith);
-            waits = omega arith;
-            below = omega arith;
-          }
+          in grind arith
 
       -- the jobs whose next operations conflict with that of r
       pub are_conflicting : (js : List ℕ) → IsGatheredWith r Below js

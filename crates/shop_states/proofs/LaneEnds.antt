@@ -1,5 +1,5 @@
 -- The ends of next operations are kept up in lanes.
-use Rattle.std.proofs.Common.{◌≡◌, ℕ, ◌+◌, ◌<◌, inl, inr, List, length, get_or, refl, sym, ◌∙◌, ap, arith}
+use Rattle.std.proofs.Common.{◌≡◌, ℕ, ◌+◌, ◌<◌, inl, inr, List, length, get_or, sym, ◌∙◌, ap, arith}
 use Rattle.std.proofs.lemmas.Bool.{cases_lt, lt-ltb, le-ltb}
 use Rattle.std.proofs.lemmas.Grind.{get_or-set_at}
 use Rattle.std.proofs.lemmas.List.{get_or-set_other, length-set}
@@ -17,8 +17,7 @@ use Rattle.shop_states.specs.inner.Raises.{AreFirst}
 use Rattle.shop_layout.proofs.LatestEnds.{latest_end_is}
 use Rattle.shop_states.proofs.RaisedHeads.{indexed}
 use Rattle.shop_states.proofs.RaiseWalks.{apart, place_within}
-use Rattle.shop_states.proofs.NextOperations.{head_first, next_is, next_past, next_placed, next_there}
-use Rattle.shop_states.proofs.NextOperations.{next_within, stored_end}
+use Rattle.shop_states.proofs.NextOperations.{head_first, next_is, next_placed, next_there, next_within, stored_end}
 
 -- one more end is set
 module _ {greatest : ℕ} {l : LayoutState} {nexts : List ℕ} {old : Rows} (keep : CanKeepEnds greatest l nexts old)
@@ -28,14 +27,11 @@ module _ {greatest : ℕ} {l : LayoutState} {nexts : List ℕ} {old : Rows} (kee
     pub beside_more : HasEnds old new
     beside_more = grind (arith, length-set)
 
-    same_at : (j : ℕ) → end_at greatest nexts new j ≡ end_at greatest nexts now j
-    same_at j = ap (λ (r : Rows). end_at greatest nexts r j) wrote
-
     pub end_here : IsEndOf greatest nexts new job
-    end_here = grind (arith, get_or-set_at, same_at)
+    end_here = grind (arith, get_or-set_at)
 
     pub end_other : (j : ℕ) → (j ≡ job → ⊥) → IsEndOf greatest nexts now j → IsEndOf greatest nexts new j
-    end_other j ne is = grind (arith, get_or-set_other, same_at)
+    end_other j ne is = grind (arith, get_or-set_other)
 
 module _ {greatest : ℕ} {shop : Shop} {w : List ℕ} {l : LayoutState} {rows : Rows}
     (kept : AreHeadsInLanes greatest shop w l rows) {nexts : List ℕ}
@@ -90,9 +86,7 @@ module _ {greatest : ℕ} {shop : Shop} {w : List ℕ} {l : LayoutState} {rows :
           | inl op ↦ ends.next j op
               ∙ sym (rw (lt-ltb (get_or nexts j 0) (length rows.heads)
               (next_within nexts_at j op)) (stored_end nexts_at j op))
-          | inr past ↦ ends.none j here past
-              ∙ sym (rw (le-ltb (get_or nexts j 0) (length rows.heads)
-              (next_past nexts_at j here past)) refl)
+          | inr past ↦ grind (arith, le-ltb, nexts_at)
         ]
 
     -- if no end is the greatest number
@@ -104,13 +98,8 @@ module _ {greatest : ℕ} {shop : Shop} {w : List ℕ} {l : LayoutState} {rows :
           in ends j (let a = are.jobs in omega arith)
           ∙ (rw (lt-ltb (get_or nexts j 0) (length rows.heads) (next_within nexts_at j op))
           (stored_end nexts_at j op)));
-      none = λ j known past. ends j (let a = are.jobs in omega arith)
-          ∙ (rw (le-ltb (get_or nexts j 0) (length rows.heads)
-          (next_past nexts_at j known past)) refl);
-      fits = λ j op. (
-          let head = head_first shop p j
-          in let latest = latest_end_is shop w kept.word j (p.steps j) op (omega arith)
-          in let fits = holds 0 (let some = kept.limits.some_machine in omega arith) in omega arith);
+      none = λ j known past. grind (arith, le-ltb, nexts_at);
+      fits = λ j op. grind (arith, head_first, latest_end_is);
     }
 
 -- the ends alone differ

@@ -78,10 +78,7 @@ module _ (least head : ℕ) (some : 0 < least) where
       (subst (λ (vs : List Triple). IsNonincreasing (λ u. u.tail) vs) (sym again) nonincreasing) clock
       in let same : one ((us ++ t ∷ []) ++ ts) ≡ one (us ++ t ∷ ts) = ap one again
       in let time = r.time in let last = r.tail
-      in elim r.same [
-        | inl on ↦ grind (arith, span_served, within_in, times_from-more)
-        | inr off ↦ grind (arith, span_left, times_from-less)
-      ]
+      in grind (arith, within_in, times_from-more, span_left, times_from-less)
 
 none_above : (ts : List Triple) (head tail : ℕ) → length (filter (is_above head tail) ts) ≡ 0
     → span_above ts head tail ≡ 0

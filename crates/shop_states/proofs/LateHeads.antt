@@ -1,8 +1,7 @@
 -- The heads of a word, raised behind the operations of its candidates' machine as if that were free late: that lanes
 -- have room for them, and that no child's heads are higher, but where its own operation delays them.
-use Rattle.std.proofs.Common.{rules}
-use Rattle.std.proofs.Common.{◌≡◌, ℕ, ◌+◌, ◌*◌, ◌≤◌, ◌<◌, max, inl, inr, List, [], ◌∷◌, ◌++◌, get_or, set}
-use Rattle.std.proofs.Common.{refl, sym, ◌∙◌, ap, subst, arith, cond, ltb}
+use Rattle.std.proofs.Common.{rules, ◌≡◌, ℕ, ◌+◌, ◌*◌, ◌≤◌, ◌<◌, max, inl, inr, List, [], ◌∷◌, ◌++◌, get_or, set, refl}
+use Rattle.std.proofs.Common.{sym, ◌∙◌, ap, subst, arith, cond, ltb}
 use Rattle.std.proofs.lemmas.Bool.{cases_eq, cases_lt, eq-eqb, le-ltb, lt-ltb, ne_eqb}
 use Rattle.shop_lanes.specs.Rows.{Rows}
 use Rattle.shop_model.specs.Shop.{Shop, IsOperation, machine_of}
@@ -172,32 +171,15 @@ module _ {greatest : ℕ} {shop : Shop} {w : List ℕ} {l : LayoutState} {hs es 
       late_raised =
           let b = beside.1
           in record {
-            rises = λ q. elim (cases_eq q last) [
-              | inl is ↦ (let here = b.here in let x = ap (λ (p : ℕ). get_or hs p 0) is in let y = ap beside.0 is
-                  in omega arith)
-              | inr ne ↦ (let rises = last_raised.rises q in let same = waits_there q ne in omega arith)
-            ];
+            rises = λ q. grind (arith, cases_eq, beside, last_raised, waits_there);
             rests = λ q none.
                 let low = struck_low kept.kept t.job (its_word latest.last) q
                 in let x = last_raised.rests q (omega arith) in let y = b.rests q none in omega arith;
             order = λ j k two some. elim (cases_lt 0 (of_last (place l j k))) [
-              | inl first ↦ (let x = last_raised.order j k two first
-                  in elim (cases_lt 0 (beside.0 (place l j k))) [
-                    | inl second ↦ (let y = b.order j k two second in omega arith)
-                    | inr none ↦ omega arith
-                  ])
+              | inl first ↦ grind (arith, last_raised, cases_lt, beside)
               | inr none ↦ (let y = b.order j k two (omega arith) in omega arith)
             ];
-            behind = λ j k e two at waits. elim at.2 [
-              | inl it ↦ (let here = b.here in let second = b.second in let e_is = it.1
-                  in let x = ap (λ (p : ℕ). get_or hs p 0) it.0 in let y = ap beside.0 it.0
-                  in let o = b.order j k two (omega arith) in omega arith)
-              | inr it ↦ (let same = waits_there (place l j k) it.0 in let e_is = it.1
-                  in let low = at.0 in let high = at.1
-                  in let reach = last_raised.reach (place l j k) (omega arith, omega arith) (omega arith)
-                  in let up = last_raised.rises (place l j k)
-                  in let o = last_raised.order j k two (omega arith) in omega arith)
-            ];
+            behind = λ j k e two at waits. grind (arith, beside, waits_there, last_raised);
           }
 
       late_fits : (q : ℕ) → 0 < late_head q → late_head q + get_or l.times q 0 ≤ greatest
@@ -215,9 +197,7 @@ module _ {greatest : ℕ} {shop : Shop} {w : List ℕ} {l : LayoutState} {hs es 
       ends_fit q e at waits =
           let b = beside.1
           in elim at.2 [
-            | inl it ↦ (let here = b.here in let second = b.second in let e_is = it.1
-                in let x = ap (λ (p : ℕ). get_or hs p 0) it.0 in let y = ap beside.0 it.0
-                in let f = late_fits q (omega arith) in omega arith)
+            | inl it ↦ grind (arith, beside, late_fits)
             | inr it ↦ (let same = waits_there q it.0 in let e_is = it.1 in let low = at.0 in let high = at.1
                 in let reach = last_raised.reach q (omega arith, omega arith) (omega arith)
                 in let up = last_raised.rises q
@@ -345,7 +325,4 @@ module _ {greatest : ℕ} {shop : Shop} {w : List ℕ} {l : LayoutState} {hs es 
               ≤ max (get_or now.heads q 0) (floor_on machine (end_by hs l.times nexts j) (get_or l.machines q 0))
           child_low {heads} are q =
               let least = heads_least kept.kept j (its_word among) are child_other other_raised q
-              in elim (cases_lt 0 (get_or (set hs (place l j ((placing shop w).steps j)) 0) q 0)) [
-                | inl some ↦ (let is = other_some q some in omega arith)
-                | inr none ↦ (let is = other_none q (omega arith) in omega arith)
-              ]
+              in grind (arith, cases_lt, other_some, other_none)

@@ -1,6 +1,5 @@
 -- Spans from heads that are raised as if their machine were free late bound those of each child, and so its bound.
-use Rattle.std.proofs.Common.{rules}
-use Rattle.std.proofs.Common.{◌≡◌, ℕ, ◌+◌, ◌*◌, ◌≤◌, ◌<◌, ◌⊎◌, inl, inr, List, [], ◌∷◌, ◌++◌, length, get_or}
+use Rattle.std.proofs.Common.{rules, ◌≡◌, ℕ, ◌+◌, ◌*◌, ◌≤◌, ◌<◌, ◌⊎◌, inl, inr, List, [], ◌∷◌, ◌++◌, length, get_or}
 use Rattle.std.proofs.Common.{refl, sym, ◌∙◌, ap, subst, arith}
 use Rattle.std.proofs.lemmas.Bool.{cases_eq, cases_lt, eq-eqb, ne_eqb}
 use Rattle.shop_lanes.specs.Rows.{Lane, Rows, lanes_of}
@@ -192,10 +191,7 @@ module _ {greatest : ℕ} {shop : Shop} {w : List ℕ} {l : LayoutState} {rows :
               ≡ (place_next shop (placing shop w) j).free (machine_of shop j ((placing shop w).steps j)) + 1 =
               rw (eq-eqb m (machine_of shop j ((placing shop w).steps j)) on) refl
               in its_ahead kept j fits child_kept after m known (on ∙ sym after.next.machine_is) h some (omega arith))
-          | inr off ↦ (let none : floor_on (machine_of shop j ((placing shop w).steps j))
-              ((place_next shop (placing shop w) j).free (machine_of shop j ((placing shop w).steps j)) + 1) m ≡ 0 =
-              rw (ne_eqb m (machine_of shop j ((placing shop w).steps j)) off) refl
-              in absurd (omega arith))
+          | inr off ↦ grind (arith, ne_eqb)
         ]
       ])))
       in let most = after.most in omega arith

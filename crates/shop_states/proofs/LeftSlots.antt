@@ -1,7 +1,6 @@
 -- What is left for a machine, by its slots: what waits for it, so the bound of a word.
-use Rattle.std.proofs.Common.{rules}
-use Rattle.std.proofs.Common.{◌≡◌, ℕ, zero, suc, ◌+◌, ◌-◌, ◌≤◌, ◌<◌, max, inl, inr, Bool, true, false, List, [], ◌∷◌}
-use Rattle.std.proofs.Common.{length, get_or, map, refl, sym, ◌∙◌, ap, arith, eqb, leb}
+use Rattle.std.proofs.Common.{rules, ◌≡◌, ℕ, zero, suc, ◌+◌, ◌-◌, ◌≤◌, ◌<◌, max, inl, inr, Bool, true, false, List, []}
+use Rattle.std.proofs.Common.{◌∷◌, length, get_or, map, refl, sym, ◌∙◌, ap, arith, eqb, leb}
 use Rattle.std.specs.List.{AllByRecursion, filter, flat_map, range_with_len}
 use Rattle.std.proofs.lemmas.Bool.{cases_Bool, cases_lt, le-leb, leb-true}
 use Rattle.std.proofs.lemmas.List.{map-append}
@@ -55,10 +54,7 @@ range_from s a zero = let e : zero - (s - a) ≡ zero = omega arith in sym (ap (
 range_from s a (suc n) =
     let rest = range_from s (a + 1) n
     in elim (cases_lt a s) [
-      | inl l ↦ (let e : leb s a ≡ false = lt-not_leb s a l
-          in let f : max s (a + 1) ≡ max s a = omega arith
-          in let g : n - (s - (a + 1)) ≡ suc n - (s - a) = omega arith
-          in rw e (rest ∙ ap (λ x. range_with_len x (n - (s - (a + 1)))) f ∙ ap (range_with_len (max s a)) g))
+      | inl l ↦ grind (arith, lt-not_leb)
       | inr h ↦ (let e : leb s a ≡ true = le-leb s a h
           in let f : max s (a + 1) ≡ a + 1 = omega arith
           in let g : n - (s - (a + 1)) ≡ n = omega arith

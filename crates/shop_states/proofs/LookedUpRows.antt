@@ -1,6 +1,5 @@
 -- The rows of the next machine whose raise is taken, cut out of rows that were looked up before.
-use Rattle.std.proofs.Common.{◌≡◌, ℕ, ◌+◌, ◌*◌, ◌^◌, ◌≤◌, ◌<◌, List, ◌∷◌, ap, get_or, length, map, refl}
-use Rattle.std.proofs.Common.{◌∙◌, arith}
+use Rattle.std.proofs.Common.{◌≡◌, ℕ, ◌+◌, ◌*◌, ◌^◌, ◌≤◌, ◌<◌, List, ◌∷◌, ap, get_or, length, map, refl, ◌∙◌, arith}
 use Rattle.std.proofs.lemmas.List.{length-map}
 use Rattle.shop_lanes.specs.Rows.{AreBlocksOf, AreCutFrom, lanes_in}
 use Rattle.shop_lanes.specs.declared.lane_rows.LaneRows.{LaneRows}

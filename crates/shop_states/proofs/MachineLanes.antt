@@ -1,7 +1,6 @@
 -- The lanes of a machine's blocks are its operations that wait, by nonincreasing tail.
-use Rattle.std.proofs.Common.{rules}
-use Rattle.std.proofs.Common.{◌≡◌, ℕ, zero, suc, ◌+◌, ◌-◌, ◌*◌, ◌≤◌, ◌<◌, inl, inr, true, false, List}
-use Rattle.std.proofs.Common.{[], ◌∷◌, length, get_or, refl, sym, ◌∙◌, ap, arith}
+use Rattle.std.proofs.Common.{rules, ◌≡◌, ℕ, zero, suc, ◌+◌, ◌-◌, ◌*◌, ◌≤◌, ◌<◌, inl, inr, true, false, List, [], ◌∷◌}
+use Rattle.std.proofs.Common.{length, get_or, refl, sym, ◌∙◌, ap, arith}
 use Rattle.std.proofs.lemmas.Bool.{cases_Bool, cases_eq, cases_lt, leb-true, le-leb}
 use Rattle.std.proofs.lemmas.List.{get_or-take, get_or-drop}
 use Rattle.shop_lanes.specs.Rows.{Lane, lanes, lanes_of, blocks}
@@ -88,11 +87,7 @@ module _ {shop : Shop} (limits : IsWithinLimits shop) {l : LayoutState} (laid : 
       in let its = position_within l.blocks n i.0 (omega arith)
       in let at = position_within l.blocks m r before
       in elim (cases_eq n m) [
-        | inl same ↦ (let a : position_at_rank l.blocks n i.0 ≡ position_at_rank l.blocks m i.0 =
-            ap (λ (x : ℕ). position_at_rank l.blocks x i.0) same
-            in let b : length (slots_of n) ≡ length (slots_of m) = ap (λ (x : ℕ). length (slots_of x)) same
-            in let here = same_rank l.blocks m i.0 r (omega (arith, before, below, b, behind)) before
-            (sym a ∙ (sym there ∙ e)) in omega (arith, here, below, b, behind))
+        | inl same ↦ grind (arith, same_rank)
         | inr ne ↦ elim (cases_lt n m) [
           | inl low ↦ (let a = machines_rise shop limits l laid (n + 1) m (omega arith) (omega arith) in omega arith)
           | inr high ↦ (let a = machines_rise shop limits l laid (m + 1) n (omega arith) (omega arith) in omega arith)

@@ -69,9 +69,7 @@ module _ (greatest : ℕ) (l : LayoutState) (nexts : List ℕ) (first behind e :
       ordered = let a = so_far.ordered in omega arith;
       within = within;
       raises = more_blocks to behind so_far.raises so_far.ordered on within x.raises;
-      seen = sees_both (IsInBlocks first behind) (IsInBlocks from to) (IsInBlocks first behind) (λ q here. here)
-          (λ q here. (let low = here.0 in let high = here.1 in let a = so_far.ordered in (omega arith, omega arith)))
-          x.raises.raised.raised.rises so_far.seen x.seen;
+      seen = grind (arith, sees_both);
       machines = x.machines ∙ so_far.machines;
     }
 

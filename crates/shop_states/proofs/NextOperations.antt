@@ -1,6 +1,5 @@
 -- The next operations of a placing, where they stand in lanes.
-use Rattle.std.proofs.Common.{rules}
-use Rattle.std.proofs.Common.{◌≡◌, ℕ, ◌+◌, ◌≤◌, ◌<◌, List, length, get_or, sym, ◌∙◌, ap, arith}
+use Rattle.std.proofs.Common.{rules, ◌≡◌, ℕ, ◌+◌, ◌≤◌, ◌<◌, List, length, get_or, sym, ◌∙◌, ap, arith}
 use Rattle.std.proofs.lemmas.Bool.{cases_lt}
 use Rattle.shop_lanes.specs.Rows.{Rows}
 use Rattle.shop_model.specs.Shop.{Shop, IsOperation, route_of, time_of}
@@ -11,7 +10,7 @@ use Rattle.shop_bound.specs.Heads.{head_of}
 use Rattle.shop_layout.specs.Positions.{LayoutState, first_position, place}
 use Rattle.shop_layout.proofs.LaidPlaces.{place_of}
 use Rattle.shop_states.specs.inner.LaneChoices.{AreNextPlaced, AreNextsAt}
-use Rattle.shop_states.proofs.Followed.{place_past, place_there}
+use Rattle.shop_states.proofs.Followed.{place_there}
 
 -- the head of a next operation
 pub head_first : (shop : Shop) (p : Placing) (j : ℕ) → head_of shop p j (p.steps j) ≡ next_head shop p j
@@ -31,16 +30,15 @@ module _ {shop : Shop} {p : Placing} {l : LayoutState} {nexts : List ℕ} {rows 
 
   pub next_past : (j : ℕ) → j < length shop.jobs → length (route_of shop j) ≤ p.steps j
       → length rows.heads ≤ get_or nexts j 0
-  next_past j known past = grind (arith, place_past)
+  next_past j known past = grind arith
 
   pub next_is : (j : ℕ) → j < length shop.jobs → get_or nexts j 0 < length rows.heads → IsOperation shop j (p.steps j)
-  next_is j known below = grind (arith, cases_lt, next_past)
+  next_is j known below = grind (arith, cases_lt)
 
   pub next_placed : AreNextPlaced l rows.heads nexts
   next_placed = record {
     positions = can.laid.positions.jobs ∙ sym can.heads.positions;
-    jobs = λ q here. (let a = can.heads.positions in let b = can.laid.known q (omega arith) in let d = can.are.jobs
-        in omega arith);
+    jobs = λ q here. grind arith;
     own = λ j known here. (let many = can.are.jobs in let op = next_is j (omega arith) here
         in ap (λ (x : ℕ). get_or l.jobs x 0) (next_there j op)
         ∙ (place_of shop can.limits l can.laid j (p.steps j) op).job);

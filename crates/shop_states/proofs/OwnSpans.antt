@@ -1,7 +1,6 @@
 -- Own spans tell the bound after each candidate of a word.
-use Rattle.std.proofs.Common.{rules}
-use Rattle.std.proofs.Common.{◌≡◌, ℕ, zero, suc, ◌+◌, ◌-◌, ◌*◌, ◌≤◌, ◌<◌, max, inl, inr, true, List, [], ◌∷◌, ◌++◌}
-use Rattle.std.proofs.Common.{length, get_or, drop, refl, sym, ◌∙◌, ap, subst, arith}
+use Rattle.std.proofs.Common.{rules, ◌≡◌, ℕ, zero, suc, ◌+◌, ◌-◌, ◌*◌, ◌≤◌, ◌<◌, max, inl, inr, true, List, [], ◌∷◌}
+use Rattle.std.proofs.Common.{◌++◌, length, get_or, drop, refl, sym, ◌∙◌, ap, subst, arith}
 use Rattle.std.specs.List.{All}
 use Rattle.std.proofs.lemmas.Bool.{and_parts, cases_Bool, cases_lt, eqb-true}
 use Rattle.std.proofs.lemmas.Grind.{same_number_lists}
@@ -51,8 +50,7 @@ on_its shop p c i t = grind (arith, cases_Bool, eqb-true, and_parts)
 
 pub on_one : (shop : Shop) (p : Placing) (js : List ℕ) (i k : ℕ) → IsIn (conflict_among shop p js) i
     → IsIn (conflict_among shop p js) k → next_machine shop p i ≡ next_machine shop p k
-on_one shop p [] i k h g = absurd h
-on_one shop p (j ∷ js) i k h g = grind (arith, on_its, in_filter)
+on_one shop p x i k h g = grind (arith, on_its, in_filter)
 
 -- the heads of lanes
 head_in : (hs ts qs : List ℕ) (top : ℕ) → ((q : ℕ) → get_or hs q 0 ≤ top)
@@ -96,10 +94,7 @@ module _ {greatest : ℕ} {shop : Shop} {w : List ℕ} {l : LayoutState} {heads 
         (kept.kept.laid.positions.times ∙ sym kept.kept.heads.positions)
         (kept.kept.laid.positions.tails ∙ sym kept.kept.heads.positions) its_blocks.within
         (heads_small shop kept.kept.limits l kept.kept.laid w kept.kept.word heads kept.kept.heads)
-        in record {
-          whole = omega arith;
-          each = λ i d here. let a = small i d here in omega arith;
-        }
+        in grind arith
 
   -- one next operation
   module _ (j : ℕ) (fits : IsWord shop (w ++ j ∷ [])) where

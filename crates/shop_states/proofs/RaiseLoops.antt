@@ -1,12 +1,11 @@
 -- Raises one after another.
-use Rattle.std.proofs.Common.{rules}
-use Rattle.std.proofs.Common.{◌≡◌, ℕ, ◌*◌, ◌≤◌, ◌<◌, ◌⊎◌, inl, inr, List, [], ◌∷◌, length, get_or, refl, sym, ◌∙◌}
-use Rattle.std.proofs.Common.{subst, arith}
+use Rattle.std.proofs.Common.{rules, ◌≡◌, ℕ, ◌*◌, ◌≤◌, ◌<◌, ◌⊎◌, inl, inr, List, [], ◌∷◌, length, get_or, refl, sym}
+use Rattle.std.proofs.Common.{◌∙◌, subst, arith}
 use Rattle.std.proofs.lemmas.Bool.{cases_eq, cases_lt}
 use Rattle.std.proofs.lemmas.List.{get_or_past}
 use Rattle.shop_lanes.specs.Rows.{Rows}
 use Rattle.shop_lanes.specs.Marks.{positions_below}
-use Rattle.shop_layout.specs.Positions.{LayoutState, place}
+use Rattle.shop_layout.specs.Positions.{LayoutState}
 use Rattle.shop_states.specs.inner.RisingLists.{IsIn, Rises}
 use Rattle.shop_states.proofs.MarkedPositions.{IsBelow, below_is_in, below_rises, in_is_below}
 use Rattle.shop_states.specs.inner.Raises.{at_in, AreInRouteOrder, IsRaised, IsLeastRaise, IsRaisable}
@@ -24,10 +23,7 @@ go_on l A B C e a b other least in_a in_b raised = record {
   rises = least.least other (weaker l C A e (at_in a) other in_a raised);
   rests = λ q none. raised.rests q (let x = least.raised.rises q in omega arith);
   order = raised.order;
-  reach = λ q part waits. raised.reach q (in_b q part) (elim (cases_eq (get_or a q 0) 0) [
-    | inl z ↦ (let x = least.raised.rests q z in absurd (omega arith))
-    | inr z ↦ omega arith
-  ]);
+  reach = λ q part waits. grind (arith, cases_eq);
 }
 
 pub then_least : {l : LayoutState} {A B C : ℕ → Type 0} {e : ℕ} {a b c : List ℕ} → IsLeastRaise l A e a b
@@ -35,15 +31,7 @@ pub then_least : {l : LayoutState} {A B C : ℕ → Type 0} {e : ℕ} {a b c : L
     → IsLeastRaise l C e a c
 then_least {l} {A} {B} {C} {e} {a} {b} x y split in_a in_b = record {
   positions = y.positions ∙ x.positions;
-  raised = record {
-    rises = λ q. let u = x.raised.rises q in let v = y.raised.rises q in omega arith;
-    rests = λ q none. y.raised.rests q (x.raised.rests q none);
-    order = y.raised.order;
-    reach = λ q here waits. elim (split q here) [
-      | inl f ↦ (let u = x.raised.reach q f waits in let v = y.raised.rises q in omega arith)
-      | inr f ↦ y.raised.reach q f (let u = x.raised.rises q in omega arith)
-    ];
-  };
+  raised = grind arith;
   least = λ other raised. y.least other (go_on l A B C e a b other x in_a in_b raised);
 }
 
@@ -56,11 +44,7 @@ then_raises {l} {A} {B} C {e} {a} {b} {c} x y split in_a in_b = record {
   raised = then_least x.raised y.raised split in_a in_b;
   times = y.times ∙ x.times;
   tails = y.tails ∙ x.tails;
-  ends = record {
-    long = y.ends.long ∙ x.ends.long;
-    none = λ f. y.ends.none f ∙ x.ends.none f;
-    each = λ j known is. y.ends.each j known (x.ends.each j known is);
-  };
+  ends = grind arith;
 }
 
 -- what can be raised at more positions can be raised at those that are left
@@ -70,20 +54,14 @@ pub still_raisable : {greatest : ℕ} {l : LayoutState} {nexts : List ℕ} {A : 
     → ((q : ℕ) → B q → C q)
     → IsRaisable greatest l nexts b B e
 still_raisable {l} {A} B {C} {e} {a} {b} can x in_a in_b = record {
-  firsts = record {
-    own = λ j known here. can.firsts.own j known (let y = x.raised.positions in omega arith);
-    first = λ j i k known more at. x.raised.raised.rests (place l i k) (can.firsts.first j i k known more at);
-  };
+  firsts = grind arith;
   ends = (let y = x.ends.long in let z = can.ends in omega arith);
   indexed = subst (λ (k : ℕ). IsIndexed l k) (sym x.raised.positions) can.indexed;
   followed = subst (λ (k : ℕ). IsFollowed l k) (sym x.raised.positions) can.followed;
   machines = can.machines ∙ sym x.raised.positions;
   times = x.times ∙ can.times;
   timed = can.timed ∙ sym x.raised.positions;
-  places = λ q waits. can.places q (elim (cases_eq (get_or a.heads q 0) 0) [
-    | inl z ↦ (let y = x.raised.raised.rests q z in absurd (omega arith))
-    | inr z ↦ omega arith
-  ]);
+  places = λ q waits. grind (arith, cases_eq);
   order = x.raised.raised.order;
   other = can.other;
   raised = go_on l A B C e a.heads b.heads can.other x.raised in_a in_b can.raised;
@@ -133,9 +111,6 @@ module _ {greatest : ℕ} {l : LayoutState} {nexts marks : List ℕ} {e : ℕ} {
     popped_to_come : AreToCome marks rest old.heads
     popped_to_come = grind arith
 
-    not_in_rest : IsIn rest q → ⊥
-    not_in_rest h = let a = (subst Rises popped so_far.to_come.rises).0 q h in omega arith
-
     still_done : (r : ℕ) → IsDone marks todo r → IsDone marks rest r
     still_done r d = (d.0, λ h. d.1 (subst (λ (xs : List ℕ). IsIn xs r) (sym popped) (inr h)))
 
@@ -152,7 +127,7 @@ module _ {greatest : ℕ} {l : LayoutState} {nexts marks : List ℕ} {e : ℕ} {
     ]
 
     here_done : (r : ℕ) → r ≡ q → IsDone marks rest r
-    here_done r f = grind (arith, popped_here, not_in_rest)
+    here_done r f = grind arith
 
     pub popped_raisable : IsRaisable greatest l nexts now (IsPosition q) e
     popped_raisable =
@@ -173,13 +148,7 @@ module _ {greatest : ℕ} {l : LayoutState} {nexts marks : List ℕ} {e : ℕ} {
   marks_end {todo} none so_far = record {
     raised = record {
       positions = so_far.raises.raised.positions;
-      raised = record {
-        rises = so_far.raises.raised.raised.rises;
-        rests = so_far.raises.raised.raised.rests;
-        order = so_far.raises.raised.raised.order;
-        reach = λ q here waits. so_far.raises.raised.raised.reach q
-            (here, λ h. subst (λ (xs : List ℕ). IsIn xs q) none h) waits;
-      };
+      raised = grind arith;
       least = λ other raised. so_far.raises.raised.least other
           (weaker l (IsIn marks) (IsDone marks todo) e (at_in old.heads) other (λ q d. d.0) raised);
     };
@@ -211,17 +180,7 @@ module _ (old : Rows) {marks : List ℕ} (from to e : ℕ) (ordered : from ≤ t
   marks_raised {greatest} {l} {nexts} {new} x = record {
     raised = record {
       positions = x.raised.positions;
-      raised = record {
-        rises = x.raised.raised.rises;
-        rests = x.raised.raised.rests;
-        order = x.raised.raised.order;
-        reach = λ q here waits. elim (cases_lt (get_or old.heads q 0) e) [
-          | inl low ↦ x.raised.raised.reach q (subst (λ (xs : List ℕ). IsIn xs q) (sym are)
-              (below_is_in old from to e ordered within q
-              (record { there = here; waits = waits; below = low }))) waits
-          | inr enough ↦ (let rises = x.raised.raised.rises q in omega arith)
-        ];
-      };
+      raised = grind (arith, cases_lt, below_is_in);
       least = λ other raised. x.raised.least other
           (weaker l (IsInBlocks from to) (IsIn marks) e (at_in old.heads) other marks_in raised);
     };

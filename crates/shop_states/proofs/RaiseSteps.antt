@@ -1,6 +1,5 @@
 -- A raise over rows, head by head.
-use Rattle.std.proofs.Common.{◌≡◌, ℕ, ◌+◌, ◌≤◌, ◌<◌, List, [], length, get_or, set}
-use Rattle.std.proofs.Common.{refl, sym, ◌∙◌, ap, arith}
+use Rattle.std.proofs.Common.{◌≡◌, ℕ, ◌+◌, ◌≤◌, ◌<◌, List, [], length, get_or, set, refl, sym, ◌∙◌, ap, arith}
 use Rattle.std.proofs.lemmas.Bool.{cases_lt}
 use Rattle.std.proofs.lemmas.List.{get_or_default, get_or_past}
 use Rattle.shop_lanes.specs.Rows.{Rows, with_head}
@@ -10,8 +9,8 @@ use Rattle.shop_layout.specs.Positions.{place_or, LayoutState, place}
 use Rattle.shop_layout.specs.Lanes.{rows_of}
 use Rattle.shop_states.specs.inner.Raises.{steps_of, IsPosition, IsRaisable, Raises}
 use Rattle.shop_layout.proofs.RouteLegs.{index_known, leg_behind, leg_here}
-use Rattle.shop_states.proofs.Followed.{place_past, place_there}
-use Rattle.shop_states.proofs.RaiseWalks.{IsRaisedUpTo, walk_begins, next_least, walk_on, walk_ends}
+use Rattle.shop_states.proofs.Followed.{place_there}
+use Rattle.shop_states.proofs.RaiseWalks.{IsRaisedUpTo, walk_begins, next_least, walk_on}
 
 -- one head of a state was replaced
 pub put_is : (l : LayoutState) (hs : List ℕ) {es hs' es' : List ℕ} (q v : ℕ) → hs' ≡ set hs q v → es' ≡ es
@@ -54,12 +53,6 @@ module _ {greatest : ℕ} {l : LayoutState} {p e : ℕ} {old : Rows}
         → IsWalking greatest l p e u h old new
     on below {new} wrote {h} next read sum = grind (arith, walk_on, more)
 
-  pub ended : {t ready : ℕ} {now : Rows}
-      → IsWalking greatest l p e t ready old now
-      → (t < steps_of l (get_or l.jobs p 0) → ready ≤ get_or now.heads (place l (get_or l.jobs p 0) t) 0)
-      → Raises greatest l [] (IsPosition p) e old now
-  ended {t} {ready} {now} so_far enough = grind (arith, walk_ends)
-
 -- so far a raise has followed the route of position p up to a leg
 pub record IsFollowing (greatest : ℕ) (l : LayoutState) (p e index ready : ℕ) (old new : Rows) : Type 0 where
   pub step : ℕ
@@ -94,10 +87,10 @@ module _ {greatest : ℕ} {l : LayoutState} {p e : ℕ} {old : Rows}
       read = is ∙ ap (λ (i : ℕ). get_or (all_legs l) i (end_of 0)) so_far.index_is
 
       stands : leg.position ≡ place_or (length old.heads) l.places job so_far.step
-      stands = grind (arith, cases_lt, read, leg_here, place_there, leg_behind, place_past)
+      stands = grind (arith, cases_lt, leg_here, place_there, leg_behind)
 
       pub position_up_to : leg.position ≤ length now.heads
-      position_up_to = grind (arith, stands, cases_lt, place_there, place_past)
+      position_up_to = grind (arith, stands, cases_lt, place_there)
 
       -- what is ready next fits, since no raised head is above the least of those that do
       fitting : ready ≤ greatest
@@ -110,7 +103,7 @@ module _ {greatest : ℕ} {l : LayoutState} {p e : ℕ} {old : Rows}
       module _ {head : ℕ} (looked : head ≡ get_or now.heads leg.position greatest) where
         -- it ends where the head is great enough, or at the end of the route
         pub ended_at : ready ≤ head → Raises greatest l [] (IsPosition p) e old now
-        ended_at enough = grind (arith, ended, stands, place_there, get_or_default)
+        ended_at enough = grind (arith, stands, place_there, get_or_default)
 
         module _ (below : head < ready) where
           -- the head behind the last position isn't below what is ready
@@ -121,7 +114,7 @@ module _ {greatest : ℕ} {l : LayoutState} {p e : ℕ} {old : Rows}
           read_there = grind (arith, is_there, get_or_default)
 
           more : so_far.step < steps_of l job
-          more = grind (arith, cases_lt, is_there, stands, place_past)
+          more = grind (arith, cases_lt, is_there, stands)
 
           here : leg.position ≡ place l job so_far.step
           here = stands ∙ place_there l (length old.heads) job so_far.step more

@@ -1,6 +1,5 @@
 -- Heads are raised along a route while they are too small.
-use Rattle.std.proofs.Common.{◌≡◌, ℕ, ◌+◌, ◌≤◌, ◌<◌, inl, inr, List, length, get_or, set, refl, sym}
-use Rattle.std.proofs.Common.{◌∙◌, ap, arith}
+use Rattle.std.proofs.Common.{◌≡◌, ℕ, ◌+◌, ◌≤◌, ◌<◌, inl, inr, List, length, get_or, set, refl, sym, ◌∙◌, ap, arith}
 use Rattle.std.proofs.lemmas.Bool.{cases_eq}
 use Rattle.std.proofs.lemmas.Grind.{get_or-set_at}
 use Rattle.std.proofs.lemmas.List.{get_or-set_other, length-set}
@@ -74,53 +73,12 @@ module _ {l : LayoutState} {n : ℕ} (ix : IsIndexed l n) where
             next = refl;
             within = more;
             positions = length-set new q ready ∙ so_far.positions;
-            rises = λ r. elim (cases_eq r q) [
-              | inl g ↦ (let a = get_or-set_at new q r ready 0 g within
-                  in let c : get_or new r 0 ≡ get_or new q 0 = ap (λ (x : ℕ). get_or new x 0) g
-                  in let d = so_far.rises r in omega arith)
-              | inr ne ↦ (let a = get_or-set_other new q r ready 0 ne in let d = so_far.rises r in omega arith)
-            ];
-            rests = λ r none. elim (cases_eq r q) [
-              | inl g ↦ (
-                  let c : get_or old r 0 ≡ get_or old (place l i (b + 1)) 0 =
-                  ap (λ (x : ℕ). get_or old x 0) (g ∙ (at ∙ next))
-                  in let d : 0 < get_or old (place l i b) 0 = elim (cases_eq (get_or old (place l i b) 0) 0) [
-                    | inl z ↦ (let y = so_far.rests (place l i b) z in absurd (omega arith))
-                    | inr z ↦ omega arith
-                  ]
-                  in let y = order i b (omega arith) d
-                  in absurd (omega arith))
-              | inr ne ↦ get_or-set_other new q r ready 0 ne ∙ so_far.rests r none
-            ];
-            order = λ j k two not_here waiting.
-                let other : place l j k ≡ q → ⊥ =
-                (λ g. not_here (apart j k i t (omega arith) more (g ∙ at)))
-                in let same = get_or-set_other new q (place l j k) ready 0 other
-                in elim (cases_eq (place l j (k + 1)) q) [
-                  | inl g ↦ (let z = apart j (k + 1) i t two more (g ∙ at)
-                      in let a = get_or-set_at new q (place l j (k + 1)) ready 0 g within
-                      in let k_is : k ≡ b = (let y = z.1 in omega arith)
-                      in let c : place l j k ≡ place l i b = ap (λ (x : ℕ). place l x k) z.0 ∙ ap (place l i) k_is
-                      in let d : get_or new (place l j k) 0 ≡ get_or new (place l i b) 0 =
-                      ap (λ (x : ℕ). get_or new x 0) c
-                      in let u : get_or l.times (place l j k) 0 ≡ get_or l.times (place l i b) 0 =
-                      ap (λ (x : ℕ). get_or l.times x 0) c
-                      in omega arith)
-                  | inr ne ↦ (let a = get_or-set_other new q (place l j (k + 1)) ready 0 ne
-                      in let c = so_far.order j k two
-                      (λ z. ne (ap (λ (x : ℕ). place l x (k + 1)) z.0
-                      ∙ (ap (λ (x : ℕ). place l i (x + 1)) z.1 ∙ (sym next ∙ sym at))))
-                      (omega arith)
-                      in omega arith)
-                ];
+            rises = λ r. grind (arith, cases_eq, get_or-set_at, get_or-set_other);
+            rests = λ r none. grind (arith, cases_eq, get_or-set_other);
+            order = grind (arith, apart, get_or-set_other, cases_eq, get_or-set_at);
             waits = (let a = so_far.rises q in omega arith);
             ready_is = omega arith;
-            reach = elim (cases_eq p q) [
-              | inl g ↦ (let a = get_or-set_at new q p ready 0 g within
-                  in let c : get_or new p 0 ≡ get_or new q 0 = ap (λ (x : ℕ). get_or new x 0) g
-                  in let d = so_far.reach in omega arith)
-              | inr ne ↦ (let a = get_or-set_other new q p ready 0 ne in let d = so_far.reach in omega arith)
-            ];
+            reach = grind (arith, cases_eq, get_or-set_at, get_or-set_other);
             least = λ other raised r. elim (cases_eq r q) [
               | inl g ↦ (let a = get_or-set_at new q r ready 0 g within
                   in let c : other r ≡ other (place l i t) = ap other (g ∙ at)

@@ -1,7 +1,7 @@
 -- The ends of next operations, once what stands at a position is raised.
 use Rattle.std.proofs.Common.{◌≡◌, ℕ, ◌+◌, ◌≤◌, ◌<◌, inl, inr, List, [], length, get_or, refl, sym}
 use Rattle.std.proofs.Common.{◌∙◌, ap, arith, cond, eqb}
-use Rattle.std.proofs.lemmas.Bool.{cases_Bool, cases_eq, cases_lt, eq-eqb, eqb-true, le-ltb, lt-ltb}
+use Rattle.std.proofs.lemmas.Bool.{cases_eq, cases_lt, eq-eqb, le-ltb, lt-ltb}
 use Rattle.std.proofs.lemmas.List.{get_or_past}
 use Rattle.shop_lanes.specs.Rows.{Rows}
 use Rattle.shop_states.specs.inner.LaneEnds.{IsEndOf}
@@ -18,12 +18,9 @@ module _ {l : LayoutState} {p e : ℕ} {old new : List ℕ} (least : IsLeastRais
   at_q : (v r : ℕ) → r ≡ q → but v r ≡ v
   at_q v r e = rw (eq-eqb r q e) refl
 
-  not_q : (v r : ℕ) → (r ≡ q → ⊥) → but v r ≡ get_or new r 0
-  not_q v r ne = grind (arith, cases_Bool, eqb-true)
-
   raised_but : (v : ℕ) → get_or old q 0 ≤ v → (get_or old q 0 ≡ 0 → v ≡ 0) → v ≤ get_or new q 0
       → (q ≡ p → 0 < get_or old q 0 → e ≤ v) → IsRaised l (IsPosition p) e (at_in old) (but v)
-  raised_but v low none high enough = grind (arith, cases_eq, at_q, not_q, least)
+  raised_but v low none high enough = grind (arith, cases_eq, at_q, least)
 
   pub head_stays : (q ≡ p → ⊥) → get_or new q 0 ≡ get_or old q 0
   head_stays ne =
@@ -70,9 +67,7 @@ module _ {greatest : ℕ} {l : LayoutState} {nexts : List ℕ} {p e : ℕ} {old 
           | inl f ↦ (
               let within : q < length old.heads = elim (cases_lt q (length old.heads)) [
                 | inl h ↦ h
-                | inr past ↦ absurd (let b : get_or old.heads p 0 ≡ get_or old.heads q 0 =
-                    ap (λ (x : ℕ). get_or old.heads x 0) (sym f)
-                    in let c = get_or_past old.heads q 0 past in omega arith)
+                | inr past ↦ grind (arith, get_or_past)
               ]
               in let own : get_or l.jobs p 0 ≡ j =
               ap (λ (x : ℕ). get_or l.jobs x 0) (sym f) ∙ can.firsts.own j known within

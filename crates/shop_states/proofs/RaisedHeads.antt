@@ -1,7 +1,6 @@
 -- The least raise of the heads by position, once an operation is placed, has the heads of what is left.
-use Rattle.std.proofs.Common.{rules}
-use Rattle.std.proofs.Common.{◌≡◌, ℕ, zero, suc, ◌+◌, ◌-◌, ◌≤◌, ◌<◌, ◌^◌, inl, inr, List, length}
-use Rattle.std.proofs.Common.{get_or, set, refl, sym, ◌∙◌, ap, subst, arith, cond, ltb}
+use Rattle.std.proofs.Common.{rules, ◌≡◌, ℕ, zero, suc, ◌+◌, ◌-◌, ◌≤◌, ◌<◌, ◌^◌, inl, inr, List, length, get_or, set}
+use Rattle.std.proofs.Common.{refl, sym, ◌∙◌, ap, subst, arith, cond, ltb}
 use Rattle.std.proofs.lemmas.Bool.{cases_eq, cases_lt, lt-ltb, le-ltb}
 use Rattle.std.proofs.lemmas.Grind.{get_or-set_at}
 use Rattle.std.proofs.lemmas.List.{get_or-set_other, length-set}
@@ -65,20 +64,14 @@ module _ {shop : Shop} (limits : IsWithinLimits shop) {l : LayoutState} (laid : 
       in let long = laid.routes (get_or l.jobs r 0)
       in let same : length (route_of shop (get_or l.jobs r 0)) ≡ length (route_of shop j) =
       ap (λ (x : ℕ). length (route_of shop x)) job
-      in record {
-        job = (let b = laid.jobs in omega arith);
-        step = omega arith;
-        is = ap (λ (x : ℕ). place l x (get_or l.steps r 0)) job ∙ (ap (place l j) step ∙ at);
-      }
+      in grind arith
 
   -- the heads of what is placed
   module _ (p : Placing) {hs : List ℕ} (are : AreHeadsAt shop p l hs) where
     pub head_waits_at : (r : ℕ) → 0 < get_or hs r 0 → (o : IsOperationAt shop l r) × (p.steps o.job ≤ o.step)
     head_waits_at r some = elim (each_position shop limits l laid r) [
       | inl o ↦ elim (cases_lt o.step (p.steps o.job)) [
-        | inl before ↦ (let a = are.placed o.job o.step o.is before
-            in let b : get_or hs (place l o.job o.step) 0 ≡ get_or hs r 0 = ap (λ (x : ℕ). get_or hs x 0) o.at
-            in absurd (omega arith))
+        | inl before ↦ grind arith
         | inr opened ↦ (o, opened)
       ]
       | inr free ↦ (let a = are.padding r free in absurd (omega arith))
@@ -103,39 +96,14 @@ module _ {shop : Shop} (limits : IsWithinLimits shop) {l : LayoutState} (laid : 
           sym a.job ∙ (ap (λ (y : ℕ). get_or l.jobs y 0) f ∙ here.job),
           sym a.step ∙ (ap (λ (y : ℕ). get_or l.steps y 0) f ∙ here.step),
         ))
-        in record {
-          positions = length-set old x 0 ∙ are.positions;
-          waiting = λ i k op opened. elim (cases_eq (place l i k) x) [
-            | inl f ↦ (let s = same_step i k op f in let a = n.steps_here
-                in let b : q.steps i ≡ q.steps j = ap q.steps s.0 in let c = s.1 in absurd (omega arith))
-            | inr ne ↦ get_or-set_other old x (place l i k) 0 0 ne
-                ∙ are.waiting i k op (let a = steps_rise shop p j q n i in omega arith)
-          ];
-          placed = λ i k op before. elim (cases_eq (place l i k) x) [
-            | inl f ↦ get_or-set_at old x (place l i k) 0 0 f within
-            | inr ne ↦ get_or-set_other old x (place l i k) 0 0 ne ∙ are.placed i k op (elim (cases_eq i j) [
-              | inl f ↦ elim (cases_eq k (p.steps j)) [
-                | inl g ↦ absurd (ne (ap (λ (y : ℕ). place l y k) f ∙ ap (place l j) g))
-                | inr ng ↦ (let a = n.steps_here in let b : q.steps i ≡ q.steps j = ap q.steps f
-                    in let c : p.steps i ≡ p.steps j = ap p.steps f in omega arith)
-              ]
-              | inr nf ↦ (let a = n.steps_other i nf in omega arith)
-            ])
-          ];
-          padding = λ r free. elim (cases_eq r x) [
-            | inl f ↦ get_or-set_at old x r 0 0 f within
-            | inr ne ↦ get_or-set_other old x r 0 0 ne ∙ are.padding r free
-          ];
-        }
+        in grind (arith, length-set, cases_eq, get_or-set_other, steps_rise, get_or-set_at)
 
     module _ {old : List ℕ} (are : AreStored shop q.steps (head_of shop p) l old) where
       -- what waits is an operation that isn't placed
       pub waits_at : (r : ℕ) → 0 < get_or old r 0 → (o : IsOperationAt shop l r) × (q.steps o.job ≤ o.step)
       waits_at r some = elim (each_position shop limits l laid r) [
         | inl o ↦ elim (cases_lt o.step (q.steps o.job)) [
-          | inl before ↦ (let a = are.placed o.job o.step o.is before
-              in let b : get_or old (place l o.job o.step) 0 ≡ get_or old r 0 = ap (λ (x : ℕ). get_or old x 0) o.at
-              in absurd (omega arith))
+          | inl before ↦ grind arith
           | inr opened ↦ (o, opened)
         ]
         | inr free ↦ (let a = are.padding r free in absurd (omega arith))

@@ -55,14 +55,7 @@ module _ {raises : List Raise} {machines rest : List ℕ} {m : ℕ} (are : AreLi
           few = (let f = are.few in omega arith);
           known = λ n h. (let k = are.known n (subst (λ (xs : List ℕ). IsIn xs n) (sym popped) (inr h))
               in omega arith);
-          listed = λ n some. elim (cases_eq n m) [
-            | inl e ↦ (let z = raise_emptied n e in absurd (omega arith))
-            | inr ne ↦ (let f = ap (λ (r : Raise). r.to) (raise_elsewhere n ne)
-                in elim (subst (λ (xs : List ℕ). IsIn xs n) popped (are.listed n (omega arith))) [
-                  | inl e ↦ absurd (ne e)
-                  | inr h ↦ h
-                ])
-          ];
+          listed = λ n some. grind (arith, cases_eq, raise_emptied, raise_elsewhere);
         }
 
 -- the raises that are left of old ones, on these machines
@@ -171,10 +164,7 @@ module _ {least : ℕ} {old : List Raise} {on : ℕ → List Lane} where
       in record {
         left = left_less so.left popped empty none;
         low = (let a = so.low in omega arith);
-        least_of = λ n there. elim (cases_eq n m) [
-          | inl e ↦ (let a = at_m n e in let b = so.least_of m here in omega arith)
-          | inr ne ↦ (let a = elsewhere n ne in let b = so.least_of n (omega arith) in omega arith)
-        ];
+        least_of = λ n there. grind (arith, cases_eq, at_m, elsewhere);
         covers = λ n there. elim (cases_eq n m) [
           | inl e ↦ (let a = at_m n e in elim (so.covers n (omega arith)) [
             | inl same ↦ inr (rw (same, e) (let b = at_m m refl in omega arith))
@@ -185,10 +175,7 @@ module _ {least : ℕ} {old : List Raise} {on : ℕ → List Lane} where
             | inr done ↦ inr (omega arith)
           ])
         ];
-        most = λ n there. elim (cases_eq n m) [
-          | inl e ↦ (let a = at_m n e in omega arith)
-          | inr ne ↦ (let a = elsewhere n ne in let b = so.most n (omega arith) in omega arith)
-        ];
+        most = λ n there. grind (arith, cases_eq, at_m, elsewhere);
       }
     where
       at_m : (n : ℕ) → n ≡ m → get_or cs' n 0 ≡ c

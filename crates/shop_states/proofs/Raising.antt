@@ -1,6 +1,6 @@
 -- Operations of which some are taken out and some heads are raised: only what begins among these heads can bound more.
 use Rattle.std.proofs.Common.{◌≡◌, ℕ, ◌+◌, ◌≤◌, ◌<◌, max, ◌⊎◌, inl, inr, Bool, true, false, List}
-use Rattle.std.proofs.Common.{[], ◌∷◌, length, cond, refl, sym, ◌∙◌, subst, arith, leb}
+use Rattle.std.proofs.Common.{[], ◌∷◌, length, cond, refl, arith}
 use Rattle.std.specs.List.{AllByRecursion, filter, sum_by}
 use Rattle.std.proofs.lemmas.Bool.{cases_Bool, cases_lt, and_from, leb-true, le-leb, true≢false}
 use Rattle.std.proofs.lemmas.List.Sums.{sum_by-cons}
@@ -98,8 +98,7 @@ module _ (from to : ℕ) where
         | inl low ↦ inl low
         | inr in_low ↦ elim (cases_lt to head) [
           | inl high ↦ inr high
-          | inr in_high ↦ absurd (true≢false (sym (and_from (leb from head) (leb head to) (le-leb from head in_low)
-              (le-leb head to in_high)) ∙ e))
+          | inr in_high ↦ grind (arith, true≢false, and_from, le-leb)
         ]
       ]
       in kept_span head tail xs v vs (kept_of head tail out (part_sublist s p)
@@ -111,12 +110,7 @@ greatest_filter : {A : Type 0} (f : A → ℕ) (test : A → Bool) (b : ℕ) (xs
 greatest_filter f test b [] h = tt
 greatest_filter f test b (x ∷ xs) h =
     let either = λ (c : Bool). greatest_of f (cond c (x ∷ filter test xs) (filter test xs))
-    in elim (cases_Bool (test x)) [
-      | inl e ↦ (let g : either true ≤ b = subst (λ c. either c ≤ b) e h
-          in (λ _. omega arith, greatest_filter f test b xs (omega arith)))
-      | inr e ↦ (let g : either false ≤ b = subst (λ c. either c ≤ b) e h
-          in (λ t. absurd (true≢false (sym t ∙ e)), greatest_filter f test b xs g))
-    ]
+    in grind (arith, cases_Bool, true≢false, greatest_filter f test b xs)
 
 -- raised heads bound no more than the list before or what begins between
 pub one-raised_part : (from to : ℕ) (xs ys : List Triple) → IsRaisedPart from to xs ys

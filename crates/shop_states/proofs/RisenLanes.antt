@@ -4,7 +4,7 @@ use Rattle.std.proofs.Common.{get_or, refl, arith}
 use Rattle.std.proofs.lemmas.Bool.{cases_lt}
 use Rattle.shop_lanes.specs.Rows.{Lane, lanes}
 use Rattle.shop_lanes.specs.Spans.{span, spans_from, spans_between}
-use Rattle.shop_states.proofs.SpanTurns.{span_served, span_left, spans_counted, spans_low, spans_high}
+use Rattle.shop_states.proofs.SpanTurns.{span_left, spans_counted, spans_low, spans_high}
 
 -- lanes that are related one by one
 pub data AreBeside (R : Lane → Lane → Type 0) : List Lane → List Lane → Type 0 where
@@ -31,9 +31,9 @@ span_beside b a (beside {xs} {ys} x y r rest) c e le =
       | inl off ↦ (let s = span_left a c y ys off
           in elim (cases_lt x.head b) [
             | inl out ↦ (let t = span_left b e x xs out in let u = span_beside b a rest c e le in omega arith)
-            | inr among ↦ grind (arith, span_served, span_beside b a rest c (e + x.time) (omega arith))
+            | inr among ↦ grind (arith, span_beside b a rest c (e + x.time) (omega arith))
           ])
-      | inr on ↦ grind (arith, span_served, span_beside b a rest (c + y.time) (e + x.time) (omega arith))
+      | inr on ↦ grind (arith, span_beside b a rest (c + y.time) (e + x.time) (omega arith))
     ]
 
 -- no span of lanes is above u, from whatever moment up to `top` on
@@ -67,17 +67,7 @@ module _ (top u from to floor : ℕ) (xs : List Lane) (before : AreUpTo top u xs
       let served = beside_as (IsRisenLane from to floor) (IsServedBefore h h) (λ x y r. record {
         time = r.time;
         tail = r.tail;
-        counts = λ on. (let waited = r.head.some (omega arith)
-            in elim (r.head.risen (omega arith)) [
-              | inl little ↦ omega arith
-              | inr more ↦ elim more [
-                | inl inside ↦ (let i = inside.0 in let o = inside.1 in elim out [
-                  | inl low ↦ omega arith
-                  | inr past ↦ absurd (omega arith)
-                ])
-                | inr below ↦ absurd (omega arith)
-              ]
-            ]);
+        counts = λ on. grind arith;
       }) are
       in let a = span_beside h h served h h (omega arith)
       in let c = before h (omega arith) (omega arith)
@@ -95,10 +85,7 @@ module _ (top u from to floor : ℕ) (xs : List Lane) (before : AreUpTo top u xs
     spans_risen_of (z ∷ zs) inside =
         let fewer = spans_fewer from to ys z zs
         in let rest = spans_risen_of zs (omega arith)
-        in elim (cases_lt 0 z.head) [
-          | inl some ↦ grind (arith, cases_lt, spans_high, spans_counted, span_risen)
-          | inr none ↦ (let a = spans_low 0 top ys z zs none in omega arith)
-        ]
+        in grind (arith, cases_lt, spans_high, spans_counted, span_risen, spans_low)
 
     pub spans_risen : spans_between from to ys ≤ b → spans_between 0 top ys ≤ b
     spans_risen inside = spans_risen_of ys inside

@@ -1,7 +1,6 @@
 -- Where the conflict set is one job, its next operation leaves the bound as it is.
-use Rattle.std.proofs.Common.{rules}
-use Rattle.std.proofs.Common.{◌≡◌, ℕ, zero, suc, ◌+◌, ◌-◌, ◌≤◌, ◌<◌, inl, inr, List, [], ◌∷◌}
-use Rattle.std.proofs.Common.{◌++◌, refl, sym, ◌∙◌, ap, subst, arith, eqb, ltb, true}
+use Rattle.std.proofs.Common.{rules, ◌≡◌, ℕ, zero, suc, ◌+◌, ◌-◌, ◌≤◌, ◌<◌, inl, inr, List, [], ◌∷◌, ◌++◌, refl, sym}
+use Rattle.std.proofs.Common.{ap, subst, arith, eqb, ltb, true}
 use Rattle.std.specs.List.{best_of}
 use Rattle.std.proofs.lemmas.Bool.{cases_eq, cases_lt, and_from, eq-eqb, le-ltb, lt-ltb, or_left, or_right}
 use Rattle.shop_model.specs.Limits.{IsWithinLimits}
@@ -61,14 +60,7 @@ module _ (shop : Shop) (p : Placing) where
       in subst (IsSole shop p) is (record {
         operation = (open_is shop p c (subst (λ (xs : List ℕ). IsIn xs c) (sym e) chosen.member)).1;
         first = λ i op. chosen.least i (opened i op);
-        late = λ i op ne machine. elim (cases_lt (next_head shop p i) (next_end shop p c)) [
-          | inl lt ↦ absurd (ne (only i (opened i op) (or_right (eqb i c) _
-              (and_from (eqb (next_machine shop p i) (next_machine shop p c))
-              (ltb (next_head shop p i) (next_end shop p c))
-              (eq-eqb (next_machine shop p i) (next_machine shop p c) machine)
-              (lt-ltb (next_head shop p i) (next_end shop p c) lt))) ∙ sym is))
-          | inr ge ↦ omega arith
-        ];
+        late = λ i op ne machine. grind (arith, cases_lt, or_right, and_from, eq-eqb, lt-ltb);
       })
 
   -- later steps of a job are ready at the end of its next one or later
@@ -93,9 +85,7 @@ module _ (shop : Shop) (p : Placing) where
       | inr ne ↦ (let a = n.steps_other i ne
           in let op_next : IsOperation shop i (p.steps i) = omega arith
           in elim (cases_eq k (p.steps i)) [
-            | inl f ↦ (let head = head_first shop p i
-                in let same = ap (head_of shop p i) f
-                in let late = sole.late i op_next ne (ap (machine_of shop i) (sym f) ∙ on) in omega arith)
+            | inl f ↦ grind (arith, head_first)
             | inr later ↦ (let b = later_ready i (k - p.steps i - 1) k (omega arith)
                 in let first = sole.first i op_next in omega arith)
           ])

@@ -1,7 +1,6 @@
 -- What is kept of a word, with one operation more.
-use Rattle.std.proofs.Common.{rules}
-use Rattle.std.proofs.Common.{◌≡◌, ℕ, ◌+◌, ◌<◌, inl, inr, List, [], ◌∷◌, ◌++◌, length, get_or, set}
-use Rattle.std.proofs.Common.{refl, sym, ◌∙◌, ap, arith}
+use Rattle.std.proofs.Common.{rules, ◌≡◌, ℕ, ◌+◌, ◌<◌, inl, inr, List, [], ◌∷◌, ◌++◌, length, get_or, set, refl, sym}
+use Rattle.std.proofs.Common.{◌∙◌, ap, arith}
 use Rattle.std.proofs.lemmas.Bool.{cases_eq}
 use Rattle.std.proofs.lemmas.Grind.{get_or-set_at}
 use Rattle.std.proofs.lemmas.List.{get_or-set_other, length-set}
@@ -62,10 +61,7 @@ module _ {greatest : ℕ} {shop : Shop} {w : List ℕ} (j : ℕ) {l : LayoutStat
           get_or-set_at nexts j j q 0 refl next_known
           ∙ (follows ∙ ap (place_or n l.places j) (sym (ap (λ (p : Placing). p.steps j) placed
           ∙ next.steps_here)))
-          in record {
-            jobs = ap length wrote ∙ (length-set nexts j q ∙ kept.are_next.jobs);
-            are = λ i known. grind (arith, cases_eq, get_or-set_other);
-          }
+          in grind (arith, length-set, cases_eq, get_or-set_other)
 
       -- in the heads of the word with the operation, with the ends of other jobs
       module _ {new : Rows} (now : AreHeadsInLanes greatest shop (w ++ j ∷ []) l new)

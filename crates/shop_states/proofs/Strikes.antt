@@ -1,6 +1,5 @@
 -- The one candidate of a word is dispatched: it is struck out, and no head rises.
-use Rattle.std.proofs.Common.{◌≡◌, ℕ, ◌<◌, List, [], ◌∷◌, ◌++◌, length, get_or, set, refl}
-use Rattle.std.proofs.Common.{sym, ◌∙◌, ap, subst, arith}
+use Rattle.std.proofs.Common.{◌≡◌, ℕ, ◌<◌, List, [], ◌∷◌, ◌++◌, length, get_or, set, refl, sym, ◌∙◌, ap, arith}
 use Rattle.std.proofs.lemmas.Bool.{cases_lt, le-ltb, lt-ltb}
 use Rattle.std.proofs.lemmas.List.{get_or-set_other, length-set}
 use Rattle.shop_lanes.specs.Rows.{Rows, with_end, with_head}
@@ -46,13 +45,7 @@ module _ {greatest : ℕ} {shop : Shop} {w : List ℕ} {l : LayoutState} {rows :
     now_heads : AreHeadsAt shop (place_next shop (placing shop w) j) l lifted.heads
     now_heads =
         let stored = left_stored kept.kept j fits
-        in subst (AreHeadsAt shop (place_next shop (placing shop w) j) l) (sym heads) (record {
-          positions = stored.positions;
-          waiting = λ i k op opened. (let a = stored.waiting i k op opened
-              in let b = sole_heads shop w kept.kept.word j alone i k op opened in omega arith);
-          placed = stored.placed;
-          padding = stored.padding;
-        })
+        in grind (arith, heads, sole_heads)
 
     now : AreHeadsInLanes greatest shop (w ++ j ∷ []) l lifted
     now = grind (arith, fits, heads, placing-snoc, now_heads)

@@ -22,7 +22,7 @@ use Rattle.shop_states.specs.inner.LaneStates.{AreHeadsInLanes, IsKeptInLanes}
 use Rattle.shop_layout.specs.Positions.{IsLaidOut, LayoutState, place}
 use Rattle.shop_states.specs.inner.MachineRaises.{AreEmpty, AreRaisesFit}
 use Rattle.shop_states.specs.inner.Raises.{HasBlocks, IsOnMachine, IsRaisable, Raises}
-use Rattle.shop_states.specs.inner.Watchers.{AreSeen, IsSeenAt, Sees, Watches, floor_on}
+use Rattle.shop_states.specs.inner.Watchers.{AreSeen, Sees, Watches, floor_on}
 use Rattle.shop_states.proofs.RaiseSteps.{put_is}
 use Rattle.shop_states.proofs.AdvanceSteps.{advanced, advanced_long, advanced_others, end_small, lifted_blocks}
 use Rattle.shop_states.proofs.AdvanceSteps.{lifted_raisable, machine_here}
@@ -152,8 +152,7 @@ module _ {greatest : ℕ} {shop : Shop} {w : List ℕ} {l : LayoutState} {hs es 
                   in raised_is kept.kept j fits now_heads kept.kept.laid.machines_at m e least limit b
                   (λ under n known. record {
                     raise = raise_of after n;
-                    covered = λ q lies some. subst (λ (k : ℕ). IsSeenAt (raise_of after k)
-                        (floor_on m e k) (get_or hs q 0) (get_or new.heads q 0)) lies (seen q);
+                    covered = λ q lies some. grind (arith, seen);
                     spans = covers under n;
                   }) low
                   (λ c above each. inside c above (λ n up to known. each n up to (omega arith)))

@@ -1,6 +1,5 @@
 -- What was seen of heads is seen still, raise by raise.
-use Rattle.std.proofs.Common.{rules}
-use Rattle.std.proofs.Common.{◌≡◌, ℕ, ◌≤◌, ◌<◌, inl, inr, List, length, get_or, set, refl, sym, ◌∙◌, ap, subst, arith}
+use Rattle.std.proofs.Common.{rules, ◌≡◌, ℕ, ◌≤◌, ◌<◌, inl, inr, List, length, get_or, set, refl, sym, ◌∙◌, ap, arith}
 use Rattle.std.proofs.lemmas.Bool.{cases_eq}
 use Rattle.std.proofs.lemmas.Grind.{get_or-set_at}
 use Rattle.std.proofs.lemmas.List.{get_or-set_other, length-set}
@@ -18,20 +17,14 @@ module _ (floors : ℕ → ℕ) (ms : List ℕ) where
   watch_both a b c rises x y = record {
     long = y.long ∙ x.long;
     seen = λ was so. y.seen was (x.seen was so);
-    up_to = λ top small up_to. y.up_to top small (x.up_to top
-        (λ q. let f = rises q in let g = small q in omega arith) up_to);
+    up_to = λ top small up_to. grind arith;
   }
-
-  -- as it was
-  seen_same : (r : Raise) (floor a b c : ℕ) → c ≡ b → IsSeenAt r floor a b → IsSeenAt r floor a c
-  seen_same r floor a b c e so = subst (IsSeenAt r floor a) (sym e) so
 
   -- one head was raised to the end, which is seen already
   pub seen_first : (old new : List ℕ) (raises : List Raise) (p end : ℕ) → new ≡ set old p end → p < length old
       → (was : List ℕ) → IsSeenAt (raise_of raises (get_or ms p 0)) (floors (get_or ms p 0)) (get_or was p 0) end
       → AreSeen floors ms raises was old → AreSeen floors ms raises was new
-  seen_first old new raises p end wrote within was here so q =
-      grind (arith, cases_eq, get_or-set_at, seen_same, get_or-set_other)
+  seen_first old new raises p end wrote within was here so q = grind (arith, cases_eq, get_or-set_at, get_or-set_other)
 
   -- what follows is added to the raise of its machine
   pub watch_next : (old new : List ℕ) (before after : List Raise) (p v h m : ℕ) → new ≡ set old p v
@@ -39,27 +32,7 @@ module _ (floors : ℕ → ℕ) (ms : List ℕ) where
       → after ≡ set before m (widened (raise_of before m) h v) → Watches floors ms old new before after
   watch_next old new before after p v h m wrote within read on known saw = record {
     long = ap (λ (rs : List Raise). length rs) saw ∙ length-set before m (widened (raise_of before m) h v);
-    seen = λ was so q.
-        let low = raise_from before m h v known after saw (get_or ms q 0)
-        in let high = raise_to before m h v known after saw (get_or ms q 0)
-        in elim (cases_eq q p) [
-          | inl e ↦ (let there : get_or ms q 0 ≡ m = ap (λ (x : ℕ). get_or ms x 0) e ∙ sym on
-              in let here = raise_here before m h v known after saw (get_or ms q 0) there
-              in let from = ap (λ (r : Raise). r.from) here in let to = ap (λ (r : Raise). r.to) here
-              in let was_here : get_or old q 0 ≡ h = ap (λ (x : ℕ). get_or old x 0) e ∙ sym read
-              in let now : get_or new q 0 ≡ v =
-              ap (λ (xs : List ℕ). get_or xs q 0) wrote ∙ get_or-set_at old p q v 0 e within
-              in elim (so q) [
-                | inl still ↦ inr (omega arith, omega arith)
-                | inr inside ↦ (let f = inside.0 in inr (omega arith, omega arith))
-              ])
-          | inr ne ↦ (let same : get_or new q 0 ≡ get_or old q 0 =
-              ap (λ (xs : List ℕ). get_or xs q 0) wrote ∙ get_or-set_other old p q v 0 ne
-              in elim (so q) [
-                | inl still ↦ inl (omega arith)
-                | inr inside ↦ (let f = inside.0 in let t = inside.1 in inr (omega arith, omega arith))
-              ])
-        ];
+    seen = grind (arith, raise_from, raise_to, cases_eq, raise_here, get_or-set_at, get_or-set_other);
     up_to = λ top small up_to. up_to_turn before m h v known after saw top
         (let s = small p in let now : get_or new p 0 ≡ v =
         ap (λ (xs : List ℕ). get_or xs p 0) wrote ∙ get_or-set_at old p p v 0 refl within in omega arith) up_to;
@@ -80,11 +53,8 @@ module _ {ms : List ℕ} {p end : ℕ} {old now : List ℕ} {before mid : List R
         let so = so_far.watches own on in let long = so.long
         in watch_both (floor_on own end) ms old now new
         (λ r. elim (cases_eq r q) [
-          | inl e ↦ (let was : get_or now r 0 ≡ h = ap (λ (x : ℕ). get_or now x 0) e ∙ sym read
-              in let is_now : get_or new r 0 ≡ v =
-              ap (λ (xs : List ℕ). get_or xs r 0) wrote ∙ get_or-set_at now q r v 0 e within in omega arith)
-          | inr ne ↦ (let same : get_or new r 0 ≡ get_or now r 0 =
-              ap (λ (xs : List ℕ). get_or xs r 0) wrote ∙ get_or-set_other now q r v 0 ne in omega arith)
+          | inl e ↦ grind (arith, get_or-set_at)
+          | inr ne ↦ grind (arith, get_or-set_other)
         ]) so (watch_next (floor_on own end) ms now new mid after q v h m wrote within read at (omega arith) saw);
   }
 
@@ -129,8 +99,7 @@ pub noted_behind : {ms : List ℕ} {p end : ℕ} {old new : List ℕ} {before mi
 noted_behind {ms} {p} {end} {old} {new} {before} {mid} {after} {h} {m} noted sees saw at known read reached =
     let rest = sees.watches (get_or ms p 0) (λ q e. ap (λ (x : ℕ). get_or ms x 0) e)
     in record {
-      long = rest.long ∙ (ap (λ (rs : List Raise). length rs) saw ∙ length-set before m (widened (raise_of before m) h
-          end));
+      long = grind (arith, length-set);
       seen = λ was so. noted.seen was
           (let here = raise_here before m h end known mid saw (get_or ms p 0) (sym at)
           in let from = ap (λ (r : Raise). r.from) here in let to = ap (λ (r : Raise). r.to) here

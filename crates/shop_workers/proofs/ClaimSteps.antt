@@ -1,15 +1,13 @@
 -- A claim is one swap of a flag, which keeps a board lawful.
-use Rattle.std.proofs.Common.{◌≡◌, ◌≢◌, ◌⊎◌, ℕ, ◌<◌, List, [], length, set, Bool, true, false, refl, sym, ap, ◌∙◌}
-use Rattle.std.proofs.Common.{subst, inl, inr, ⊎_elim, arith}
+use Rattle.std.proofs.Common.{◌≡◌, ◌≢◌, ◌⊎◌, ℕ, ◌<◌, List, [], length, set, Bool, true, false, refl, sym}
+use Rattle.std.proofs.Common.{subst, ⊎_elim, arith}
 use Rattle.std.proofs.lemmas.List.{length-set, get_or-set_same, get_or-set_other}
 use Rattle.std.specs.Prelude.{slice_index}
 use mathlib.Core.Option.{none}
-use mathlib.Core.Logic.{dite}
 use native.Mathlib.Decide.{ℕ_discrete}
 use Rattle.atomic_table.specs.Table.{step, Me, Allows, keeps}
 use Rattle.shop_workers.specs.declared.views.View.{View}
 use Rattle.shop_workers.specs.Views.{has}
-use Rattle.shop_runs.specs.Hits.{IsHitOrEnd}
 use Rattle.shop_workers.specs.Moments.{hit_word, IsLive, IsClaimed, Knows, IsLawful}
 use Rattle.shop_workers.specs.Moves.{with_mine, with_seen, IsTold}
 use Rattle.shop_workers.specs.inner.Steps.{Claims}
@@ -35,17 +33,10 @@ module _ (hits : List Bool) (s : Moment) (id : ℕ) (v : View) (i : ℕ) (law : 
   same_hit = flag_else (length hits) (λ e. omega arith)
 
   risen : Risen hits flagged s.words
-  risen = record {
-    flags = λ n h. dite (ℕ_discrete n i)
-        (λ e. (h.0, ap (slice_index flagged) e ∙ flag_set))
-        (λ ne. (h.0, flag_else n ne ∙ h.1));
-    hit = let e = same_hit in omega arith;
-  }
+  risen = grind (arith, ℕ_discrete, flag_set, flag_else)
 
   is_flag : (n : ℕ) → n < length hits → (slice_index flagged n ≡ 0) ⊎ (slice_index flagged n ≡ 1)
-  is_flag n below = dite (ℕ_discrete n i)
-      (λ e. inr (ap (slice_index flagged) e ∙ flag_set))
-      (λ ne. subst (λ k. (k ≡ 0) ⊎ (k ≡ 1)) (sym (flag_else n ne)) (law.flag n below))
+  is_flag n below = grind (arith, ℕ_discrete, flag_set, flag_else)
 
   claimed_by_me : (n : ℕ) → i ≡ n → IsClaimed hits flagged n
   claimed_by_me n e = subst (IsClaimed hits flagged) e (inside, flag_set)
@@ -69,24 +60,20 @@ module _ (hits : List Bool) (s : Moment) (id : ℕ) (v : View) (i : ℕ) (law : 
 
     pub claim_won : Step hits s.words (set s.words i 1) v (with_mine v i)
     unfolding flagged
-    claim_won = record {
-      size = length-set s.words i 1;
-      risen = risen;
-      flag = is_flag;
-      won = λ n h. dite (ℕ_discrete n i)
-          (λ e. inr (has_same i n v.mine (sym e)))
-          (λ ne. inl (h.0, sym (flag_else n ne) ∙ h.1));
-      hit = subst (IsHitOrEnd hits) (sym same_hit) law.hit;
-      marked = inl same_hit;
-      live = at.1;
-      more_mine = λ n m. has_tail i n v.mine m;
-      more_done = λ n m. m;
-      knows = won_knows;
-      new = λ n m. ⊎_elim
-          (λ (e : i ≡ n). inr (ap (slice_index s.words) (sym e) ∙ zero_found))
-          (λ old. inl old)
-          (has_cons i n v.mine m);
-    }
+    claim_won =
+        grind (
+          arith,
+          length-set,
+          risen,
+          is_flag,
+          ℕ_discrete,
+          has_same,
+          flag_else,
+          same_hit,
+          has_tail,
+          won_knows,
+          has_cons,
+        )
 
   -- where it was 1
   module _ (one_found : slice_index s.words i ≡ 1) where
@@ -94,10 +81,7 @@ module _ (hits : List Bool) (s : Moment) (id : ℕ) (v : View) (i : ℕ) (law : 
     lost_knows = let k = law.knows id v at in record {
       same = k.same;
       mine = k.mine;
-      seen = λ n m. ⊎_elim
-          (λ (e : i ≡ n). subst (IsClaimed hits s.words) e (inside, one_found))
-          (λ old. k.seen n old)
-          (has_cons i n v.seen m);
+      seen = λ n m. grind (arith, has_cons);
       single = k.single;
       low = k.low;
       below = k.below;
@@ -105,8 +89,7 @@ module _ (hits : List Bool) (s : Moment) (id : ℕ) (v : View) (i : ℕ) (law : 
     }
 
     pub claim_lost : Step hits s.words (set s.words i 1) v (with_seen v i)
-    claim_lost = subst (λ ws. Step hits s.words ws v (with_seen v i)) (sym (same_word s.words i 1 one_found))
-        (quiet hits s v (with_seen v i) law at.1 refl refl lost_knows)
+    claim_lost = grind (arith, same_word, quiet, lost_knows)
 
 claims_at : (hits : List Bool) (slots id : ℕ) (v : View) (i : ℕ) → v.live ≡ true → i < length hits
     → Allows (IsLawful hits) slots id (v, []) i (λ _. 1) (Claims (step slots i 1 0 none) (v, []))

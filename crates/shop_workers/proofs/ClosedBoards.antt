@@ -1,7 +1,5 @@
 -- What the hit word is in the end, where one seat has won all pieces and marked those that it had to.
-use Rattle.std.proofs.Common.{◌≡◌, ℕ, ◌<◌, List, [], ◌∷◌, length, Bool, true, false, ◌||◌}
-use Rattle.std.proofs.Common.{sym, ap, ◌∙◌, subst, ⊎_elim, eqb, arith}
-use Rattle.std.specs.Prelude.{slice_index}
+use Rattle.std.proofs.Common.{◌≡◌, ℕ, ◌<◌, List, [], ◌∷◌, length, Bool, true, false, sym, subst, ⊎_elim, eqb, arith}
 use Rattle.std.specs.List.{IsDistinct, AllByRecursion}
 use Rattle.std.proofs.lemmas.Bool.{both_ways, cases_Bool}
 use Rattle.std.proofs.lemmas.Map.Steps.{length-le_from_distinct_below}
@@ -17,10 +15,7 @@ use Rattle.shop_workers.proofs.LawfulSteps.{Moment}
 
 differs : (x : ℕ) (xs : List ℕ) → (has xs x ≡ true → ⊥) → AllByRecursion (λ y. eqb x y ≡ false) xs
 differs x [] none = tt
-differs x (y ∷ ys) none = (
-  is_false (eqb x y) (λ e. none (ap (λ b. b || has ys x) e)),
-  differs x ys (λ h. none (has_tail y x ys h)),
-)
+differs x (y ∷ ys) none = grind (arith, is_false, has_tail, differs x ys)
 
 distinct : (xs : List ℕ) → once xs ≡ true → IsDistinct eqb xs
 unfolding IsDistinct
@@ -57,11 +52,7 @@ ends hits s id v law at all served = record {
 pub closes : (hits : List Bool) (s : Moment) (id : ℕ) (v : View) (words : List ℕ) (last found : ℕ) → IsLawful hits s
     → get_elem? s.views id ≡ some v → v.live ≡ true → HasAll v → HasServed v → s.words ≡ words → last ≡ length hits
     → get_elem? words last ≡ some found → IsLeastHit hits found
-closes hits s id v words last found law at live all served same last_is read =
-    let word : hit_word hits s.words ≡ found =
-    ap (λ l. slice_index l (length hits)) same ∙ ap (slice_index words) (sym last_is)
-    ∙ word_read words last found read in
-    subst (IsLeastHit hits) word (ends hits s id v law (at, live) all served)
+closes hits s id v words last found law at live all served same last_is read = grind (arith, word_read, ends)
 
 -- as many pieces as there are, none of them twice, are all of them
 pub as_many_is_all : (v : View) → once v.mine ≡ true → ArePieces v.hits v.mine → HasAsMany v → HasAll v

@@ -75,10 +75,7 @@ module _ (hits : List Bool) (s : Moment) (id : ℕ) (v : View) (n : ℕ) (law : 
   which = ⊎_elim (λ e. inl (hit_is ∙ e)) (λ e. inr (hit_is ∙ e)) (min_is (hit_word hits s.words) n)
 
   still_hit : IsHitOrEnd hits (hit_word hits marked)
-  still_hit = ⊎_elim
-      (λ (e : hit_word hits marked ≡ hit_word hits s.words). subst (IsHitOrEnd hits) (sym e) law.hit)
-      (λ (e : hit_word hits marked ≡ n). subst (IsHitOrEnd hits) (sym e) (inr hits_n))
-      which
+  still_hit = grind (arith, which)
 
   low_is : hit_word hits marked ≡ min n (hit_word hits s.words)
   low_is = let e = hit_is in omega arith
@@ -111,22 +108,7 @@ module _ (hits : List Bool) (s : Moment) (id : ℕ) (v : View) (n : ℕ) (law : 
   pub mark_step : Step hits s.words (set s.words (length hits) (min (hit_word hits s.words) n)) v
       (with_done v n (min n (hit_word hits s.words)))
   unfolding marked
-  mark_step = record {
-    size = length-set s.words (length hits) (min (hit_word hits s.words) n);
-    risen = risen;
-    flag = λ m below. subst (λ k. (k ≡ 0) ⊎ (k ≡ 1)) (sym (flag_is m below)) (law.flag m below);
-    won = λ m h. inl (h.0, sym (flag_is m h.0) ∙ h.1);
-    hit = still_hit;
-    marked = ⊎_elim
-        (λ e. inl e)
-        (λ (e : hit_word hits marked ≡ n). inr (subst (λ k. has (n ∷ v.done) k ≡ true) (sym e) (has_head n v.done)))
-        which;
-    live = at.1;
-    more_mine = λ m h. h;
-    more_done = λ m h. has_tail n m v.done h;
-    knows = marked_knows;
-    new = λ m h. inl h;
-  }
+  mark_step = grind (arith, length-set, risen, flag_is, still_hit, has_head, which, has_tail, marked_knows)
 
 marks_at : (hits : List Bool) (slots id : ℕ) (v : View) (i n : ℕ) → i ≡ length hits → v.live ≡ true
     → has v.mine n ≡ true → is_hit_in hits n ≡ true

@@ -1,8 +1,7 @@
 -- Two seats made one keep a board lawful.
 use Rattle.std.proofs.Common.{◌≡◌, ◌≢◌, ◌⊎◌, ℕ, List, [], length, set, min, Bool, true}
-use Rattle.std.proofs.Common.{true≢false, refl, sym, ap, ◌∙◌, subst, inl, inr, ⊎_elim, arith}
+use Rattle.std.proofs.Common.{true≢false, refl, sym, ◌∙◌, subst, inl, inr, ⊎_elim, arith}
 use mathlib.Core.Option.{some, none, some-injective}
-use mathlib.Core.Logic.{dite}
 use native.Mathlib.Decide.{ℕ_discrete}
 use lib.ListN.{get_elem?}
 use Rattle.std.specs.Prelude.{slice_index}
@@ -32,10 +31,7 @@ module _ (hits : List Bool) (s : Moment) (id other : ℕ) (v w : View) (law : Is
 
   joined_at : IsLive both id (joined v w)
   unfolding both
-  joined_at = (
-    set_else (set s.views id (joined v w)) other id spent (λ e. ne (sym e)) ∙ view_here s.views id v (joined v w) at.0,
-    at.1,
-  )
+  joined_at = grind (arith, set_else, view_here)
 
   abbrev Another : ℕ → View → Type 0
   Another j u = (j ≢ id) × (j ≢ other) × IsLive s.views j u
@@ -43,13 +39,7 @@ module _ (hits : List Bool) (s : Moment) (id other : ℕ) (v w : View) (law : Is
   -- a live seat afterwards is the joined one, or another than these
   who : (j : ℕ) (u : View) → IsLive both j u → ((j ≡ id) × (joined v w ≡ u)) ⊎ Another j u
   unfolding both
-  who j u here = ⊎_elim
-      (λ (p : (j ≡ other) × (spent ≡ u)). absurd (true≢false (sym here.1 ∙ ap (λ (x : View). x.live) (sym p.1))))
-      (λ (p : (j ≢ other) × (get_elem? (set s.views id (joined v w)) j ≡ some u)). ⊎_elim
-      (λ (q : (j ≡ id) × (joined v w ≡ u)). inl q)
-      (λ (q : (j ≢ id) × (get_elem? s.views j ≡ some u)). inr (q.0, p.0, (q.1, here.1)))
-      (at_set s.views id j (joined v w) u p.1))
-      (at_set (set s.views id (joined v w)) other j spent u here.0)
+  who j u here = grind (arith, true≢false, get_elem?, at_set)
 
   low_is : IsHitOrEnd hits (min v.low w.low)
   low_is = ⊎_elim
@@ -68,39 +58,17 @@ module _ (hits : List Bool) (s : Moment) (id other : ℕ) (v w : View) (law : Is
     single = once_append v.mine w.mine k.single l.single not_both;
     low = low_is;
     below = let a = k.below in let b = l.below in omega arith;
-    done = λ n m. ⊎_elim
-        (λ a. let t = k.done n a in let z = t.3 in (has_left v.mine w.mine n t.0, t.1, t.2, omega arith))
-        (λ b. let t = l.done n b in let z = t.3 in (has_right v.mine w.mine n t.0, t.1, t.2, omega arith))
-        (has_append v.done w.done n m);
+    done = λ n m. grind (arith, has_left, has_right, has_append);
   }
 
   somebody_joined : (Q : View → Type 0) → (Q v → Q (joined v w)) → (Q w → Q (joined v w))
       → Somebody s.views Q → Somebody both Q
   unfolding both
   somebody_joined Q left right (j, u, here, q) =
-      dite (ℕ_discrete j id) one (λ ni. dite (ℕ_discrete j other) two (third ni))
-    where
-      one : j ≡ id → Somebody both Q
-      one i =
-          let is : u ≡ v = some-injective u v (sym here.0 ∙ ap (get_elem? s.views) i ∙ at.0) in
-          (id, joined v w, joined_at, left (subst Q is q))
-
-      two : j ≡ other → Somebody both Q
-      two o =
-          let is : u ≡ w = some-injective u w (sym here.0 ∙ ap (get_elem? s.views) o ∙ there.0) in
-          (id, joined v w, joined_at, right (subst Q is q))
-
-      third : j ≢ id → j ≢ other → Somebody both Q
-      third ne_id ne_other =
-          let was = set_else s.views id j (joined v w) ne_id in
-          let stands = set_else (set s.views id (joined v w)) other j spent ne_other ∙ was in
-          (j, u, (stands ∙ here.0, here.1), q)
+      grind (arith, ℕ_discrete, some-injective, get_elem?, joined_at, set_else)
 
   alone : (j : ℕ) (u : View) (n : ℕ) → Another j u → has (joined v w).mine n ≡ true → has u.mine n ≡ true → ⊥
-  alone j u n a m mu = ⊎_elim
-      (λ l. a.0 (sym (law.apart id j v u n at a.2 l mu)))
-      (λ r. a.1 (sym (law.apart other j w u n there a.2 r mu)))
-      (has_append v.mine w.mine n m)
+  alone j u n a m mu = grind (arith, has_append)
 
   apart' : (a b : ℕ) (u x : View) (n : ℕ) → IsLive both a u → IsLive both b x
       → has u.mine n ≡ true → has x.mine n ≡ true → a ≡ b

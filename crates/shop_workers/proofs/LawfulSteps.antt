@@ -1,5 +1,5 @@
 -- A step of one seat keeps a board lawful.
-use Rattle.std.proofs.Common.{◌≡◌, ◌≢◌, ◌⊎◌, ℕ, zero, suc, ◌<◌, ◌≤◌, List, [], ◌∷◌, length, set, Bool, true}
+use Rattle.std.proofs.Common.{◌≡◌, ◌≢◌, ◌⊎◌, ℕ, zero, suc, ◌<◌, ◌≤◌, List, [], ◌∷◌, length, set, Bool, true, rules}
 use Rattle.std.proofs.Common.{refl, sym, ap, ◌∙◌, subst, inl, inr, ⊎_elim, arith}
 use Rattle.std.specs.Prelude.{slice_index}
 use mathlib.Core.Option.{some, some-ne-none, some-injective}
@@ -37,11 +37,7 @@ still_knows hits after words u r k = record {
   single = k.single;
   low = k.low;
   below = let a = r.hit in let b = k.below in omega arith;
-  done = λ n h.
-      let t = k.done n h in
-      let a = r.hit in
-      let b = t.2 in
-      (t.0, t.1, omega arith, t.3);
+  done = grind arith;
 }
 
 -- some seat whose view became another
@@ -78,10 +74,7 @@ module _ (hits : List Bool) (s : Moment) (id : ℕ) (v w : View) (after : List �
   -- a seat afterwards is the one that stepped, or another that stands as it did
   who : (j : ℕ) (u : View) → IsLive views' j u → ((j ≡ id) × (w ≡ u)) ⊎ ((j ≢ id) × IsLive s.views j u)
   unfolding views'
-  who j u there = ⊎_elim
-      (λ (t : (j ≡ id) × (w ≡ u)). inl t)
-      (λ (t : (j ≢ id) × (get_elem? s.views j ≡ some u)). inr (t.0, (t.1, there.1)))
-      (at_set s.views id j w u there.0)
+  who j u there = grind (arith, get_elem?, at_set)
 
   here : IsLive views' id w
   unfolding views'
@@ -145,29 +138,9 @@ module _ (hits : List Bool) (s : Moment) (id : ℕ) (v w : View) (after : List �
 
   pub stepped_lawful : IsLawful hits record { words = after; homes = s.homes; views = set s.views id w }
   unfolding views'
-  stepped_lawful = record {
-    size = st.size ∙ law.size;
-    flag = st.flag;
-    won = won';
-    hit = st.hit;
-    marked = marked';
-    knows = knows';
-    apart = apart';
-  }
+  stepped_lawful = search (rules, won', marked', knows', apart')
 
 -- a step that changes no word, and neither what its seat won nor what it marked
 pub quiet : (hits : List Bool) (s : Moment) (v w : View) → IsLawful hits s → w.live ≡ true → w.mine ≡ v.mine
     → w.done ≡ v.done → Knows hits s.words w → Step hits s.words s.words v w
-quiet hits s v w law live mine done k = record {
-  size = refl;
-  risen = record { flags = λ n h. h; hit = omega arith };
-  flag = law.flag;
-  won = λ n h. inl h;
-  hit = law.hit;
-  marked = inl refl;
-  live = live;
-  more_mine = λ n m. subst (λ xs. has xs n ≡ true) (sym mine) m;
-  more_done = λ n m. subst (λ xs. has xs n ≡ true) (sym done) m;
-  knows = k;
-  new = λ n m. inl (subst (λ xs. has xs n ≡ true) mine m);
-}
+quiet hits s v w law live mine done k = grind arith

@@ -1,6 +1,5 @@
 -- Worked moments of a board of three pieces, of which the first ends at the opening bound.
-use Rattle.std.proofs.Common.{◌≡◌, ℕ, zero, suc, inl, inr, List, [], ◌∷◌, Bool, true, false, true≢false, refl, sym}
-use Rattle.std.proofs.Common.{subst, arith, lit<}
+use Rattle.std.proofs.Common.{◌≡◌, ℕ, List, [], ◌∷◌, Bool, true, false, true≢false, refl, arith, lit<}
 use mathlib.Core.Option.{some-ne-none, some-injective}
 use Rattle.shop_workers.specs.declared.views.View.{View}
 use Rattle.shop_workers.specs.Views.{has}
@@ -46,10 +45,7 @@ marked =
 
 -- No moment has a hit word that is no piece which ends at the opening bound,
 pub no_such_hit : IsLawful hits (moment (0 ∷ 1 ∷ 0 ∷ 1 ∷ []) (with_mine nobody 1 ∷ [])) → ⊥
-no_such_hit law = elim law.hit [
-  | inl e ↦ absurd (let f : 1 ≡ 3 = e in omega arith)
-  | inr e ↦ absurd (true≢false (sym e))
-]
+no_such_hit law = grind (arith, true≢false)
 
 -- or two seats that have won one piece,
 pub not_won_twice : IsLawful hits (moment (1 ∷ 0 ∷ 0 ∷ 3 ∷ []) (winner ∷ winner ∷ [])) → ⊥
@@ -58,9 +54,7 @@ not_won_twice law =
 
 -- or a flag that is set of a piece that nobody has won.
 only_nobody : (id : ℕ) (v : View) → IsLive (nobody ∷ []) id v → has v.mine 0 ≡ true → ⊥
-only_nobody zero v at m =
-    true≢false (sym (subst (λ (u : View). has u.mine 0 ≡ true) (sym (some-injective nobody v at.0)) m))
-only_nobody (suc id) v at m = some-ne-none v (sym at.0)
+only_nobody x v at m = grind (arith, true≢false, some-injective, some-ne-none)
 
 pub not_won_by_nobody : IsLawful hits (moment (1 ∷ 0 ∷ 0 ∷ 3 ∷ []) (nobody ∷ [])) → ⊥
 not_won_by_nobody law = let w = law.won 0 (lit< tt, refl) in only_nobody w.0 w.1 w.2 w.3

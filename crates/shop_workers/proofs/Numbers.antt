@@ -1,24 +1,20 @@
 -- Lists of numbers: which stand in them, and that none stands twice.
-use Rattle.std.proofs.Common.{◌≡◌, ◌⊎◌, ℕ, List, [], ◌∷◌, ◌++◌, Bool, true, false, ◌||◌, ◌&&◌, not}
-use Rattle.std.proofs.Common.{true≢false, refl, sym, ap, ◌∙◌, subst, inl, inr, ⊎_elim, eqb, eq-eqb, ne_eqb}
+use Rattle.std.proofs.Common.{◌≡◌, ◌⊎◌, ℕ, List, [], ◌∷◌, ◌++◌, Bool, true, false, ◌||◌, ◌&&◌, not, arith}
+use Rattle.std.proofs.Common.{true≢false, refl, sym, ap, ◌∙◌, subst, ⊎_elim, eqb, eq-eqb, ne_eqb}
 use Rattle.std.proofs.lemmas.Bool.{both_ways, not-true, or_cases}
 use Rattle.std.proofs.lemmas.List.Folds.{list_any-append}
-use mathlib.Core.Logic.{dite}
 use native.Mathlib.Decide.{ℕ_discrete}
 use Rattle.shop_workers.specs.Views.{has, once}
 
 -- a number in x ∷ xs is x, or stands in xs
 pub has_cons : (x n : ℕ) (xs : List ℕ) → has (x ∷ xs) n ≡ true → (x ≡ n) ⊎ (has xs n ≡ true)
-has_cons x n xs h = dite (ℕ_discrete n x)
-    (λ e. inl (sym e))
-    (λ ne. inr (subst (λ b. (b || has xs n) ≡ true) (ne_eqb n x ne) h))
+has_cons x n xs h = grind (arith, ℕ_discrete, ne_eqb)
 
 pub has_head : (x : ℕ) (xs : List ℕ) → has (x ∷ xs) x ≡ true
 has_head x xs = rw (eq-eqb x x refl)
 
 or_right : (a b : Bool) → b ≡ true → (a || b) ≡ true
-or_right true b e = refl
-or_right false b e = e
+or_right x b e = grind arith
 
 pub has_tail : (x n : ℕ) (xs : List ℕ) → has xs n ≡ true → has (x ∷ xs) n ≡ true
 has_tail x n xs h = or_right (eqb n x) (has xs n) h
@@ -36,13 +32,10 @@ pub has_right : (xs ys : List ℕ) (n : ℕ) → has ys n ≡ true → has (xs +
 has_right xs ys n h = list_any-append (eqb n) xs ys ∙ or_right (has xs n) (has ys n) h
 
 and_both : (a b : Bool) → (a && b) ≡ true → (a ≡ true) × (b ≡ true)
-and_both true true e = (refl, refl)
-and_both true false e = absurd (true≢false (sym e))
-and_both false b e = absurd (true≢false (sym e))
+and_both x b e = grind (arith, true≢false)
 
 pub is_false : (b : Bool) → (b ≡ true → ⊥) → b ≡ false
-is_false true n = absurd (n refl)
-is_false false n = refl
+is_false x n = grind arith
 
 -- the first number of those of which none stands twice, and the others
 pub once_first : (x : ℕ) (xs : List ℕ) → once (x ∷ xs) ≡ true → has xs x ≡ true → ⊥
@@ -66,7 +59,5 @@ once_append (x ∷ xs) ys ox oy apart = once_cons x (xs ++ ys)
 
 pub once_apart : (xs ys : List ℕ) → once (xs ++ ys) ≡ true → Apart xs ys
 once_apart [] ys o n a b = true≢false (sym a)
-once_apart (x ∷ xs) ys o n a b = ⊎_elim
-    (λ (e : x ≡ n). once_first x (xs ++ ys) o (has_right xs ys x (subst (λ k. has ys k ≡ true) (sym e) b)))
-    (λ (h : has xs n ≡ true). once_apart xs ys (once_others x (xs ++ ys) o) n h b)
-    (has_cons x n xs a)
+once_apart (x ∷ xs) ys o n a b =
+    grind (arith, once_first, has_right, once_others, has_cons, once_apart xs ys (once_others x (xs ++ ys) o) n)

@@ -1,5 +1,5 @@
 -- Seats that come and go keep a board lawful: the first one, one split in two, and two joined.
-use Rattle.std.proofs.Common.{◌≡◌, ◌⊎◌, ℕ, zero, suc, ◌<◌, List, [], ◌∷◌, ◌++◌, length, replicate, Bool}
+use Rattle.std.proofs.Common.{◌≡◌, ◌⊎◌, ℕ, ◌<◌, List, [], ◌∷◌, ◌++◌, length, replicate, Bool}
 use Rattle.std.proofs.Common.{true, true≢false, refl, sym, ap, ◌∙◌, subst, inl, inr, ⊎_elim, arith}
 use Rattle.std.specs.Prelude.{slice_index}
 use mathlib.Core.Option.{some-ne-none, some-injective}
@@ -29,31 +29,14 @@ module _ (hits : List Bool) (n : ℕ) (e : n ≡ length hits) where
   zero_at i h = zeros_at n n i (omega arith)
 
   only : (id : ℕ) (v : View) → IsLive (newcomer hits ∷ []) id v → (id ≡ 0) × (newcomer hits ≡ v)
-  only zero v at = (refl, some-injective (newcomer hits) v at.0)
-  only (suc id) v at = absurd (some-ne-none v (sym at.0))
+  only x v at = grind (arith, some-injective, some-ne-none)
 
   newcomer_knows : Knows hits words' (newcomer hits)
-  newcomer_knows = record {
-    same = refl;
-    mine = λ i m. absurd (nothing i m);
-    seen = λ i m. absurd (nothing i m);
-    single = refl;
-    low = inl refl;
-    below = let l = hit_is in omega arith;
-    done = λ i m. absurd (nothing i m);
-  }
+  newcomer_knows = grind (arith, nothing, hit_is)
 
   pub begins : IsLawful hits record { words = replicate n 0 ++ n ∷ []; homes = []; views = newcomer hits ∷ [] }
   unfolding words'
-  begins = record {
-    size = zeros_length n n ∙ ap suc e;
-    flag = λ i h. inl (zero_at i h);
-    won = λ i h. absurd (let z = zero_at i h.0 in let o = h.1 in omega arith);
-    hit = inl hit_is;
-    marked = inl hit_is;
-    knows = λ id v at. subst (Knows hits words') (only id v at).1 newcomer_knows;
-    apart = λ a b u x i la lb mu mx. (only a u la).0 ∙ sym (only b x lb).0;
-  }
+  begins = grind (arith, zeros_length, zero_at, hit_is, only, newcomer_knows)
 
 pub begins_at : (hits : List Bool) (n : ℕ) (ws : List ℕ) → n ≡ length hits → ws ≡ replicate n 0 ++ n ∷ []
     → IsLawful hits (opening ws [] (newcomer hits))
@@ -96,15 +79,7 @@ module _ (hits : List Bool) (s : Moment) (w : View) (law : IsLawful hits s) (non
   }
 
 empty_knows : (hits : List Bool) (words : List ℕ) (v : View) → Knows hits words v → Knows hits words (empty_handed v)
-empty_knows hits words v k = record {
-  same = k.same;
-  mine = λ n m. absurd (nothing n m);
-  seen = k.seen;
-  single = refl;
-  low = k.low;
-  below = k.below;
-  done = λ n m. absurd (nothing n m);
-}
+empty_knows hits words v k = grind (arith, nothing)
 
 pub splits : (hits : List Bool) (id : ℕ) (v : View) → v.live ≡ true → Splits (IsLawful hits) id v v (empty_handed v)
 splits hits id v live s law at =

@@ -1,6 +1,6 @@
 -- A seat has served all that it won, if it had served what it had won before and serves what it wins since.
 use Rattle.std.proofs.Common.{◌≡◌, ◌⊎◌, ℕ, ◌<◌, List, [], ◌∷◌, ◌++◌, reverse, Bool, true}
-use Rattle.std.proofs.Common.{sym, ◌∙◌, subst, inl, inr, ⊎_elim, arith, true≢false}
+use Rattle.std.proofs.Common.{sym, ◌∙◌, subst, ⊎_elim, arith, true≢false}
 use Rattle.std.proofs.lemmas.List.{reverse-append}
 use Rattle.std.proofs.lemmas.List.Elements.{All-head, All-tail}
 use Rattle.std.specs.Prelude.{All}
@@ -10,11 +10,9 @@ use Rattle.shop_runs.specs.Entries.{told, number_of, Fits}
 use Rattle.shop_runs.specs.declared.entries.Entry.{Entry}
 use Rattle.shop_runs.specs.declared.rounds.Round.{Round}
 use Rattle.shop_runs.specs.declared.entries.Kind.{Kind}
-use Rattle.shop_runs.specs.declared.entries.Kind.TheVariants.{Done, Passed}
 use Rattle.shop_workers.specs.declared.views.View.{View}
 use Rattle.shop_runs.specs.Hits.{hits_of_round}
 use Rattle.shop_workers.specs.Views.{has, HasServed}
-use Rattle.shop_runs.specs.Hits.{is_hit_in}
 use Rattle.shop_workers.specs.Entries.{OfRound}
 use Rattle.shop_workers.specs.Works.{Grows, numbers_of, IsServed, AreWon}
 use Rattle.shop_workers.proofs.Numbers.{has_append, has_cons, has_same, has_tail}
@@ -34,9 +32,7 @@ Served w n = (has w.done n ≡ true) ⊎ (w.low < n)
 
 pub by_kind : (r : Told) (w : View) (n : ℕ) (k : Kind) → Fits r k → IsServed r w k → number_of k ≡ n
     → entries.is_hit r n ≡ true → Served w n
-by_kind r w n (Done s) fits served e hit =
-    inl (subst (λ m. has w.done m ≡ true) e (served (subst (λ m. entries.is_hit r m ≡ true) (sym e) hit)))
-by_kind r w n (Passed m by') fits served e hit = let l = fits.0 in inr (omega arith)
+by_kind r w n x fits served e hit = grind arith
 
 -- the entry of a piece that the seat won
 by_entry : (r : Told) (w : View) (n : ℕ) (es : List Entry) → OfRound r es → All (λ (e : Entry). IsServed r w e.kind) es
@@ -64,7 +60,4 @@ all_served r hits v w es e same g won served n mine hit = ⊎_elim new old split
       by_entry (told r) w n es won.of_round won.served (has_reverse (numbers_of es) n h) round_hit
 
   old : has v.mine n ≡ true → Served w n
-  old h = ⊎_elim
-      (λ d. inl (g.done n d))
-      (λ (l : v.low < n). let lower = g.low in inr (omega arith))
-      (served n h (subst (λ k. is_hit_in k n ≡ true) g.hits hit))
+  old h = grind arith

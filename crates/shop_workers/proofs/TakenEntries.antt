@@ -8,8 +8,7 @@ use Rattle.shop_runs.specs.Round.{Told}
 use Rattle.shop_runs.specs.Crews.{IsEntryOf}
 use Rattle.shop_runs.specs.Entries.{told, number_of, is_hit}
 use Rattle.shop_runs.specs.declared.entries.Entry.{Entry}
-use Rattle.shop_workers.specs.Entries.{OfRound}
-use Rattle.shop_workers.specs.Entries.{IsPassed, LetsPass}
+use Rattle.shop_workers.specs.Entries.{OfRound, IsPassed, LetsPass}
 
 -- a piece that ends at the opening bound isn't below this number
 abbrev pub IsNotBelow : Told → ℕ → Entry → Type 0
@@ -29,14 +28,10 @@ one_taken r before low n es e taken lower is passed hit = record {
 }
   where
     lets : (k : ℕ) (d : Entry) → k < length es → LetsPass r (get_or es k d) e
-    lets k d inside hits below =
-        let least = All-get_or (IsNotBelow r before) es k d inside taken.least hits in
-        let number = is.1 in
-        passed (omega arith)
+    lets k d inside hits below = grind (arith, All-get_or)
 
     still : All (IsNotBelow r low) es
-    still = All-weaker (IsNotBelow r before) (IsNotBelow r low)
-        (λ x h hits. let l = h hits in omega arith) es taken.least
+    still = grind (arith, All-weaker)
 
     here : IsNotBelow r low e
     here = subst (λ k. is_hit r k ≡ true → low ≤ k) (sym is.1) hit

@@ -1,5 +1,5 @@
 -- Lists that are taken from their ends.
-use Rattle.std.proofs.Common.{◌≡◌, List, [], ◌∷◌, ◌++◌, ap, ◌∙◌}
+use Rattle.std.proofs.Common.{◌≡◌, List, [], ◌∷◌, ◌++◌, arith}
 use Rattle.std.proofs.lemmas.List.{append_assoc}
 use Rattle.std.proofs.lemmas.List.Elements.{All-cons}
 use Rattle.std.specs.Prelude.{All}
@@ -12,8 +12,4 @@ pub record AreThrough {X : Type 0} (P : X → Type 0) (all left : List X) : Type
 
 pub through_one : {X : Type 0} (P : X → Type 0) (all before left : List X) (x : X) → P x
     → before ≡ left ++ x ∷ [] → AreThrough P all before → AreThrough P all left
-through_one P all before left x here was through = record {
-  done = x ∷ through.done;
-  split = through.split ∙ ap (λ l. l ++ through.done) was ∙ append_assoc left (x ∷ []) through.done;
-  holds = All-cons P x through.done here through.holds;
-}
+through_one P all before left x here was through = grind (arith, append_assoc, All-cons)

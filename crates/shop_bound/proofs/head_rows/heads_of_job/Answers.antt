@@ -1,4 +1,4 @@
-use Rattle.std.proofs.Common.{List, length, ◌∙◌, sym, ap, arith, rules}
+use Rattle.std.proofs.Common.{List, length, ap, arith, rules}
 use Rattle.shop_model.specs.declared.ops.Op.{Op}
 use Rattle.shop_bound.proofs.Filled.{filled_more}
 use Rattle.shop_bound.proofs.HeadTurns.{ends_of_word, ready_first, placed_turn, left_turn, left_small}
@@ -8,13 +8,7 @@ pub loop-k-init : goal.loop-k-init
 loop-k-init c =
     let shop = c.args.instance.now in let j = c.args.j in let s = c.args.placement.now
     in let small = (ends_of_word shop c.route-route.ensures.limits s c.requires.word).ready j c.requires.job
-    in record {
-      filled = λ p is. search rules;
-      ready = λ p is. c.ready-ready.ensures ∙ (is.ready j c.requires.job ∙ sym (ready_first shop p j 0 (omega arith)));
-      small = (let a = c.ready-ready.ensures in omega arith);
-      long = search rules;
-      room = search rules;
-    }
+    in grind (arith, ready_first)
 
 pub loop-k-preserved-then-k-placed : goal.loop-k-preserved-then-k-placed
 loop-k-preserved-then-k-placed c = grind (arith, placed_turn, filled_more)
@@ -41,11 +35,7 @@ loop-k-preserved c =
     in record {
       filled = λ p is. grind (arith, filled_more);
       ready = λ p is. (turn p is).1;
-      small = left_small shop c.route-route.ensures.limits s (ends_of_word shop c.route-route.ensures.limits s
-          c.requires.word) j
-          c.route-route.result.now c.route-route.ensures.route c.loop-k.k c.loop-k.ready c.free.result
-          c.max-head.result
-          c.free.ensures c.max-head.ensures c.loop-k.invariant.small;
+      small = search (rules, left_small, ends_of_word);
       long = search rules;
       room = search rules;
     }

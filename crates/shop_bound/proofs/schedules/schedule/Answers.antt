@@ -1,5 +1,4 @@
-use Rattle.std.proofs.Common.{rules}
-use Rattle.std.proofs.Common.{inl, inr, arith, ap, ◌∙◌, List}
+use Rattle.std.proofs.Common.{rules, inl, inr, arith, ap, ◌∙◌, List}
 use Rattle.shop_bound.specs.declared.triples.Triple.{Triple}
 use Rattle.shop_bound.specs.OneMachine.{one}
 use Rattle.shop_bound.proofs.QueueTurns.{none_waits, room_kept}

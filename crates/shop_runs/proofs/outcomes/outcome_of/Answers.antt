@@ -1,11 +1,10 @@
-use Rattle.std.proofs.Common.{rules}
-use Rattle.std.proofs.Common.{◌≤◌, length, sym, ◌∙◌, subst, arith}
+use Rattle.std.proofs.Common.{rules, ◌≤◌, length, ◌∙◌, arith}
 use Rattle.std.proofs.lemmas.Bool.{eq-eqb, ne_eqb}
 use Rattle.std.proofs.lemmas.List.{length_push, length-map}
 use Rattle.shop_runs.specs.Entries.{told}
 use Rattle.shop_runs.specs.declared.rounds.Round.{Round}
 use Rattle.shop_runs.proofs.EntryLemmas.{IsEntryAt, entry_turn, entries_end, entry_done, entry_not_passed}
-use Rattle.shop_runs.proofs.GatherLemmas.{GatheredSoFar, gathered_turn}
+use Rattle.shop_runs.proofs.GatherLemmas.{gathered_turn}
 use Rattle.shop_runs.proofs.OutcomeLemmas.{closed_outcome, open_outcome}
 use Rattle.shop_runs.proofs.outcomes.outcome_of.Goals as goal
 
@@ -40,12 +39,7 @@ loop-entry-preserved c =
     in let turn = gathered_turn r (length c.loop-entry.yielded) s is c.loop-entry.outcome c.loop-entry.invariant.so_far
     c.args.round.now.small_budget c.take_in.new.self (ne_eqb s.makespan r.bound c.if-sheet-round.false)
     c.in_ok-take_in.ensures
-    in record {
-      can_next = tt;
-      is_finite = tt;
-      so_far = subst (λ i. GatheredSoFar r i c.take_in.new.self)
-          (sym (length_push c.loop-entry.yielded c.in-Some.entry)) turn;
-    }
+    in grind (arith, length_push)
 
 pub returns : goal.returns
 returns c =

@@ -1,12 +1,9 @@
-use Rattle.std.proofs.Common.{◌≡◌, ◌+◌, ◌-◌, ◌<◌, ◌++◌, [], ◌∷◌, length, subst, sym, ◌∙◌, ap, arith, eqb-true}
+use Rattle.std.proofs.Common.{◌≡◌, ◌-◌, ◌<◌, ◌++◌, [], ◌∷◌, length, subst, sym, ◌∙◌, ap, arith, eqb-true}
 use Rattle.std.proofs.lemmas.List.{length_push}
 use Rattle.std.specs.Vec.Iter.{into_iter_items}
 use Rattle.shop_nodes.specs.declared.pieces.Piece.{Piece}
 use Rattle.shop_runs.specs.Round.{cut_into}
-use Rattle.shop_runs.specs.Nodes.{numbered}
-use Rattle.shop_runs.specs.inner.NodeLists.{nodes_in}
-use Rattle.shop_runs.proofs.PieceLemmas.{some_open}
-use Rattle.shop_runs.proofs.PieceLemmas.{numbered_more, cut_turn, cut_empty, cut_last, take_some, take_none}
+use Rattle.shop_runs.proofs.PieceLemmas.{some_open, numbered_more, cut_turn, cut_empty, cut_last, take_some, take_none}
 use Rattle.shop_runs.proofs.rounds.cut_pieces.Goals as goal
 use Rattle.shop_runs.proofs.rounds.cut_pieces.Goals.{else-loop-number-test}
 use Rattle.shop_runs.proofs.rounds.cut_pieces.Goals.{then-loop-number-test+in_ok-piece+then-is_empty}
@@ -28,12 +25,7 @@ loop-number-preserved c =
     in let turn = cut_turn ps p n c.args.size rest (into_iter_items c.next_piece.new.nodes) c.args.nodes.items
     c.loop-number-test.true (take_some c.args.size rest (subst (λ ns. 0 < length ns) c.in_ok-piece.ensures.taken some))
     (nodes ∙ c.in_ok-piece.ensures.taken) c.in_ok-piece.ensures.left was.nodes
-    in record {
-      many = ap length more ∙ (length_push ps p ∙ ap (λ k. k + 1) many);
-      numbers = ap (numbered 0) more ∙ numbered_more 0 ps p was.numbers (omega arith);
-      nodes = ap (λ qs. nodes_in qs ++ cut_into (256 - (n + 1)) c.args.size
-          (into_iter_items c.next_piece.new.nodes)) more ∙ turn;
-    }
+    in grind (arith, length_push, numbered_more)
 
 pub returns-clause-nodes : goal.returns-clause-nodes
 returns-clause-nodes c =

@@ -1,5 +1,4 @@
-use Rattle.std.proofs.Common.{rules}
-use Rattle.std.proofs.Common.{ℕ, List, ◌∙◌, ap, refl, arith, length}
+use Rattle.std.proofs.Common.{rules, ℕ, List, ◌∙◌, ap, refl, arith, length}
 use Rattle.std.proofs.lemmas.List.{length-set}
 use Rattle.shop_layout.proofs.Written.{written_vec}
 use Rattle.shop_states.proofs.Trials.{its_end, its_job, its_position, trial_blocks, trial_keep, trial_kept}

@@ -1,10 +1,8 @@
-use Rattle.std.proofs.Common.{rules}
-use Rattle.std.proofs.Common.{ℕ, List, ◌∙◌, ap, refl, arith, length}
+use Rattle.std.proofs.Common.{rules, ℕ, List, ◌∙◌, ap, refl, arith, length}
 use Rattle.std.proofs.lemmas.List.{length-set}
 use Rattle.shop_layout.proofs.Written.{written_vec}
-use Rattle.shop_states.proofs.Trials.{its_end, its_job, its_position, now_heads, same_machines, trial_blocks}
-use Rattle.shop_states.proofs.Trials.{trial_bound}
-use Rattle.shop_states.proofs.Trials.{trial_keep, trial_kept, trial_raisable, trial_raises_fit, trial_under}
+use Rattle.shop_states.proofs.Trials.{trial_raises_fit, trial_raisable, same_machines, its_position, trial_blocks}
+use Rattle.shop_states.proofs.Trials.{trial_bound, trial_under, trial_keep, trial_kept, now_heads, its_end, its_job}
 use Rattle.shop_states.proofs.advances.advance_below.Goals as goal
 
 pub set_head-requires-clause-in_range : goal.set_head-requires-clause-in_range
@@ -23,8 +21,7 @@ raise-raised-requires-clause-can g c = rw c.as_mut_slice-next.ensures.value (rec
   raisable = trial_raisable c.requires.can.is.kept c.args.dispatch.job c.requires.can.is.fits c.requires.is.position_is
       c.requires.is.machine_is c.requires.is.end_is
       c.set_head.ensures.heads c.set_head.ensures.ends;
-  jobs = (let nexts = c.requires.can.is.kept.are_next.jobs in let routes = c.requires.can.is.kept.kept.laid.jobs
-      in omega arith);
+  jobs = grind arith;
   known = λ q here. let a = c.requires.can.is.kept.kept.laid.machines_at.known q here
       in let b = c.requires.can.machines_are in omega arith;
 })

@@ -24,8 +24,7 @@ list_on_machine-requires-clause-chosen g c = λ shop w kept.
     ∙ ap (λ (x : ℕ). get_or l.machines x 0) next
     in let end = kept.ends.next r at.operation in let told = c.first_least_end-chosen.ensures.end in let fits = at.fits
     in record {
-      known = (let a = chosen_job can r is
-          in let b = kept.are_next.jobs in omega arith);
+      known = grind (arith, chosen_job);
       machine_is = read;
       blocks = subst (λ (m : ℕ). HasBlocks l (length heads) m) (sym read) at.blocks;
       fits = omega arith;

@@ -1,7 +1,7 @@
-use Rattle.std.proofs.Common.{ℕ, ◌≡◌, List, ◌+◌, ◌++◌, ◌∷◌, [], inl, inr, sym, ◌∙◌, ap, map, subst, arith}
+use Rattle.std.proofs.Common.{ℕ, ◌≡◌, List, ◌++◌, ◌∷◌, [], inl, inr, sym, ◌∙◌, ap, map, subst, arith}
 use Rattle.std.proofs.Common.{append_assoc, refl}
 use Rattle.std.proofs.lemmas.List.{length-append}
-use Rattle.shop_states.specs.inner.Candidates.{ListsOwn, told_at}
+use Rattle.shop_states.specs.inner.Candidates.{told_at}
 use Rattle.shop_states.specs.inner.RisingLists.{IsIn}
 use Rattle.shop_states.proofs.Listing.{begun, ended, regrouped}
 use Rattle.shop_states.proofs.candidate_lists.list_marked.Goals as goal
@@ -44,12 +44,9 @@ loop-job-preserved g c =
     in (
       done ++ job ∷ [],
       record {
-        all = append_assoc done (job ∷ []) c.pop_first.new.self
-            ∙ (ap (λ (js : List ℕ). done ++ js) (sym c.in-Some.ensures) ∙ now.all);
+        all = grind (arith, append_assoc);
         told = λ j h. now.told j (subst (λ (js : List ℕ). IsIn js j) (sym c.in-Some.ensures) (inr h));
-        listed = λ js n list. regrouped c.args.limit own js done (job ∷ []) put n others more
-            (subst (λ (j : ℕ). ListsOwn c.args.limit own ((js ++ done) ++ j ∷ []) put ((n + others) + more)) is_job
-            (c.list_below-others.ensures.listed own (js ++ done) (n + others) is_own (now.listed js n list)));
+        listed = λ js n list. grind (arith, regrouped);
         count = omega arith;
         capacity = c.list_below-others.ensures.room ∙ now.capacity;
       },

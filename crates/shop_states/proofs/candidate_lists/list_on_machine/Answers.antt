@@ -54,13 +54,7 @@ own_spans-requires g c =
     in let from = c.blocks_of-from.ensures.first in let behind = c.blocks_of-from.ensures.behind
     in let times = kept.kept.laid.positions.times in let tails = kept.kept.laid.positions.tails
     in let heads = kept.kept.heads.positions
-    in record {
-      blocks = can.blocks;
-      times = omega arith;
-      tails = omega arith;
-      room = omega arith;
-      fits = can.fits;
-    }
+    in grind arith
 
 pub list_conflict_set-requires-clause-can : goal.list_conflict_set-requires-clause-can
 list_conflict_set-requires-clause-can g c =

@@ -1,15 +1,14 @@
-use Rattle.std.proofs.Common.{◌≡◌, ℕ, ◌+◌, ◌∙◌, get_or, min, refl, subst, sym, arith}
+use Rattle.std.proofs.Common.{◌≡◌, ◌+◌, get_or, min, subst, sym, arith}
 use Rattle.shop_layout.specs.Lanes.{rows_of}
 use Rattle.shop_layout.specs.Positions.{LayoutState}
-use Rattle.shop_states.specs.inner.Raises.{IsInBlocks, IsRaisable, Raises}
+use Rattle.shop_states.specs.inner.Raises.{IsRaisable, Raises}
 use Rattle.shop_states.specs.inner.RisingLists.{IsIn}
-use Rattle.shop_states.proofs.MarkedPositions.{among_same}
 use Rattle.shop_states.proofs.RaiseLoops.{all_blocks, blocks_raisable, marks_raisable, marks_raised, marks_waiting}
 use Rattle.shop_states.proofs.RaiseLoops.{more_blocks, no_blocks}
 use Rattle.shop_states.proofs.delays.delay.Goals as goal
 
 pub loop-from-init : goal.loop-from-init
-loop-from-init g c = grind (arith, no_blocks, among_same)
+loop-from-init g c = grind (arith, no_blocks)
 
 pub delay_marked-requires-clause-marks : goal.delay_marked-requires-clause-marks
 delay_marked-requires-clause-marks g c =
@@ -57,13 +56,7 @@ loop-from-preserved g c =
     in let moved : to ≡ from + c.min-from.result = omega arith
     in let more = c.min.ensures in let over = c.if-from-behind.false
     in let next : from + c.min-from.result + c.min.result ≡ min (from + c.min-from.result + 8) behind = omega arith
-    in record {
-      ordered = omega arith;
-      within = omega arith;
-      raises = subst (λ (f : ℕ). Raises g.L.StateLanes.GREATEST l c.args.next.now (IsInBlocks first f) end old new)
-          moved turn;
-      marked = c.below-marks.ensures ∙ among_same (g.L.StateLanes.heads c.delay_marked.new.lanes) end refl next;
-    }
+    in grind arith
 
 pub returns-then-from-behind : goal.returns-then-from-behind
 returns-then-from-behind g c =

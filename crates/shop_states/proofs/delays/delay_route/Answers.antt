@@ -1,5 +1,4 @@
-use Rattle.std.proofs.Common.{rules}
-use Rattle.std.proofs.Common.{arith}
+use Rattle.std.proofs.Common.{rules, arith}
 use Rattle.shop_states.proofs.RaiseSteps.{begun_following, ended_at, followed, is_there, leg_fits, leg_known}
 use Rattle.shop_states.proofs.RaiseSteps.{position_up_to, put_is}
 use Rattle.shop_states.proofs.delays.delay_route.Goals as goal

@@ -2,7 +2,7 @@ use Rattle.std.proofs.Common.{◌+◌, ◌∙◌, ap, arith, length, refl, sym}
 use Rattle.shop_layout.specs.Lanes.{rows_of}
 use Rattle.shop_layout.specs.Positions.{LayoutState}
 use Rattle.shop_states.proofs.FillTurns.{filling_begins, filling_on, job_filled, leg_few, leg_fits, leg_machine_within}
-use Rattle.shop_states.proofs.FillTurns.{leg_position_known, leg_there}
+use Rattle.shop_states.proofs.FillTurns.{leg_there}
 use Rattle.shop_states.proofs.RaiseSteps.{put_is}
 use Rattle.shop_states.proofs.fills.fill_route.Goals as goal
 
@@ -37,7 +37,7 @@ overflow_add-head g c =
     in let computable = c.requires.fill.computable in omega arith
 
 pub set_head-requires-clause-in_range : goal.set_head-requires-clause-in_range
-set_head-requires-clause-in_range g c = grind (arith, leg_position_known)
+set_head-requires-clause-in_range g c = grind arith
 
 pub set_head-requires-clause-fits : goal.set_head-requires-clause-fits
 set_head-requires-clause-fits g c = (leg_fits c.requires.fill c.requires.of.known (c.loop-routes.invariant.filling

@@ -73,14 +73,7 @@ pub returns-clause-bounds : goal.returns-clause-bounds
 returns-clause-bounds g c =
     let so = c.loop-machine.invariant.found
     in let all = found_all c.in_default.ensures.0 so
-    in record {
-      empty = all.0;
-      long = so.left.long;
-      low = so.low;
-      least_of = so.least_of;
-      covers = all.1;
-      most = so.most;
-    }
+    in grind arith
 
 pub offset_bounds-ceilings-machine : goal.offset_bounds-ceilings-machine
 offset_bounds-ceilings-machine g c = grind (arith, first_known)

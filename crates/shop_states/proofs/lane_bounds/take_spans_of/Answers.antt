@@ -62,10 +62,4 @@ pub returns : goal.returns
 returns g c =
     let so = c.loop-machine.invariant
     in let all = taken_all c.in_default.ensures.0 so
-    in record {
-      empty = all.0;
-      long = so.left.long;
-      low = so.low;
-      covers = all.1;
-      within = so.within;
-    }
+    in grind arith

@@ -1,10 +1,10 @@
 use Rattle.std.proofs.Common.{◌+◌, rules, arith}
 use Rattle.shop_layout.specs.Lanes.{rows_of}
-use Rattle.shop_states.proofs.LaneChoices.{gathered_below, have_all, marked_within, more_gathered, none_gathered}
+use Rattle.shop_states.proofs.LaneChoices.{gathered_below, have_all, marked_within, more_gathered}
 use Rattle.shop_states.proofs.lane_choices.gather_in_blocks.Goals as goal
 
 pub loop-from-init : goal.loop-from-init
-loop-from-init g c = grind (arith, none_gathered)
+loop-from-init g c = grind arith
 
 pub gather_marked-requires : goal.gather_marked-requires
 gather_marked-requires g c =

@@ -1,5 +1,5 @@
 use Rattle.std.proofs.Common.{arith}
-use Rattle.shop_states.proofs.LaneChoices.{gathering_begins, gathering_ends, gathering_on, popped_marked}
+use Rattle.shop_states.proofs.LaneChoices.{gathering_begins, popped_marked}
 use Rattle.shop_states.proofs.lane_choices.gather_marked.Goals as goal
 
 pub loop-position-init : goal.loop-position-init
@@ -13,7 +13,7 @@ pub put-requires : goal.put-requires
 put-requires g c = grind (arith, popped_marked)
 
 pub loop-position-preserved : goal.loop-position-preserved
-loop-position-preserved g c = grind (arith, gathering_on)
+loop-position-preserved g c = grind arith
 
 pub returns : goal.returns
-returns g c = grind (arith, gathering_ends)
+returns g c = grind arith

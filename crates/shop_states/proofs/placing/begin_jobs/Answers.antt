@@ -1,7 +1,6 @@
-use Rattle.std.proofs.Common.{rules}
-use Rattle.std.proofs.Common.{arith}
+use Rattle.std.proofs.Common.{rules, arith}
 use Rattle.shop_states.proofs.JobLegs.{first_small}
-use Rattle.shop_states.proofs.PlacedNexts.{begins_behind, begun_more}
+use Rattle.shop_states.proofs.PlacedNexts.{begins_behind}
 use Rattle.shop_states.proofs.placing.begin_jobs.Goals as goal
 
 pub overflow_cast-next_legs : goal.overflow_cast-next_legs
@@ -15,4 +14,4 @@ overflow_add-first-in-loop-job g c =
     in omega arith
 
 pub loop-job-preserved : goal.loop-job-preserved
-loop-job-preserved g c = search (rules, begun_more, begins_behind)
+loop-job-preserved g c = search (rules, begins_behind)

@@ -1,4 +1,4 @@
-use Rattle.std.proofs.Common.{◌≡◌, ℕ, ◌+◌, ◌∙◌, get_or, length, min, refl, subst, sym, arith}
+use Rattle.std.proofs.Common.{◌≡◌, ℕ, ◌+◌, get_or, length, min, subst, sym, arith}
 use Rattle.std.proofs.lemmas.List.{length-map}
 use Rattle.shop_layout.specs.Lanes.{rows_of}
 use Rattle.shop_layout.specs.Positions.{LayoutState}
@@ -6,14 +6,12 @@ use Rattle.shop_states.specs.inner.HeadRaises.{raise_in, raises_in}
 use Rattle.shop_states.specs.inner.RaiseCalls.{CanRaise, HasRaised}
 use Rattle.shop_states.specs.inner.Raises.{IsInBlocks}
 use Rattle.shop_states.specs.inner.RisingLists.{IsIn}
-use Rattle.shop_states.proofs.MarkedPositions.{among_same}
-use Rattle.shop_states.proofs.MarkedRaises.{AreRaisedUpTo, can_raise_marked, can_raise_on, has_raised_marked}
-use Rattle.shop_states.proofs.MarkedRaises.{raised_all, raised_begins, raised_on}
+use Rattle.shop_states.proofs.MarkedRaises.{can_raise_marked, can_raise_on, has_raised_marked, raised_all, raised_on}
 use Rattle.shop_states.proofs.RaiseLoops.{marks_waiting}
 use Rattle.shop_states.proofs.raises.raise_longer.Goals as goal
 
 pub loop-from-init : goal.loop-from-init
-loop-from-init g c = grind (arith, length-map, raised_begins, among_same)
+loop-from-init g c = grind (arith, length-map)
 
 pub raise_marked-requires-clause-marks : goal.raise_marked-requires-clause-marks
 raise_marked-requires-clause-marks g c =
@@ -84,13 +82,7 @@ loop-from-preserved g c =
     in let moved : to ≡ from + c.min-from.result = omega arith
     in let more = c.min.ensures in let over = c.if-from-behind.false
     in let next : from + c.min-from.result + c.min.result ≡ min (from + c.min-from.result + 8) behind = omega arith
-    in record {
-      raised = subst (λ (f : ℕ). AreRaisedUpTo g.L.StateLanes.GREATEST l c.args.next.now first f behind end old new
-          before after) moved turn;
-      marked = c.below-marks.ensures
-          ∙ among_same (g.L.StateLanes.heads c.raise_marked.new.lanes) end refl next;
-      listed = c.raise_marked.ensures.listed;
-    }
+    in grind arith
 
 pub returns : goal.returns
 returns g c =

@@ -1,6 +1,4 @@
-use Rattle.std.proofs.Common.{◌∙◌, subst, sym, arith}
-use Rattle.shop_states.specs.inner.Raises.{IsPosition}
-use Rattle.shop_states.specs.inner.RisingLists.{IsIn}
+use Rattle.std.proofs.Common.{◌∙◌, arith}
 use Rattle.shop_states.proofs.RaisedMachines.{lengths_in}
 use Rattle.shop_states.proofs.RaiseLoops.{marks_begin, popped_here, popped_within, popped_waits}
 use Rattle.shop_states.proofs.RaiseLoops.{popped_raisable, marks_on, marks_past, marks_end}
@@ -23,8 +21,7 @@ raise_from-requires-clause-can g c = record {
   raisable =
       popped_raisable c.requires.can.raisable c.loop-position.invariant.raised c.in-Some.ensures;
   jobs = c.requires.can.jobs;
-  known = λ q here. let long = lengths_in g.L.StateLanes.value c.args.raises.now c.loop-position.raises
-      c.loop-position.invariant.machines in let known = c.requires.can.known q here in omega arith;
+  known = λ q here. grind (arith, lengths_in);
 }
 
 pub raise_from-requires-clause-machines_fit : goal.raise_from-requires-clause-machines_fit
@@ -36,12 +33,7 @@ loop-position-preserved-then-head-end g c =
       raised =
           marks_on c.requires.can.raisable c.loop-position.invariant.raised c.in-Some.ensures
           c.raise_from.ensures.raises;
-      seen = sees_both (IsIn c.args.marks) (IsPosition c.in-Some.position) (IsIn
-          c.args.marks) (λ q here. here)
-          (λ q e. subst (IsIn c.args.marks) (sym e)
-          (popped_here c.requires.can.raisable c.loop-position.invariant.raised c.in-Some.ensures))
-          c.raise_from.ensures.raises.raised.raised.rises
-          c.loop-position.invariant.seen c.raise_from.ensures.seen;
+      seen = grind (arith, sees_both, popped_here);
       machines = c.raise_from.ensures.machines ∙ c.loop-position.invariant.machines;
       listed = c.raise_from.ensures.listed;
     }

@@ -1,20 +1,16 @@
-use Rattle.std.proofs.Common.{rules}
-use Rattle.std.proofs.Common.{refl, arith}
+use Rattle.std.proofs.Common.{rules, refl, arith}
 use Rattle.std.proofs.lemmas.List.{length-map}
 use Rattle.shop_states.specs.inner.HeadRaises.{raise_in}
 use Rattle.shop_states.proofs.RaisedMachines.{lengths_in}
 use Rattle.shop_states.proofs.RaiseSteps.{begun_following, ended_at, followed, is_there, leg_fits, leg_known}
-use Rattle.shop_states.proofs.RaiseSteps.{leg_machine}
-use Rattle.shop_states.proofs.RaiseSteps.{position_up_to, put_is, read_there}
+use Rattle.shop_states.proofs.RaiseSteps.{leg_machine, position_up_to, put_is, read_there}
 use Rattle.shop_states.proofs.RaisedEnds.{raised_within}
 use Rattle.shop_states.proofs.Watching.{notes_first, notes_next, sees_first, sees_long, sees_next}
 use Rattle.shop_states.proofs.raises.raise_route.Goals as goal
 
 pub loop-ready-init : goal.loop-ready-init
 loop-ready-init g c = record {
-  following = begun_following c.requires.raisable c.requires.waits c.requires.below (put_is c.args.routes.now
-      (g.L.StateLanes.heads c.args.lanes.now) c.args.position c.args.end c.set_head.ensures.heads
-      c.set_head.ensures.ends) c.behind-index.ensures.index c.time.ensures refl;
+  following = grind (arith, begun_following, put_is);
   seen = sees_first c.set_head.ensures.heads (raised_within c.requires.raisable c.requires.waits);
   noted = notes_first c.set_head.ensures.heads (raised_within c.requires.raisable c.requires.waits);
   listed = c.requires.listed;

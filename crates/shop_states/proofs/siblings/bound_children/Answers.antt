@@ -1,7 +1,7 @@
 use Rattle.std.proofs.Common.{◌+◌, ◌∙◌, refl, arith}
 use Rattle.shop_states.proofs.ChildrenBounds.{bound_small, children_can, children_known, children_settled}
 use Rattle.shop_states.proofs.ChildrenBounds.{late_raises_fit, machine_blocks}
-use Rattle.shop_states.proofs.LateHeads.{can_end, second_low}
+use Rattle.shop_states.proofs.LateHeads.{can_end}
 use Rattle.shop_states.proofs.Trials.{same_machines}
 use Rattle.shop_states.proofs.siblings.bound_children.Goals as goal
 
@@ -49,7 +49,7 @@ raise_late-raised-requires-clause-within g c =
     in let behind = c.positions_of-from.ensures.behind in omega arith
 
 pub raise_late-raised-requires-clause-second : goal.raise_late-raised-requires-clause-second
-raise_late-raised-requires-clause-second g c = grind (arith, second_low)
+raise_late-raised-requires-clause-second g c = grind arith
 
 pub raise_late-raised-requires-clause-can : goal.raise_late-raised-requires-clause-can
 raise_late-raised-requires-clause-can g c =

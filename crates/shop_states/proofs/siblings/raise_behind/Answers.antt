@@ -1,21 +1,20 @@
 use Rattle.std.proofs.Common.{refl, arith}
 use Rattle.std.proofs.lemmas.List.{length-map}
 use Rattle.shop_states.specs.inner.HeadRaises.{raise_in}
-use Rattle.shop_states.proofs.BehindRaises.{its_end, its_leg, its_place, its_within, late_enough, leg_up_to}
-use Rattle.shop_states.proofs.BehindRaises.{next_machine, next_raisable, next_read, next_there, next_waits}
-use Rattle.shop_states.proofs.BehindRaises.{raised_behind}
+use Rattle.shop_states.proofs.BehindRaises.{its_leg, its_place, late_enough, leg_up_to, next_machine, next_raisable}
+use Rattle.shop_states.proofs.BehindRaises.{next_read, next_there, next_waits, raised_behind}
 use Rattle.shop_states.proofs.Watching.{noted_behind, watch_none}
 use Rattle.shop_states.specs.inner.Watchers.{no_floor}
 use Rattle.shop_states.proofs.siblings.raise_behind.Goals as goal
 
 pub time-requires : goal.time-requires
-time-requires g c = grind (arith, its_within)
+time-requires g c = grind arith
 
 pub overflow_add-ready : goal.overflow_add-ready
-overflow_add-ready g c = grind (arith, its_end)
+overflow_add-ready g c = grind arith
 
 pub behind-requires : goal.behind-requires
-behind-requires g c = grind (arith, its_place, its_within)
+behind-requires g c = grind (arith, its_place)
 
 pub leg-leg-requires : goal.leg-leg-requires
 leg-leg-requires g c = its_leg c.requires.can c.requires.waits c.behind.ensures.index
@@ -42,7 +41,7 @@ see-requires-clause-known g c =
     in let known = c.requires.known c.leg-leg.result.position (omega arith) in omega arith
 
 pub see-requires-clause-fits : goal.see-requires-clause-fits
-see-requires-clause-fits g c = grind (arith, its_end)
+see-requires-clause-fits g c = grind arith
 
 pub raise_route-requires : goal.raise_route-requires
 raise_route-requires g c =

@@ -1,13 +1,12 @@
-use Rattle.std.proofs.Common.{rules}
-use Rattle.std.proofs.Common.{◌∙◌, inl, inr, arith}
+use Rattle.std.proofs.Common.{rules, ◌∙◌, inl, inr, arith}
 use Rattle.shop_states.specs.inner.Watchers.{no_floor}
-use Rattle.shop_states.proofs.BehindRaises.{late_begins, late_can, late_ends, late_on, late_past}
+use Rattle.shop_states.proofs.BehindRaises.{late_can, late_ends, late_on, late_past}
 use Rattle.shop_states.proofs.Watching.{watch_both, watch_none}
 use Rattle.shop_states.proofs.siblings.raise_late.Goals.{then-is_delayed, else-is_delayed}
 use Rattle.shop_states.proofs.siblings.raise_late.Goals as goal
 
 pub loop-position-init : goal.loop-position-init
-loop-position-init g c = grind (arith, late_begins, watch_none)
+loop-position-init g c = grind (arith, watch_none)
 
 pub raise_behind-requires-clause-can : goal.raise_behind-requires-clause-can
 raise_behind-requires-clause-can g c = search (rules, late_can)

@@ -1,8 +1,7 @@
 use Rattle.std.proofs.Common.{rules, ◌≡◌, ◌∙◌, ◌≤◌, [], ◌∷◌, ◌++◌, true, subst, sym}
 use Rattle.shop_runs.specs.Entries.{told, is_hit}
 use Rattle.shop_runs.specs.Crews.{IsEntryOf}
-use Rattle.shop_runs.specs.Hits.{hits_of_round}
-use Rattle.shop_runs.specs.Hits.{IsHitOrEnd}
+use Rattle.shop_runs.specs.Hits.{hits_of_round, IsHitOrEnd}
 use Rattle.shop_workers.proofs.TakenEntries.{AreTaken, one_taken}
 use Rattle.shop_workers.proofs.lock_search.serve.Goals as goal
 

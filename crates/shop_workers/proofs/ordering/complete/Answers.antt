@@ -1,4 +1,4 @@
-use Rattle.std.proofs.Common.{rules, arith, ◌≡◌, ◌∙◌, length, None, subst}
+use Rattle.std.proofs.Common.{rules, arith, ◌≡◌, ◌∙◌, None, subst}
 use Rattle.std.proofs.lemmas.List.{length-map}
 use Rattle.std.specs.Prelude.{IfSome}
 use Rattle.shop_runs.specs.Crews.{IsEntryOf}
@@ -29,10 +29,7 @@ loop-number-preserved g c =
     )
 
 pub returns-clause-each : goal.returns-clause-each
-returns-clause-each g c =
-    let pieces : length (told c.args.round.now).pieces ≡ c.loop-number.number =
-    length-map c.args.round.now.pieces.items _ ∙ search rules in
-    (search rules, λ n d below. c.loop-number.invariant.3 n d (omega arith))
+returns-clause-each g c = grind (arith, length-map)
 
 pub returns-clause-kept : goal.returns-clause-kept
 returns-clause-kept g c n e below there = rw there at (c.loop-number.invariant.6 n e (omega arith))

@@ -1,11 +1,10 @@
-use Rattle.std.proofs.Common.{rules, ◌∙◌, sym, subst, ◌≡◌, Option, Some, [], ◌∷◌, ◌++◌}
+use Rattle.std.proofs.Common.{rules, ◌∙◌, subst, ◌≡◌, Option, Some, [], ◌∷◌, ◌++◌, arith}
 use Rattle.std.proofs.lemmas.List.Elements.{All-pop}
 use Rattle.std.specs.Prelude.{Ok, IsOk, IfSome}
 use Rattle.std.specs.declared.vec.Vec.{Vec}
 use Rattle.std.specs.declared.alloc.Global.{Global}
 use Rattle.shop_runs.specs.Entries.{told}
 use Rattle.shop_runs.specs.declared.entries.Entry.{Entry}
-use Rattle.shop_workers.specs.Seats.{IsSeatOf}
 use Rattle.shop_workers.specs.inner.Returns.{IsReturned}
 use Rattle.shop_workers.specs.declared.boards.Seat.{Seat}
 use Rattle.shop_workers.specs.declared.seat_lending.Returned.{Returned}
@@ -31,10 +30,8 @@ loop-seat-preserved c =
     let here : IsReturned b r taken.seat taken.entries =
     subst (λ (o : Option Returned). IfSome o (λ w. IsReturned b r w.seat w.entries)) popped parts.1 in (
       elim c.match-joined.branch [
-        | in-Some-joined w ↦ (let is : joined ≡ Some w.join.result = search rules
-            in subst (λ (o : Option Seat). IfSome o (IsSeatOf b)) (sym is) w.join.ensures.seat)
-        | in-None w ↦ (let is : joined ≡ Some taken.seat = search rules
-            in subst (λ (o : Option Seat). IfSome o (IsSeatOf b)) (sym is) here.0)
+        | in-Some-joined w ↦ grind arith
+        | in-None w ↦ grind arith
       ],
       c.place.ensures.len ∙ c.loop-seat.invariant.1,
       c.place.ensures.placed,

@@ -1,7 +1,7 @@
-use Rattle.std.proofs.Common.{◌+◌, ◌<◌, ap, ◌∙◌, subst, sym, Some, None}
+use Rattle.std.proofs.Common.{◌+◌, ◌<◌, ap, ◌∙◌, subst, sym, Some, None, arith}
 use Rattle.std.specs.Prelude.{All}
 use Rattle.shop_runs.specs.Entries.{told}
-use Rattle.shop_workers.specs.Seats.{knows, hits_of}
+use Rattle.shop_workers.specs.Seats.{knows}
 use Rattle.shop_workers.specs.Works.{AreWon, numbers_of}
 use Rattle.shop_workers.specs.inner.Turns.{TakesTurn}
 use Rattle.shop_workers.proofs.ServedEntries.{all_served}
@@ -53,7 +53,4 @@ loop-number-preserved g c =
     }
 
 pub returns-clause-served : goal.returns-clause-served
-returns-clause-served g c =
-    let i = c.loop-number.invariant in
-    all_served (g.P.PieceSearch.searched c.args.searcher.now) (hits_of c.args.board.now) (knows c.args.seat.now)
-    (knows c.loop-number.seat) c.loop-number.entries.items c.requires.round i.seat.1 i.grows i.entries
+returns-clause-served g c = grind (arith, all_served)

@@ -1,7 +1,6 @@
 use Rattle.std.proofs.Common.{arith, ◌≡◌, ◌+◌, ◌-◌, ◌<◌, ◌∷◌, ◌++◌, [], take, sym, ◌∙◌, ap}
 use Rattle.std.proofs.lemmas.List.{take_more}
-use Rattle.shop_nodes.specs.inner.HeldNodes.{nodes_below}
-use Rattle.shop_runs.specs.inner.Stacks.{put_before, put_all_before}
+use Rattle.shop_runs.specs.inner.Stacks.{put_before}
 use Rattle.shop_runs.specs.inner.Stores.{open_list, order_of}
 use Rattle.shop_runs.proofs.StoreLemmas.{put_last}
 use Rattle.shop_runs.proofs.open_nodes.OpenNodes.put_nodes.Goals as goal
@@ -25,10 +24,4 @@ loop-left-preserved-in_ok-put c =
     in let put = c.in_ok-put.ensures
     in let here : open_list c.put.new.self ≡ put_before order n nodes =
     put.1 ∙ (λ j. put_before (now.order j) ((c.in_ok-of.ensures ∙ c.in_ok-copied.ensures) j) nodes)
-    in record {
-      within = omega arith;
-      order = put.0 ∙ now.order;
-      put = ap (put_all_before order (nodes_below limit (take k ns))) here
-          ∙ (sym (put_last order limit (take k ns) n nodes low)
-          ∙ (ap (λ ms. put_all_before order (nodes_below limit ms) nodes) (sym more) ∙ now.put));
-    }
+    in grind (arith, put_last)

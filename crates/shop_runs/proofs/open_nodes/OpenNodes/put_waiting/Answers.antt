@@ -1,8 +1,8 @@
-use Rattle.std.proofs.Common.{rules, ◌≡◌, ◌+◌, ◌<◌, drop, length, get_or, sym, ◌∙◌, ap}
+use Rattle.std.proofs.Common.{rules, ◌≡◌, ◌<◌, length, get_or, ◌∙◌, arith}
 use Rattle.std.specs.Arc.{arc_slice_items}
 use Rattle.shop_nodes.specs.declared.halts.Waiting.TheVariants.{Child}
 use Rattle.shop_nodes.specs.declared.halts.Waiting.{Waiting}
-use Rattle.shop_nodes.specs.inner.HeldNodes.{nodes_below, child_nodes, stack_nodes}
+use Rattle.shop_nodes.specs.inner.HeldNodes.{nodes_below, child_nodes}
 use Rattle.shop_runs.specs.inner.Stacks.{put_all_before}
 use Rattle.shop_runs.specs.inner.Stores.{open_list, order_of}
 use Rattle.shop_runs.proofs.StoreLemmas.{put_entry}
@@ -23,8 +23,4 @@ loop-waiting-preserved c =
     ≡ put_all_before order (nodes_below c.args.limit (child_nodes path (get_or items k d))) nodes =
     put.1 ∙ (λ j. put_all_before (now.order j)
     (nodes_below c.args.limit (child_nodes path (get_or (c.deref-waiting-items.ensures.value j) k d))) nodes)
-    in record {
-      order = put.0 ∙ now.order;
-      put = ap (put_all_before order (nodes_below c.args.limit (stack_nodes path (drop (k + 1) items)))) here
-          ∙ (sym (put_entry order c.args.limit path items k d nodes within) ∙ now.put);
-    }
+    in grind (arith, put_entry)

@@ -1,4 +1,4 @@
-use Rattle.std.proofs.Common.{◌∙◌, subst}
+use Rattle.std.proofs.Common.{subst, arith}
 use Rattle.shop_runs.specs.inner.Stores.{open_list, HasPopped}
 use Rattle.shop_runs.proofs.PieceLemmas.{take_next}
 use Rattle.shop_runs.proofs.open_nodes.OpenNodes.take.Goals as goal
@@ -8,8 +8,4 @@ loop-preserved c =
     let popped = subst (λ o. HasPopped o c.loop.self c.pop.new.self) c.in-Some.is c.in_ok-node.ensures
     in let next = take_next (open_list c.args.self.now) c.loop.taken.items (open_list c.loop.self)
     (open_list c.pop.new.self) c.in-Some.node c.loop.counter c.loop.invariant.taken c.loop.invariant.left popped.1
-    in record {
-      order = popped.0 ∙ c.loop.invariant.order;
-      taken = c.in_ok-push.ensures.items ∙ next.0;
-      left = next.1;
-    }
+    in grind arith

@@ -1,5 +1,4 @@
-use Rattle.std.proofs.Common.{rules}
-use Rattle.std.proofs.Common.{length, arith, refl, sym, eqb-true}
+use Rattle.std.proofs.Common.{rules, length, arith, refl, sym, eqb-true}
 use Rattle.shop_runs.specs.Plans.{planned}
 use Rattle.shop_runs.proofs.PieceLemmas.{some_open}
 use Rattle.shop_runs.specs.inner.Stores.{open_list}

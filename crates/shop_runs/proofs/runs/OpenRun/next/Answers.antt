@@ -1,8 +1,7 @@
-use Rattle.std.proofs.Common.{◌∙◌, refl}
+use Rattle.std.proofs.Common.{refl, arith}
 use Rattle.shop_runs.specs.Plans.{planned}
 use Rattle.shop_nodes.specs.inner.HeldNodes.{nodes_below}
 use Rattle.shop_runs.specs.inner.Outcomes.{left_open}
-use Rattle.shop_runs.specs.inner.Stacks.{put_all_before}
 use Rattle.shop_runs.proofs.Answering.{next_round}
 use Rattle.shop_runs.proofs.runs.OpenRun.next.Goals as goal
 
@@ -19,8 +18,5 @@ returns-clause-next g c =
       makespan = refl;
       rounds = refl;
       nodes = refl;
-      joined = record {
-        kept = put.0 ∙ keep.0;
-        open_nodes = put.1 ∙ (λ j. put_all_before (keep.0 j) left (keep.1 j));
-      };
+      joined = grind arith;
     })

@@ -4,8 +4,7 @@ use Rattle.shop_nodes.proofs.LeftLemmas.{can_be_shared}
 use Rattle.shop_runs.specs.Round.{words_below}
 use Rattle.shop_runs.specs.Standings.{stands}
 use Rattle.shop_nodes.specs.inner.HeldNodes.{nodes_below}
-use Rattle.shop_runs.specs.inner.Stacks.{put_all_before}
-use Rattle.shop_runs.specs.inner.Stores.{open_list, order_of}
+use Rattle.shop_runs.specs.inner.Stores.{open_list}
 use Rattle.shop_runs.proofs.FrontLemmas.{IsInOrder, joined_at, none_in_order}
 use Rattle.shop_runs.proofs.KeptBelow.{all_below, none_closed}
 use Rattle.shop_runs.proofs.runs.OpenRun.of.Goals as goal
@@ -36,7 +35,5 @@ returns c =
     (subst (λ ns. IsInOrder shop c.args.order (words_of ns)) (sym none) (none_in_order shop c.args.order))
     (record {
       kept = put.0;
-      open_nodes = put.1 ∙ (λ j. put_all_before (order_of others)
-          (nodes_below u.makespan (c.as_slice.ensures.value j))
-          ((none ∙ ap (nodes_below u.makespan) (sym none)) j));
+      open_nodes = grind arith;
     })

@@ -17,8 +17,7 @@ pub bound_children-requires-clause-can : goal.bound_children-requires-clause-can
 bound_children-requires-clause-can g c = record {
   shop = c.args.self.now.shop;
   word = c.requires.can.word;
-  kept = kept_copied c.grid.ensures.grid c.copy_from.ensures.heads c.copy_from.ensures.ends c.as_slice.ensures.value
-      c.requires.can.is_word.kept;
+  kept = grind (arith, kept_copied);
   siblings = are_siblings c.requires.can.is_word.kept.kept.word
       (listed_here c.requires.can.is_word c.requires.can.listed);
   bound_is = bound_there c.requires.can.is_word c.requires.can.bound_is;

@@ -1,5 +1,4 @@
-use Rattle.std.proofs.Common.{arith}
-use Rattle.std.proofs.Common.{◌∙◌, ap, length, refl, sym}
+use Rattle.std.proofs.Common.{arith, ◌∙◌, ap, length, refl, sym}
 use Rattle.shop_layout.proofs.Written.{written_vec}
 use Rattle.shop_bound.proofs.Renumbered.{numbers_alike}
 use Rattle.shop_states.proofs.AskedStates.{kept_for}

@@ -1,5 +1,4 @@
-use Rattle.std.proofs.Common.{arith}
-use Rattle.std.proofs.Common.{◌∙◌, sym}
+use Rattle.std.proofs.Common.{arith, ◌∙◌, sym}
 use Rattle.shop_layout.proofs.Written.{written_vec}
 use Rattle.shop_states.proofs.AskedStates.{kept_on, set_there}
 use Rattle.shop_states.proofs.ReadStates.{kept_read}

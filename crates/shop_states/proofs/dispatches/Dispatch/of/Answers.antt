@@ -1,5 +1,4 @@
-use Rattle.std.proofs.Common.{rules}
-use Rattle.std.proofs.Common.{ℕ, List, ◌∙◌, ap, arith, get_or, length}
+use Rattle.std.proofs.Common.{rules, ℕ, List, ◌∙◌, ap, arith, get_or, length}
 use Rattle.shop_lanes.proofs.Unmarking.{positions_among-set}
 use Rattle.shop_layout.specs.Positions.{LayoutState}
 use Rattle.shop_states.proofs.Trials.{its_blocks, its_end, its_job, its_position}
