@@ -21,7 +21,7 @@ next_head shop p j = max (p.ready j) (p.free (next_machine shop p j))
 abbrev pub next_end : Shop → Placing → ℕ → ℕ
 next_end shop p j = next_head shop p j + time_of shop j (p.steps j)
 
--- the job in the list whose next operation can end first, the first one on ties
+-- of j and the jobs in the list, the one whose next operation can end first, the first one on ties
 abbrev pub chosen_of : Shop → Placing → ℕ → List ℕ → ℕ
 chosen_of shop p j js = best_of (λ i b. nat_lt (next_end shop p i) (next_end shop p b)) j js
 

@@ -70,8 +70,8 @@ pub(crate) fn leap<B: Block>(
     bound
 }
 
-/// Calls `leap` for any number of blocks, with a literal `count` for one to eight blocks, in lanes of 64 bits for one to
-/// three. Kept out of line.
+/// Calls `leap` for any number of blocks, with a literal `count` for one to eight blocks (in lanes of 64 bits, for one
+/// to three). Kept out of line.
 #[inline(never)]
 pub(crate) fn leap_over<B: Block>(
     rows: &LaneRows<B::Number>,

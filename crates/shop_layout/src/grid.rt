@@ -158,13 +158,14 @@ impl<L: StateLanes> Grid<L> {
         self.blocks_each
     }
 
-    /// The number of blocks of each machine for which the lanes have code of their own, or 0 if they have it for none.
+    /// The number of blocks of each machine where the lanes have code for that number alone, else 0: the constant
+    /// `EACH`.
     #[inline(always)]
     pub fn fixed_blocks_each(&self) -> usize
         ensures is { result ≡ L.EACH }
         ensures even { AreEven self.now.blocks result }
     {
-        // its invariant: the lanes fit the blocks
+        // reads nothing: brings in the invariant, by which `EACH` fits the blocks
         let _ = &self.positions;
         L::EACH
     }

@@ -16,5 +16,6 @@ rounds_from shop plan (suc n) s = unless_closed s.open_words s
 abbrev pub answer : Shop → Planned → Stand
 answer shop plan = rounds_from shop plan plan.rounds (opening shop)
 
+-- the least bound of an open word, or the makespan if that is lower
 abbrev pub bound_of : Shop → Stand → ℕ
 bound_of shop s = least_bound shop (makespan_of shop s) s.open_words

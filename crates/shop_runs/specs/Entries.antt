@@ -5,6 +5,7 @@ use Rattle.shop_runs.specs.{Round.{Told, sheet_in}, Nodes.told_of, declared.entr
 use Rattle.shop_runs.specs.{declared.entries.Kind.TheVariants.{Done, Passed}, declared.rounds.Round.Round}
 use Rattle.shop_nodes.specs.{Nodes.words_of, declared.sheets.Sheet.Sheet}
 
+-- the round as definitions speak of it
 abbrev pub told : Round → Told
 told r = told_of r.instance.now r.word r.best r.bound r.budget r.pieces.items r.rest.items r.rounds r.nodes
 
@@ -25,6 +26,7 @@ IsOf r s = (s.instance.now ≡ r.shop) × (s.best ≡ r.best) × (s.budget ≡ r
 abbrev pub MayPass : Told → ℕ → ℕ → Type 0
 MayPass r number by' = (by' < number) × (number < length r.pieces) × (is_hit r by' ≡ true)
 
+-- what an entry of this kind says fits the round
 abbrev pub Fits : Told → Kind → Type 0
 Fits r (Done s) = IsOf r s
 Fits r (Passed number by') = MayPass r number by'
@@ -33,6 +35,7 @@ pub Fits-prop : (r : Told) (k : Kind) → IsProp (Fits r k)
 Fits-prop r (Done s) = hlevel props
 Fits-prop r (Passed number by') = hlevel props
 
+-- the number of the entry's piece
 abbrev pub number_of : Kind → ℕ
 number_of (Done s) = s.number
 number_of (Passed number by') = number

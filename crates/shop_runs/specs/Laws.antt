@@ -22,6 +22,7 @@ abbrev pub PiecesAreAll : Type 0
 PiecesAreAll = (plan : Planned) (words : List (List ℕ))
     → flat_map (λ piece. piece) (pieces_of plan words) ++ rest_of plan words ≡ words
 
+-- what stands where a run begins covers
 abbrev pub OpeningCovers : Type 0
 OpeningCovers = (shop : Shop) → StandsCovering shop (opening shop)
 

@@ -17,6 +17,7 @@ abbrev pub numbered : ℕ → List Piece → Bool
 numbered k [] = true
 numbered k (p ∷ ps) = (p.number == k) && numbered (k + 1) ps
 
+-- a round of these fields, as definitions speak of it
 abbrev pub told_of : Shop → List ℕ → ℕ → ℕ → ℕ → List Piece → List Node → ℕ → ℕ → Told
 told_of shop word best bound budget pieces rest rounds nodes = record {
   shop = shop;

@@ -8,6 +8,7 @@ pub record Planned : Type 0 where
   pub piece : ℕ
   pub order : Order
 
+-- the plan as definitions speak of it
 abbrev pub planned : Plan → Planned
 planned p = record { rounds = p.rounds; budget = p.budget; piece = p.piece; order = p.order }
 

@@ -23,6 +23,7 @@ cut_into zero size xs = []
 cut_into (suc n) size [] = []
 cut_into (suc n) size (x ∷ xs) = take size (x ∷ xs) ∷ cut_into n size (drop size (x ∷ xs))
 
+-- the words in the order in which they are cut
 abbrev pub in_order : Shop → Order → List (List ℕ) → List (List ℕ)
 in_order shop Kept ws = ws
 in_order shop Bound ws = sort_by (lb shop) ws
@@ -91,6 +92,7 @@ after_round r sheets None =
       nodes = r.nodes + sum_by (taken_of r.budget) sheets;
     }
 
+-- what stands after the round
 abbrev pub gathered : Told → Stand
 gathered r = after_round r (sheets_of r) (up_to_hit r.bound (sheets_of r))
 
@@ -101,6 +103,7 @@ pieces_of plan words = cut_into MAX_PIECES plan.piece words
 abbrev pub rest_of : Planned → List (List ℕ) → List (List ℕ)
 rest_of plan words = drop (MAX_PIECES * plan.piece) words
 
+-- the round that is cut from what stands
 abbrev pub cut_of : Shop → Planned → Stand → Told
 cut_of shop plan s =
     let words = in_order shop plan.order s.open_words

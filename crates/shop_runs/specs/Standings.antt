@@ -4,6 +4,7 @@ use Rattle.shop_model.specs.Shop.{Shop}
 use Rattle.shop_nodes.specs.Nodes.{words_of, AreNodes}
 use Rattle.shop_runs.specs.{Round.{Stand, makespan_of}, Laws.IsStanding, declared.standings.Standing.Standing}
 
+-- the standing as definitions speak of it
 abbrev pub stands : Standing → Stand
 stands s = record { word = s.word; open_words = words_of s.open.items; rounds = s.rounds; nodes = s.nodes }
 

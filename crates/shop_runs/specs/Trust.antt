@@ -14,6 +14,7 @@ pub record IsTrustworthy (shop : Shop) (word : List ℕ) (makespan lower open_no
   -- where nothing is open, the makespan is least
   pub least : open_nodes ≡ 0 → IsLeast shop makespan
 
+-- so is what the answer of each plan says
 abbrev pub AnswersAreTrustworthy : Type 0
 AnswersAreTrustworthy = (shop : Shop) (plan : Planned) → let s = answer shop plan
     in IsTrustworthy shop s.word (makespan_of shop s) (bound_of shop s) (length s.open_words)

@@ -76,6 +76,7 @@ impl OpenRun {
     {
         let mut others = self.open;
         let bound = others.least_bound(self.makespan);
+        // a guess: as many nodes as the last round's pieces could hold
         let front = others.take(
             alloc,
             MAX_PIECES * plan.piece,

@@ -58,8 +58,8 @@ impl Beginning {
         Ok(beginning)
     }
 
-    /// Makes room for the beginning of any word of `instance`: one form for lanes of all widths. Fails with `NoMemory`
-    /// if memory runs out.
+    /// Makes room for the beginning of any word of `instance`. Compiled once for lanes of all widths. Fails with
+    /// `NoMemory` if memory runs out.
     #[inline(never)]
     fn with_room(alloc: Global, instance: &Instance) -> Result<Beginning, NoMemory>
         ensures { IfOk result (HasRoomOf instance.now) }

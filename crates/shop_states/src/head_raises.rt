@@ -68,8 +68,8 @@ fn with_head<L: StateLanes>(
     }
 }
 
-/// Notes that a head rose from `before` to `after`: widens the raise of `machine`, and puts `machine` into `raised`. Of
-/// at most 64 machines a set is one number (`FEW`), which spares a test.
+/// Notes that a head rose from `before` to `after`: widens the raise of `machine`, and puts `machine` into `raised`.
+/// `FEW` says that there are at most 64 machines: then the set is one number, which spares a test.
 #[inline(always)]
 pub(crate) fn see<L: StateLanes, const FEW: bool>(
     raises: &mut [LaneRaise<L::Number>],

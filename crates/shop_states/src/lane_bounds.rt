@@ -90,8 +90,8 @@ fn take_spans_of<L: StateLanes, const EACH: usize>(
     most
 }
 
-/// Does what `take_spans` does, in lanes for any number of blocks a machine, with code for each number up to eight.
-/// Stays out of line, so that a walk has this code once.
+/// Does what `take_spans` does, in lanes for any number of blocks a machine: with code for each number up to eight, in
+/// lanes of 64 bits with one loop. Stays out of line, so that a walk has this code once.
 #[inline(never)]
 fn take_any_spans<L: StateLanes>(
     raises: &mut [LaneRaise<L::Number>],

@@ -166,6 +166,7 @@ impl<L: StateLanes> MachineRaises<L> {
     {
         let mut raised = MachineSet::none();
         let raises = self.raises.as_mut_slice();
+        // lanes with code for one number of blocks have at most 64 machines: no test is made there
         if L::EACH > 0 || raises.len() <= 64 {
             raise_late::<L, true>(lanes, raises, &mut raised, routes, late);
             return raised;

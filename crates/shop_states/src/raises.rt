@@ -27,7 +27,8 @@ pub(crate) struct OpenRoutes<'a> {
 /// Raises the head at `position` to `end`, then every later head on its route that is now too early. Notes in `raises`
 /// how far each later head rose, and puts its machine into `raised`. Takes a step for each head that rises; the legs of
 /// a route lie side by side, so that no step waits until the one before it has read where the next operation stands. At
-/// the end of a route the head is the greatest number, and the raise stops.
+/// the end of a route the head is the greatest number, and the raise stops. `FEW` says that there are at most 64
+/// machines, see `see`.
 #[inline(always)]
 pub(crate) fn raise_route<L: StateLanes, const FEW: bool>(
     lanes: &mut L,
@@ -153,8 +154,8 @@ fn raise_marked<L: StateLanes, const FEW: bool>(
 }
 
 /// Does what `raise` does, for machines of any number of blocks: raises what is marked in the first eight blocks, then
-/// marks and raises eight blocks after another. Stays out of line, so that the code inlined for short machines stays
-/// small.
+/// marks and raises eight blocks after another. Stays out of line, since each kind of dispatch would else have this
+/// code anew.
 #[inline(never)]
 fn raise_longer<L: StateLanes, const FEW: bool>(
     lanes: &mut L,
@@ -233,5 +234,6 @@ pub(crate) fn raise<L: StateLanes>(
     let routes = grid.routes();
     let ahead = OpenRoutes { routes, next };
     let (marks, end) = (dispatch.delayed, dispatch.end);
+    // lanes with code for one number of blocks have at most 64 machines
     raise_marked::<L, true>(lanes, raises, raised, &ahead, marks, end);
 }

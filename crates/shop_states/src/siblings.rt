@@ -126,7 +126,8 @@ fn latest_of<L: StateLanes>(
 }
 
 /// Raises the heads behind the operation at `position` on its route, as far as they are too early if the operation
-/// begins at `free`. Notes how far these heads rose. The operation's own head stays.
+/// begins at `free`. Notes how far these heads rose. The operation's own head stays. `FEW` says that there are at most
+/// 64 machines, see `see`.
 #[inline(always)]
 fn raise_behind<L: StateLanes, const FEW: bool>(
     lanes: &mut L,
@@ -195,7 +196,7 @@ pub(crate) struct LateMachine {
 
 /// Raises the heads behind each operation that waits on a late machine, as if the operation began at the latest time
 /// until which candidates can delay it, see `free_at`. Notes how far heads rose. No head of a child is then higher,
-/// except on that machine, where heads stay.
+/// except on that machine, where heads stay. `FEW` says that there are at most 64 machines, see `see`.
 pub(crate) fn raise_late<L: StateLanes, const FEW: bool>(
     lanes: &mut L,
     raises: &mut [LaneRaise<L::Number>],

@@ -13,6 +13,7 @@ OfRound r es = All (λ (e : Entry). told e.round.now ≡ r) es
 abbrev pub Brought : Type 0
 Brought = Result (Vec Entry Global) AllocError
 
+-- the piece was passed
 abbrev pub IsPassed : Kind → Type 0
 IsPassed (Done sheet) = ⊥
 IsPassed (Passed number by') = Unit {0}

@@ -3,7 +3,7 @@
 --     empty_handed v         the second of two seats has seen as much, and won nothing
 --     joined v w             one seat for two
 --     with_seen v n          the piece joins those that the seat knows to be claimed
---     IsTold won n v w       a claim of the piece, which the seat hadn't won before, was won, or it was lost
+--     IsTold won n v w       a claim of the piece was won, which the seat hadn't won before, or it was lost
 --     with_low v n           n is the least number read or marked
 --     IsAtMostMarked v n     n is at most each number that the seat marked
 --     with_done v n low      the piece joins those that the seat marked

@@ -1,5 +1,5 @@
 -- Open nodes in the order in which the next cut takes them.
---     words_in block                 the words of a block, from its top down
+--     words_in chunk                 the words of a chunk, from its top down
 --     words_on stack                 the words of a stack, from its top down
 --     Place                          a place of a row: the stack of a bound, if there is one
 --     words_at place                 the words of this stack

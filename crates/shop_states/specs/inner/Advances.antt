@@ -4,7 +4,7 @@
 --     CanGoOn greatest l rows ..       some word is kept in lanes that can go on with the job
 --     CanAdvance greatest l rows ..    some word is kept in lanes that can go on so, to a word whose
 --                                      spans are no more than these ceilings
---     CanStrike greatest l rows ..     some word is kept in lanes whose conflict set is one job
+--     CanStrike greatest l rows ..     some word is kept in lanes whose conflict set is this job alone
 --     HasSameRoom old new ..           as many heads, ends and next operations as before
 use Rattle.std.specs.Prelude.{◌≡◌, ℕ, ◌+◌, ◌-◌, max, List, [], ◌∷◌, ◌++◌, length, slice_index, slice_set}
 use Rattle.shop_lanes.specs.{Rows.Rows, Spans.span}

@@ -2,8 +2,8 @@
 --     own_at l heads q             the own span of the operation at position q on its machine
 --     told_at nexts first owns j   the bound that own spans, told from position `first` on, tell for job j
 --     IsTold nexts first count j   the next operation of job j is among the `count` positions from `first` on
---     IsCandidateOf shop w l job own the word can go on with the job, and to the bound before `own`
---                                  adds what the own span does
+--     IsCandidateOf shop w l job own  the word can go on with the job, and `own` adds to its bound what the own span
+--                                  does
 --     ListsOwn limit own js cs n   a candidate for each of the jobs, in order, with its own number, but for n jobs
 --                                  whose own numbers reach the limit
 --     ListsGathered limit own ..   the candidates of a list of jobs that is gathered

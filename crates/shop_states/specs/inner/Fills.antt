@@ -4,8 +4,8 @@
 --     IsRested heads                 nothing waits anywhere
 --     CanFill greatest shop l rows   all heads of what was placed can be set
 --     HasFilledJob, HasFilled        the heads of a job, or of all jobs, were set
---     IsAtSomeLeg, IsOnSomeRoute     so it is after some word; so is some job
---     AreNextsSet shop l p n ..      those of the first n jobs
+--     IsAtSomeLeg, IsOnSomeRoute     job j is ready for leg `index`, its next one after some word; some job is
+--     AreNextsSet shop l p n ..      the next operations of the first n jobs are told, and their ends were set
 use Rattle.std.specs.Prelude.{◌≡◌, ℕ, ◌+◌, ◌≤◌, ◌<◌, ◌^◌, List, length, slice_index}
 use Rattle.shop_lanes.specs.Rows.{Rows}
 use Rattle.shop_model.specs.{Limits.IsWithinLimits, Shop.{Shop, IsOperation, route_of}, Word.Placing}

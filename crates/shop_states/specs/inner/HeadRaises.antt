@@ -11,6 +11,7 @@ pub record Raise : Type 0 where
   pub from : ℕ
   pub to : ℕ
 
+-- one raise, by the values of its numbers
 abbrev pub raise_in : {N : Type 0} → (N → ℕ) → LaneRaise N → Raise
 raise_in value r = record { from = value r.from; to = value r.to }
 

@@ -32,6 +32,7 @@ stack_walk s = walk_stack s.shop s.word s.walk s.stack
 abbrev pub walk_on : Stage → Walk
 walk_on s = walk_stack s.shop s.word (entered s.shop s.walk s.word) s.stack
 
+-- the walk of one node
 abbrev pub node_walk : Stage → Node → Walk
 node_walk s node = walk s.shop s.walk node.word
 
