@@ -2,9 +2,7 @@
 ghost use Rattle.std.specs.Prelude.{◌≡◌, ◌+◌, ◌<◌, ◌^◌, IfOk, OnOk};
 ghost use Rattle.shop_runs.specs.Entries.{told};
 ghost use Rattle.shop_runs.specs.Crews.{OneForEach};
-ghost use Rattle.shop_runs.specs.Standings.{StandsAt, IsStandingOf, stands};
-ghost use Rattle.shop_runs.specs.Round.{gathered};
-ghost use Rattle.shop_runs.specs.Laws.{StandsCovering, CoversInRound};
+ghost use Rattle.shop_runs.specs.Standings.{IsGatheredOf, GatheredCovers, IsStandingOf};
 ghost use Rattle.shop_runs.specs.inner.Outcomes.{IsOutcome, TakesIn, left_open};
 
 use crate::entries::{Entry, Kind};
@@ -101,10 +99,9 @@ pub fn gather<'r>(
     entries: Vec<Entry<'r>>,
 ) -> Result<Standing, NoMemory>
     requires { OneForEach (told round.now) entries.items }
-    ensures gathered { IfOk result (λ s. StandsAt round.now.instance.now (gathered (told round.now)) s) }
+    ensures gathered { IfOk result (λ s. IsGatheredOf round.now s) }
     ensures standing { IfOk result (λ s. IsStandingOf round.now.instance.now s) }
-    ensures covers { IfOk result (λ s. CoversInRound (told round.now)
-        → StandsCovering round.now.instance.now (stands s)) }
+    ensures covers { IfOk result (λ s. GatheredCovers round.now s) }
 {
     let RoundResult {
         found,

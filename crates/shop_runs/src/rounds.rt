@@ -3,10 +3,9 @@ ghost use Rattle.std.specs.Prelude.{◌≡◌, ◌≤◌, ◌<◌, [], length, t
 ghost use Rattle.std.specs.Vec.Iter.{into_iter_items};
 ghost use Rattle.shop_nodes.specs.Nodes.{AreNodes};
 ghost use Rattle.shop_runs.specs.Limits.{IsCountWithin};
-ghost use Rattle.shop_runs.specs.Plans.{planned};
-ghost use Rattle.shop_runs.specs.Round.{cut_into, cut_of};
+ghost use Rattle.shop_runs.specs.Round.{cut_into};
 ghost use Rattle.shop_runs.specs.Nodes.{numbered, told_of, ArePieces};
-ghost use Rattle.shop_runs.specs.Laws.{IsRound, StandsCovering, CoversInRound};
+ghost use Rattle.shop_runs.specs.Laws.{IsRound};
 ghost use Rattle.shop_runs.specs.inner.NodeLists.{nodes_in};
 ghost use Rattle.shop_runs.specs.declared.plans.TheConstants.{MAX_BUDGET, MAX_PIECES, MAX_ROUNDS};
 
@@ -47,8 +46,7 @@ pub struct Round<'r> {
 }
 
 impl<'r> Round<'r> {
-    ghost use Rattle.shop_runs.specs.Standings.{IsStandingOf, stands};
-    ghost use Rattle.shop_runs.specs.Entries.{told};
+    ghost use Rattle.shop_runs.specs.Standings.{IsStandingOf, IsCutOf, CutCovers};
 
     /// Cuts the open nodes of `standing`, in the plan's order, into at most 256 pieces, and keeps the other nodes as
     /// the round's rest. Fails with `NoMemory` if memory runs out. For library callers: a run cuts a store of its own.
@@ -61,8 +59,8 @@ impl<'r> Round<'r> {
         requires open { 0 < length standing.open.items }
         requires rounds { standing.rounds < plan.now.rounds }
         requires standing { IsStandingOf instance.now standing }
-        ensures cut { IfOk result (λ r. told r ≡ cut_of instance.now (planned plan.now) (stands standing)) }
-        ensures covers { IfOk result (λ r. StandsCovering instance.now (stands standing) → CoversInRound (told r)) }
+        ensures cut { IfOk result (λ r. IsCutOf instance.now plan.now standing r) }
+        ensures covers { IfOk result (λ r. CutCovers instance.now standing r) }
     {
         let search = OpenRun::of(alloc, instance, plan.order, standing)?;
         let (mut round, mut others) = search.cut(alloc, instance, None, plan)?;

@@ -1,5 +1,5 @@
 // A board, on which threads claim the pieces of a round, and seats, the threads' handles on the board.
-ghost use Rattle.std.specs.Prelude.{◌≡◌, ℕ, ◌+◌, ◌≤◌, [], ◌∷◌, ◌++◌, replicate, length, true, IfOk};
+ghost use Rattle.std.specs.Prelude.{◌≡◌, ◌+◌, ◌≤◌, [], ◌∷◌, ◌++◌, replicate, length, true, IfOk};
 ghost use Rattle.shop_workers.specs.Views.{once, ArePieces};
 
 use crate::round_hits::RoundHits;
@@ -45,7 +45,8 @@ impl<'r> Board<'r> {
     ghost use Rattle.std.specs.Prelude.{◌<◌};
     ghost use Rattle.shop_runs.specs.Hits.{hits_of_round, is_hit_in, IsHitOrEnd, IsLeastHit};
     ghost use Rattle.shop_workers.specs.Views.{has, HasServed, HasAll};
-    ghost use Rattle.shop_workers.specs.Moves.{newcomer, empty_handed, joined};
+    ghost use Rattle.shop_workers.specs.Moves.{newcomer, empty_handed, joined, HaveWonApart};
+    ghost use Rattle.shop_workers.specs.Moves.{KeepsServed};
     ghost use Rattle.shop_workers.specs.Moves.{IsTold, with_low, IsAtMostMarked, HasMarked};
     ghost use Rattle.shop_workers.specs.Seats.{knows, hits_of, IsSeatOf};
     ghost use Rattle.shop_workers.specs.Winners.{IsDecided};
@@ -89,8 +90,8 @@ impl<'r> Board<'r> {
         requires second { IsSeatOf self.now other }
         ensures seat { IsSeatOf self.now result }
         ensures knows { knows result ≡ joined (knows seat) (knows other) }
-        ensures served { HasServed (knows seat) → HasServed (knows other) → HasServed (knows result) }
-        ensures apart { (n : ℕ) → has (knows seat).mine n ≡ true → has (knows other).mine n ≡ true → ⊥ }
+        ensures served { KeepsServed (knows seat) (knows other) (knows result) }
+        ensures apart { HaveWonApart (knows seat) (knows other) }
     {
         let Seat { mut seat } = seat;
         let Seat { seat: other } = other;
