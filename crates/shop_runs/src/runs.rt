@@ -76,12 +76,7 @@ impl OpenRun {
     {
         let mut others = self.open;
         let bound = others.least_bound(self.makespan);
-        // a guess: as many nodes as the last round's pieces could hold
-        let front = others.take(
-            alloc,
-            MAX_PIECES * plan.piece,
-            self.spare.len().saturating_mul(plan.piece),
-        )?;
+        let front = others.take(alloc, MAX_PIECES * plan.piece, self.spare.len())?;
         let layout = layout_for(alloc, instance, kept, self.rounds, front.as_slice())?;
         let pieces = cut_pieces(alloc, front, plan.piece, self.spare)?;
         let round = Round {
