@@ -70,6 +70,33 @@ pub(crate) fn leap<B: Block>(
     bound
 }
 
+/// Does `leap_over` for four or more blocks.
+#[inline(always)]
+fn leap_over_longer<B: Block>(
+    rows: &LaneRows<B::Number>,
+    range: HeadRange,
+    most: u64,
+    limit: u64,
+) -> u64
+    requires whole_blocks { length rows.now.heads.now % 8 ≡ 0 }
+    requires below { range.upto < B.GREATEST }
+    requires fits { FitsSpan B.GREATEST range.upto (lanes_in B.value rows.now) }
+    ensures { IsRaisedBelow limit
+        (max most (spans_between range.above range.upto (lanes_in B.value rows.now))) result }
+{
+    if are_wide::<B>() {
+        return leap::<B>(rows.heads.len(), rows, range, most, limit);
+    }
+    match rows.heads.len() {
+        32 => leap::<B>(32, rows, range, most, limit),
+        40 => leap::<B>(40, rows, range, most, limit),
+        48 => leap::<B>(48, rows, range, most, limit),
+        56 => leap::<B>(56, rows, range, most, limit),
+        64 => leap::<B>(64, rows, range, most, limit),
+        _ => leap::<B>(rows.heads.len(), rows, range, most, limit),
+    }
+}
+
 /// Calls `leap` for any number of blocks, with a literal `count` for one to eight blocks (in lanes of 64 bits, for one
 /// to three). Kept out of line.
 #[inline(never)]
@@ -85,18 +112,10 @@ pub(crate) fn leap_over<B: Block>(
     ensures { IsRaisedBelow limit
         (max most (spans_between range.above range.upto (lanes_in B.value rows.now))) result }
 {
-    if are_wide::<B>() && rows.heads.len() > 24 {
-        return leap::<B>(rows.heads.len(), rows, range, most, limit);
-    }
     match rows.heads.len() {
         8 => leap::<B>(8, rows, range, most, limit),
         16 => leap::<B>(16, rows, range, most, limit),
         24 => leap::<B>(24, rows, range, most, limit),
-        32 => leap::<B>(32, rows, range, most, limit),
-        40 => leap::<B>(40, rows, range, most, limit),
-        48 => leap::<B>(48, rows, range, most, limit),
-        56 => leap::<B>(56, rows, range, most, limit),
-        64 => leap::<B>(64, rows, range, most, limit),
-        _ => leap::<B>(rows.heads.len(), rows, range, most, limit),
+        _ => leap_over_longer::<B>(rows, range, most, limit),
     }
 }
