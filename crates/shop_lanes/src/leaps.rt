@@ -1,10 +1,11 @@
 // Raises a bound to the greatest span from a head in a range. The span from head h is h plus the load L of the
 // operations with no lesser head. Later heads have no greater load, so `leap` skips the heads up to the bound less L.
-ghost use Rattle.std.specs.Prelude.{◌≡◌, ◌%◌, ◌<◌, ◌≤◌, max, length, map};
+ghost use Rattle.std.specs.Prelude.{◌≡◌, ◌%◌, ◌≤◌, max, length, map};
 ghost use Rattle.shop_lanes.specs.Eights.{ahead_of};
 ghost use Rattle.shop_lanes.specs.Folds.{least_up_to};
 ghost use Rattle.shop_lanes.specs.Rows.{lanes_in};
-ghost use Rattle.shop_lanes.specs.Spans.{spans_between, FitsSpan, IsRaisedBelow};
+ghost use Rattle.shop_lanes.specs.Spans.{spans_between, IsRaisedBelow};
+ghost use Rattle.shop_lanes.specs.inner.Passes.{CanRaiseBound};
 
 use crate::blocks::Block;
 use crate::folds::least_of;
@@ -41,9 +42,7 @@ pub(crate) fn leap<B: Block>(
     limit: u64,
 ) -> u64
     requires count { length rows.now.heads.now ≡ count }
-    requires whole_blocks { length rows.now.heads.now % 8 ≡ 0 }
-    requires below { range.upto < B.GREATEST }
-    requires fits { FitsSpan B.GREATEST range.upto (lanes_in B.value rows.now) }
+    requires can { CanRaiseBound B.value B.GREATEST range.upto rows.now }
     ensures { IsRaisedBelow limit
         (max most (spans_between range.above range.upto (lanes_in B.value rows.now))) result }
 {
@@ -78,13 +77,11 @@ fn leap_over_longer<B: Block>(
     most: u64,
     limit: u64,
 ) -> u64
-    requires whole_blocks { length rows.now.heads.now % 8 ≡ 0 }
-    requires below { range.upto < B.GREATEST }
-    requires fits { FitsSpan B.GREATEST range.upto (lanes_in B.value rows.now) }
+    requires { CanRaiseBound B.value B.GREATEST range.upto rows.now }
     ensures { IsRaisedBelow limit
         (max most (spans_between range.above range.upto (lanes_in B.value rows.now))) result }
 {
-    if are_wide::<B>() {
+    if are_wide(B::GREATEST) {
         return leap::<B>(rows.heads.len(), rows, range, most, limit);
     }
     match rows.heads.len() {
@@ -106,9 +103,7 @@ pub(crate) fn leap_over<B: Block>(
     most: u64,
     limit: u64,
 ) -> u64
-    requires whole_blocks { length rows.now.heads.now % 8 ≡ 0 }
-    requires below { range.upto < B.GREATEST }
-    requires fits { FitsSpan B.GREATEST range.upto (lanes_in B.value rows.now) }
+    requires { CanRaiseBound B.value B.GREATEST range.upto rows.now }
     ensures { IsRaisedBelow limit
         (max most (spans_between range.above range.upto (lanes_in B.value rows.now))) result }
 {

@@ -21,6 +21,7 @@ use blocks_of_32::Block32;
 use blocks_of_64::Block64;
 pub use lane_rows::{HeadRange, LaneRows};
 pub use marking::Marks;
+pub use passes::are_wide;
 pub use state_lanes::StateLanes;
 
 /// The heads and ends of a word's state in lanes of 16 bits, where each machine has `EACH` blocks, or any number if

@@ -138,7 +138,7 @@ fn own_spans_of_longer<B: Block>(rows: &LaneRows<B::Number>, owns: &mut [B::Numb
     requires { CanOwn B.value B.GREATEST rows.now owns.old }
     ensures { WritesOwnSpans B.value rows.now owns.old owns.new }
 {
-    if are_wide::<B>() {
+    if are_wide(B::GREATEST) {
         return own_spans_of::<B>(rows.heads.len(), rows, owns);
     }
     match rows.heads.len() {

@@ -1,13 +1,12 @@
 // Passes over rows of numbers, eight at a time: find the load of a machine, the least number of a row, and (as bits of
 // a mask) which numbers lie in a range or equal a number.
-ghost use Rattle.std.specs.Prelude.{◌≡◌, ℕ, ◌+◌, ◌*◌, ◌/◌, ◌%◌, ◌^◌, ◌<◌, ◌≤◌, ◌==◌, length, map, drop, slice_index};
+ghost use Rattle.std.specs.Prelude.{◌≡◌, ◌+◌, ◌*◌, ◌/◌, ◌%◌, ◌^◌, ◌≤◌, ◌==◌, length, map, drop};
 ghost use Rattle.std.specs.Simd.Lanes.{mask_l};
 ghost use Rattle.shop_lanes.specs.Rows.{lanes_in};
 ghost use Rattle.shop_lanes.specs.Spans.{span, FitsSpan};
-ghost use Rattle.shop_lanes.specs.Ends.{IsFirstLeast};
 ghost use Rattle.shop_lanes.specs.Eights.{is_between};
 ghost use Rattle.shop_lanes.specs.Folds.{least_up_to};
-ghost use Rattle.shop_lanes.specs.inner.Passes.{AreColumns, IsFirstOf};
+ghost use Rattle.shop_lanes.specs.inner.Passes.{AreColumns, CanFindLeast, IsFirstOf, IsLeastFound};
 
 use crate::blocks::Block;
 use crate::folds::{greatest_of, least_of, sums_before};
@@ -93,11 +92,11 @@ fn bits_between<B: Block>(count: usize, heads: &[B::Number], above: u64, upto: u
     bits
 }
 
-/// Tells whether lanes have 64 bits. Few instances need such lanes. Code for each number of blocks would be three times
-/// as long as for narrower lanes, so from four blocks on they share one loop.
+/// Tells whether lanes that hold numbers up to `greatest` have 64 bits. Few instances need such lanes. Code for each
+/// number of blocks would be three times as long as for narrower lanes, so from four blocks on they share one loop.
 #[inline(always)]
-pub(crate) fn are_wide<B: Block>() -> bool {
-    B::GREATEST > u32::MAX as u64
+pub fn are_wide(greatest: u64) -> bool {
+    greatest > u32::MAX as u64
 }
 
 /// Does `bits_up_to` for four or more blocks, out of line: only the code for up to three blocks is inlined.
@@ -108,7 +107,7 @@ fn bits_of_longer<B: Block>(heads: &[B::Number], upto: u64) -> u64
     requires fits { upto ≤ B.GREATEST }
     ensures { result ≡ mask_l (map (is_between 0 upto) (map B.value heads.now)) }
 {
-    if are_wide::<B>() {
+    if are_wide(B::GREATEST) {
         return bits_between::<B>(heads.len(), heads, 0, upto);
     }
     match heads.len() {
@@ -206,12 +205,9 @@ fn position_of<B: Block>(numbers: &[B::Number], number: u64) -> usize
 #[inline(always)]
 fn first_least_of<B: Block>(count: usize, numbers: &[B::Number]) -> (usize, u64)
     requires count { length numbers.now ≡ count }
-    requires whole_blocks { count % 8 ≡ 0 }
     requires few { count ≤ 64 }
-    requires some { 0 < count }
-    requires fits { (k : ℕ) → slice_index (map B.value numbers.now) k ≤ B.GREATEST }
-    ensures first { IsFirstLeast (map B.value numbers.now) result.0 }
-    ensures least { result.1 ≡ slice_index (map B.value numbers.now) result.0 }
+    requires can { CanFindLeast B.value B.GREATEST numbers.now }
+    ensures { IsLeastFound (map B.value numbers.now) result }
 {
     let least = least_number::<B>(count, numbers);
     let bits = bits_equal::<B>(count, numbers, least);
@@ -221,12 +217,8 @@ fn first_least_of<B: Block>(count: usize, numbers: &[B::Number]) -> (usize, u64)
 /// Does `first_least` for any number of blocks: finds the least number, then its first position.
 #[inline(always)]
 fn first_least_of_any<B: Block>(numbers: &[B::Number]) -> (usize, u64)
-    requires whole_blocks { length numbers.now % 8 ≡ 0 }
-    requires room { length numbers.now + 8 ≤ 2 ^ 64 }
-    requires some { 0 < length numbers.now }
-    requires fits { (k : ℕ) → slice_index (map B.value numbers.now) k ≤ B.GREATEST }
-    ensures first { IsFirstLeast (map B.value numbers.now) result.0 }
-    ensures least { result.1 ≡ slice_index (map B.value numbers.now) result.0 }
+    requires { CanFindLeast B.value B.GREATEST numbers.now }
+    ensures { IsLeastFound (map B.value numbers.now) result }
 {
     let least = least_number::<B>(numbers.len(), numbers);
     (position_of::<B>(numbers, least), least)
@@ -235,14 +227,10 @@ fn first_least_of_any<B: Block>(numbers: &[B::Number]) -> (usize, u64)
 /// Does `first_least` for four or more blocks, out of line: only the code for up to three blocks is inlined.
 #[inline(never)]
 fn first_least_of_longer<B: Block>(numbers: &[B::Number]) -> (usize, u64)
-    requires whole_blocks { length numbers.now % 8 ≡ 0 }
-    requires room { length numbers.now + 8 ≤ 2 ^ 64 }
-    requires some { 0 < length numbers.now }
-    requires fits { (k : ℕ) → slice_index (map B.value numbers.now) k ≤ B.GREATEST }
-    ensures first { IsFirstLeast (map B.value numbers.now) result.0 }
-    ensures least { result.1 ≡ slice_index (map B.value numbers.now) result.0 }
+    requires { CanFindLeast B.value B.GREATEST numbers.now }
+    ensures { IsLeastFound (map B.value numbers.now) result }
 {
-    if are_wide::<B>() {
+    if are_wide(B::GREATEST) {
         return first_least_of_any::<B>(numbers);
     }
     match numbers.len() {
@@ -258,12 +246,8 @@ fn first_least_of_longer<B: Block>(numbers: &[B::Number]) -> (usize, u64)
 /// The first position of the least number of `numbers`, and this least number.
 #[inline(always)]
 pub(crate) fn first_least<B: Block>(numbers: &[B::Number]) -> (usize, u64)
-    requires whole_blocks { length numbers.now % 8 ≡ 0 }
-    requires room { length numbers.now + 8 ≤ 2 ^ 64 }
-    requires some { 0 < length numbers.now }
-    requires fits { (k : ℕ) → slice_index (map B.value numbers.now) k ≤ B.GREATEST }
-    ensures first { IsFirstLeast (map B.value numbers.now) result.0 }
-    ensures least { result.1 ≡ slice_index (map B.value numbers.now) result.0 }
+    requires { CanFindLeast B.value B.GREATEST numbers.now }
+    ensures { IsLeastFound (map B.value numbers.now) result }
 {
     match numbers.len() {
         8 => first_least_of::<B>(8, numbers),

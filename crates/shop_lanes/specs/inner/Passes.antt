@@ -3,9 +3,12 @@
 --                                    these are served in order from `start` on
 --     column count xs k              of lanes in order of rank, column k of `count` blocks
 --     eight f                        the numbers that a function gives for each of eight columns
-use Rattle.std.specs.Prelude.{◌≡◌, ◌≢◌, ℕ, ◌+◌, ◌*◌, ◌-◌, ◌%◌, take, drop, replicate, ◌<◌, ◌≤◌, length, max, List, []}
-use Rattle.std.specs.{Prelude.{◌∷◌, if◌then◌else◌, nat_le, get_or}, Simd.Lanes.zip2}
-use Rattle.shop_lanes.specs.{Eights.{first_of, added, waiting, AddsFit}, Rows.Lane, Spans.span}
+--     CanRaiseBound value ..         rows of whole blocks have spans from heads up to `upto` that fit
+--     CanFindLeast value ..          a row of whole blocks has a first least number
+use Rattle.std.specs.Prelude.{◌≡◌, ◌≢◌, ℕ, ◌+◌, ◌*◌, ◌-◌, ◌%◌, ◌^◌, take, drop, replicate, ◌<◌, ◌≤◌, length, max, List}
+use Rattle.std.specs.{Prelude.{[], ◌∷◌, if◌then◌else◌, nat_le, get_or, map, slice_index}, Simd.Lanes.zip2}
+use Rattle.shop_lanes.specs.{Eights.{first_of, added, waiting, AddsFit}, Ends.IsFirstLeast, Rows.{Lane, lanes_in}}
+use Rattle.shop_lanes.specs.{Spans.{FitsSpan, span}, declared.lane_rows.LaneRows.LaneRows}
 
 abbrev pub clock_after : ℕ → ℕ → List Lane → ℕ
 clock_after least start [] = start
@@ -59,3 +62,19 @@ pub record IsPadded (none jobs : ℕ) (ends : List ℕ) : Type 0 where
   pub within : jobs ≤ length ends
   pub rest : drop jobs ends ≡ replicate (length ends - jobs) none
   pub least : (k : ℕ) → get_or ends k 0 ≤ none
+
+pub record CanRaiseBound {A : Type 0} (value : A → ℕ) (greatest upto : ℕ) (rows : LaneRows A) : Type 0 where
+  pub whole_blocks : length rows.heads.now % 8 ≡ 0
+  pub below : upto < greatest
+  pub fits : FitsSpan greatest upto (lanes_in value rows)
+
+pub record CanFindLeast {A : Type 0} (value : A → ℕ) (greatest : ℕ) (numbers : List A) : Type 0 where
+  pub whole_blocks : length numbers % 8 ≡ 0
+  pub room : length numbers + 8 ≤ 2 ^ 64
+  pub some : 0 < length numbers
+  pub fits : (k : ℕ) → slice_index (map value numbers) k ≤ greatest
+
+-- its position and itself
+pub record IsLeastFound (xs : List ℕ) (found : ℕ × ℕ) : Type 0 where
+  pub first : IsFirstLeast xs found.0
+  pub least : found.1 ≡ slice_index xs found.0

@@ -7,20 +7,12 @@ use Rattle.shop_lanes.proofs.passes.first_least_of.Goals as goal
 pub bits_equal-bits-requires-clause-fits : goal.bits_equal-bits-requires-clause-fits
 bits_equal-bits-requires-clause-fits g c = grind (arith, least_le_top)
 
-pub returns-clause-first : goal.returns-clause-first
-returns-clause-first g c =
+pub returns : goal.returns
+returns g c =
     let row = map g.B.Block.value c.args.numbers.now
     in let long = length-map c.args.numbers.now g.B.Block.value
     in let q = c.requires
-    in (least_by_mask g.B.Block.GREATEST row c.least_number-least.result c.bits_equal-bits.result
-    (omega (arith, long, q.count, q.some)) (omega (arith, long, q.count, q.few)) q.fits
-    c.least_number-least.ensures c.bits_equal-bits.ensures).0
-
-pub returns-clause-least : goal.returns-clause-least
-returns-clause-least g c =
-    let row = map g.B.Block.value c.args.numbers.now
-    in let long = length-map c.args.numbers.now g.B.Block.value
-    in let q = c.requires
-    in (least_by_mask g.B.Block.GREATEST row c.least_number-least.result c.bits_equal-bits.result
-    (omega (arith, long, q.count, q.some)) (omega (arith, long, q.count, q.few)) q.fits
-    c.least_number-least.ensures c.bits_equal-bits.ensures).1
+    in let found = least_by_mask g.B.Block.GREATEST row c.least_number-least.result c.bits_equal-bits.result
+    (omega (arith, long, q.can.some)) (omega (arith, long, q.count, q.few)) q.can.fits
+    c.least_number-least.ensures c.bits_equal-bits.ensures
+    in record { first = found.0; least = found.1 }

@@ -1,11 +1,16 @@
 use Rattle.std.proofs.Common.{◌∙◌, ◌+◌, arith, ap, sym, subst, map, drop}
-use Rattle.std.proofs.lemmas.List.{drop-map, get_or-take, length-take}
+use Rattle.std.proofs.lemmas.List.{drop-map, get_or-take, length-drop, length-take}
 use Rattle.shop_lanes.specs.Ends.{IsFirstLeast}
 use Rattle.shop_lanes.proofs.Padding.{first_least_seen}
 use Rattle.shop_lanes.proofs.block_lanes.BlockLanesStateLanes.first_least_end.Goals as goal
 
-pub first_least-requires-clause-fits : goal.first_least-requires-clause-fits
-first_least-requires-clause-fits g c k = grind (arith, drop-map)
+pub first_least-requires : goal.first_least-requires
+first_least-requires g c = record {
+  whole_blocks = grind (arith, length-drop);
+  room = grind (arith, length-drop);
+  some = grind (arith, length-drop);
+  fits = λ k. grind (arith, drop-map);
+}
 
 pub returns-clause-job : goal.returns-clause-job
 returns-clause-job g c =
