@@ -1,16 +1,20 @@
 -- Heads behind operations of a machine are raised, one operation after the other.
-use Rattle.std.proofs.Common.{◌≡◌, ℕ, ◌+◌, ◌≤◌, ◌<◌, ◌⊎◌, inl, inr, [], length, get_or, refl, sym, ◌∙◌, subst, arith}
+use Rattle.std.proofs.Common.{◌≡◌, ℕ, ◌+◌, ◌*◌, ◌≤◌, ◌<◌, ◌⊎◌, inl, inr, List, [], ◌∷◌, length, get_or, refl, sym}
+use Rattle.std.proofs.Common.{◌∙◌, subst, arith}
 use Rattle.std.proofs.lemmas.Bool.{cases_eq, cases_lt}
 use Rattle.std.proofs.lemmas.List.{get_or_default, get_or_past}
+use Rattle.shop_lanes.specs.Marks.{positions_among}
 use Rattle.shop_lanes.specs.Rows.{Rows}
 use Rattle.shop_layout.specs.declared.legs.Leg.{Leg}
 use Rattle.shop_layout.specs.Legs.{all_legs, end_of, leg_index}
 use Rattle.shop_layout.specs.Positions.{LayoutState, place, place_or}
 use Rattle.shop_layout.proofs.RouteLegs.{index_known, leg_behind, leg_here}
-use Rattle.shop_states.specs.inner.Raises.{AreInRouteOrder, IsFollowed, IsIndexed, IsPlace, IsPosition, IsRaisable}
-use Rattle.shop_states.specs.inner.Raises.{IsRaised, Raises, at_in, steps_of}
-use Rattle.shop_states.specs.inner.Siblings.{CanRaiseBehind, IsEndAt, IsLateIn, IsRaisedBehind, RaisesBehind}
+use Rattle.shop_states.specs.inner.Raises.{AreInRouteOrder, IsFollowed, IsInBlocks, IsIndexed, IsPlace, IsPosition}
+use Rattle.shop_states.specs.inner.Raises.{IsRaisable, IsRaised, Raises, at_in, steps_of}
+use Rattle.shop_states.specs.inner.RisingLists.{IsIn, Rises}
+use Rattle.shop_states.specs.inner.Siblings.{CanRaiseBehind, IsEndAt, IsLateAt, IsRaisedBehind, RaisesBehind}
 use Rattle.shop_states.proofs.Followed.{place_there}
+use Rattle.shop_states.proofs.MarkedPositions.{IsBelow, below_is_in, below_rises, in_is_below}
 use Rattle.shop_states.proofs.RaiseWalks.{apart}
 
 -- nothing more is raised
@@ -19,6 +23,25 @@ pub behind_same : {l : LayoutState} {at : ℕ → ℕ → Type 0} (rows : Rows) 
     → e + get_or l.times (place l j k) 0 ≤ get_or rows.heads (place l j (k + 1)) 0)
     → RaisesBehind l at rows rows
 behind_same rows order enough = grind arith
+
+-- what else is asked for is so already
+behind_more : {l : LayoutState} {A B : ℕ → ℕ → Type 0} {a b : Rows} → RaisesBehind l A a b
+    → ((q e : ℕ) → A q e → B q e)
+    → ((j k e : ℕ) → k + 1 < steps_of l j → B (place l j k) e → 0 < get_or a.heads (place l j k) 0
+    → e + get_or l.times (place l j k) 0 ≤ get_or b.heads (place l j (k + 1)) 0) → RaisesBehind l B a b
+behind_more {l} x more enough = record {
+  positions = x.positions;
+  raised = record { rises = x.raised.rises; rests = x.raised.rests; order = x.raised.order; behind = enough };
+  least = λ other raised. x.least other (record {
+    rises = raised.rises;
+    rests = raised.rests;
+    order = raised.order;
+    behind = λ j k e two at waits. raised.behind j k e two (more (place l j k) e at) waits;
+  });
+  times = x.times;
+  tails = x.tails;
+  ends = x.ends;
+}
 
 -- one after the other
 module _ {l : LayoutState} {A B C : ℕ → ℕ → Type 0} {a b : Rows} (x : RaisesBehind l A a b)
@@ -162,62 +185,128 @@ module _ {greatest : ℕ} {l : LayoutState} {rows : Rows} {p free : ℕ}
             ends = raises.ends.none refl;
           }
 
--- behind all positions of a machine, one after the other
-module _ {l : LayoutState} {from last end second : ℕ} where
-  pub late_begins : {greatest to : ℕ} (rows : Rows) → CanRaiseBehind greatest l rows (IsLateIn from to last end second)
-      → RaisesBehind l (IsLateIn from from last end second) rows rows
-  late_begins rows can = grind arith
+-- the blocks before `to` but for the positions to come
+abbrev IsPast : ℕ → ℕ → List ℕ → ℕ → Type 0
+IsPast first to todo q = IsInBlocks first to q × (IsIn todo q → ⊥)
 
-  module _ {old now : Rows} {p : ℕ} (so_far : RaisesBehind l (IsLateIn from p last end second) old now) (low : from ≤ p)
-    where
-      earlier : (q e : ℕ) → IsLateIn from p last end second q e → IsLateIn from (p + 1) last end second q e
-      earlier q e at = (at.0, let b = at.1 in omega arith, at.2)
+-- all heads behind these blocks are raised, but for those behind the positions to come
+pub record AreLateUpTo (l : LayoutState) (first to last end second : ℕ) (todo : List ℕ) (old now : Rows) : Type 0 where
+  pub raises : RaisesBehind l (IsLateAt (IsPast first to todo) last end second) old now
+  pub to_come : (q : ℕ) → IsIn todo q → IsInBlocks first to q × (0 < get_or old.heads q 0)
+  pub rises : Rises todo
 
-      module _ {free : ℕ} (free_is : ((p ≡ last) × (free ≡ second)) ⊎ ((p ≡ last → ⊥) × (free ≡ end)))
-        where
-          here : (q e : ℕ) → IsEndAt p free q e → IsLateIn from (p + 1) last end second q e
-          here q e at = grind arith
+-- behind all positions of a machine, blocks after blocks
+pub late_begins : {greatest : ℕ} {l : LayoutState} (first to : ℕ) {last end second : ℕ} (rows : Rows)
+    → CanRaiseBehind greatest l rows (IsLateAt (IsInBlocks first to) last end second)
+    → RaisesBehind l (IsLateAt (IsInBlocks first first) last end second) rows rows
+late_begins first to rows can = behind_same rows can.order (λ j k e two at waits. let low = at.0.0 in let high = at.0.1
+    in absurd (omega arith))
 
-          split : (q e : ℕ) → IsLateIn from (p + 1) last end second q e
-              → IsLateIn from p last end second q e ⊎ IsEndAt p free q e
-          split q e at = grind (arith, cases_eq)
+module _ {l : LayoutState} {first last end second : ℕ} where
+  module _ {old now : Rows} where
+    -- behind what isn't marked nothing is too early
+    module _ {from to : ℕ} (raises : RaisesBehind l (IsLateAt (IsInBlocks first from) last end second) old now)
+        (low : first ≤ from) (ordered : from ≤ to) (within : 8 * to ≤ length old.heads) (earlier : second ≤ end)
+        {marks : List ℕ} (are : marks ≡ positions_among now.heads from to end) where
+      there : (q : ℕ) → IsIn marks q → IsBelow now.heads from to end q
+      there q here = in_is_below now from to end ordered (let a = raises.positions in omega arith) q
+          (subst (λ (xs : List ℕ). IsIn xs q) are here)
 
-          pub late_can : {greatest to : ℕ} → p < to → CanRaiseBehind greatest l old (IsLateIn from to last end second)
-              → CanRaiseBehind greatest l now (IsEndAt p free)
-          late_can {greatest} {to} within can =
-              still_can so_far (λ q e at. (at.0, let b = at.1 in omega arith, at.2))
-              (λ q e at. let h = here q e at in (h.0, let b = h.1 in omega arith, h.2)) can
+      unmarked : (q : ℕ) → IsInBlocks from to q → (IsIn marks q → ⊥) → 0 < get_or now.heads q 0
+          → end ≤ get_or now.heads q 0
+      unmarked q here none waits = elim (cases_lt (get_or now.heads q 0) end) [
+        | inr high ↦ high
+        | inl below ↦ absurd (none (subst (λ (xs : List ℕ). IsIn xs q) (sym are)
+            (below_is_in now from to end ordered (let a = raises.positions in omega arith) q
+            (record { there = here; waits = waits; below = below }))))
+      ]
 
-          pub late_on : {new : Rows} → RaisesBehind l (IsEndAt p free) now new
-              → RaisesBehind l (IsLateIn from (p + 1) last end second) old new
-          late_on raises = then_behind so_far earlier here raises split
+      past : (q e : ℕ) → IsLateAt (IsInBlocks first from) last end second q e
+          → IsLateAt (IsPast first to marks) last end second q e
+      past q e at = let low_q = at.0.0 in let high_q = at.0.1
+          in (((omega arith, omega arith), λ here. let b = (there q here).there.0 in omega arith), at.1)
 
-      -- nothing waits there, or it begins late enough
-      pub late_past : second ≤ end → (get_or now.heads p 0 ≡ 0) ⊎ (end ≤ get_or now.heads p 0)
-          → RaisesBehind l (IsLateIn from (p + 1) last end second) old now
-      late_past low_second enough = record {
-        positions = so_far.positions;
-        raised = record {
-          rises = so_far.raised.rises;
-          rests = so_far.raised.rests;
-          order = so_far.raised.order;
-          behind = λ j k e two at waits. elim (cases_eq (place l j k) p) [
-            | inr ne ↦ so_far.raised.behind j k e two (at.0, let b = at.1 in omega arith, at.2) waits
-            | inl is ↦ grind arith
-          ];
-        };
-        least = λ other raised. so_far.least other (record {
-          rises = raised.rises;
-          rests = raised.rests;
-          order = raised.order;
-          behind = λ j k e two at waits. raised.behind j k e two (earlier (place l j k) e at) waits;
-        });
-        times = so_far.times;
-        tails = so_far.tails;
-        ends = so_far.ends;
+      -- what isn't marked and begins at the end or later
+      late_enough_there : (j k e : ℕ) → k + 1 < steps_of l j
+          → IsLateAt (IsPast first to marks) last end second (place l j k) e → 0 < get_or old.heads (place l j k) 0
+          → e + get_or l.times (place l j k) 0 ≤ get_or now.heads (place l j (k + 1)) 0
+      late_enough_there j k e two at waits = elim (cases_lt (place l j k) (8 * from)) [
+        | inl early ↦ raises.raised.behind j k e two ((at.0.0.0, early), at.1) waits
+        | inr late ↦ (let rises = raises.raised.rises (place l j k)
+            in let enough = unmarked (place l j k) (late, at.0.0.1) at.0.1 (omega arith)
+            in let order = raises.raised.order j k two (omega arith)
+            in elim at.1 [
+              | inl it ↦ (let e_is = it.1 in omega arith)
+              | inr it ↦ (let e_is = it.1 in omega arith)
+            ])
+      ]
+
+      pub late_marked : AreLateUpTo l first to last end second marks old now
+      late_marked = record {
+        raises = behind_more raises past late_enough_there;
+        to_come = λ q here.
+            let is = there q here in let low_q = is.there.0 in let waits = is.waits
+            in ((omega arith, is.there.1), elim (cases_lt 0 (get_or old.heads q 0)) [
+              | inl some ↦ some
+              | inr none ↦ (let rests = raises.raised.rests q (omega arith) in omega arith)
+            ]);
+        rises = subst Rises (sym are) (below_rises now from to end ordered (let a = raises.positions in omega arith));
       }
 
-pub late_ends : {l : LayoutState} {from p to last end second : ℕ} {old now : Rows} → p ≡ to
-    → RaisesBehind l (IsLateIn from p last end second) old now
-    → RaisesBehind l (IsLateIn from to last end second) old now
-late_ends {l} {from} {p} {to} {last} {end} {second} {old} {now} is so_far = grind arith
+    module _ {to : ℕ} {todo : List ℕ} (so_far : AreLateUpTo l first to last end second todo old now) where
+      module _ {q : ℕ} {rest : List ℕ} (popped : todo ≡ q ∷ rest) where
+        is_in : IsIn todo q
+        is_in = subst (λ (xs : List ℕ). IsIn xs q) (sym popped) (inl refl)
+
+        still_in : (r : ℕ) → IsIn rest r → IsIn todo r
+        still_in r here = subst (λ (xs : List ℕ). IsIn xs r) (sym popped) (inr here)
+
+        rest_rises : ((r : ℕ) → IsIn rest r → q < r) × Rises rest
+        rest_rises = subst Rises popped so_far.rises
+
+        pub late_waits : 0 < get_or now.heads q 0
+        late_waits = let a = (so_far.to_come q is_in).1 in let b = so_far.raises.raised.rises q in omega arith
+
+        module _ {free : ℕ} (free_is : ((q ≡ last) × (free ≡ second)) ⊎ ((q ≡ last → ⊥) × (free ≡ end))) where
+          here : (r e : ℕ) → IsEndAt q free r e → IsLateAt (IsPast first to rest) last end second r e
+          here r e at = grind (arith, is_in, rest_rises)
+
+          still : (r e : ℕ) → IsLateAt (IsPast first to todo) last end second r e
+              → IsLateAt (IsPast first to rest) last end second r e
+          still r e at = ((at.0.0, λ h. at.0.1 (still_in r h)), at.1)
+
+          split : (r e : ℕ) → IsLateAt (IsPast first to rest) last end second r e
+              → IsLateAt (IsPast first to todo) last end second r e ⊎ IsEndAt q free r e
+          split r e at = elim (cases_eq r q) [
+            | inl is ↦ inr (is, grind arith)
+            | inr ne ↦ inl ((at.0.0, λ h. elim (subst (λ (xs : List ℕ). IsIn xs r) popped h) [
+              | inl f ↦ ne f
+              | inr g ↦ at.0.1 g
+            ]), at.1)
+          ]
+
+          pub late_can : {greatest behind : ℕ} → to ≤ behind
+              → CanRaiseBehind greatest l old (IsLateAt (IsInBlocks first behind) last end second)
+              → CanRaiseBehind greatest l now (IsEndAt q free)
+          late_can {greatest} {behind} within can =
+              still_can so_far.raises (λ r e at. let b = at.0.0.1 in ((at.0.0.0, omega arith), at.1))
+              (λ r e at. let h = here r e at in let b = h.0.0.1 in ((h.0.0.0, omega arith), h.1)) can
+
+          pub late_on : {new : Rows} → RaisesBehind l (IsEndAt q free) now new
+              → AreLateUpTo l first to last end second rest old new
+          late_on raises = record {
+            raises = then_behind so_far.raises still here raises split;
+            to_come = λ r h. so_far.to_come r (still_in r h);
+            rises = rest_rises.1;
+          }
+
+      pub late_all : todo ≡ [] → RaisesBehind l (IsLateAt (IsInBlocks first to) last end second) old now
+      late_all none = behind_more so_far.raises (λ q e at. (at.0.0, at.1)) (λ j k e two at waits.
+          so_far.raises.raised.behind j k e two
+          ((at.0, subst (λ (xs : List ℕ). IsIn xs (place l j k) → ⊥) (sym none) (λ h. h)), at.1) waits)
+
+pub late_ends : {l : LayoutState} (first : ℕ) {from behind last end second : ℕ} {old now : Rows} → from ≡ behind
+    → RaisesBehind l (IsLateAt (IsInBlocks first from) last end second) old now
+    → RaisesBehind l (IsLateAt (IsInBlocks first behind) last end second) old now
+late_ends {l} first {from} {behind} {last} {end} {second} {old} {now} is so_far =
+    subst (λ (b : ℕ). RaisesBehind l (IsLateAt (IsInBlocks first b) last end second) old now) is so_far

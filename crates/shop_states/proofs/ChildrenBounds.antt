@@ -16,12 +16,12 @@ use Rattle.shop_states.specs.inner.Ceilings.{AreChildCeilings, IsCeiling}
 use Rattle.shop_states.specs.inner.HeadRaises.{Raise, raise_of}
 use Rattle.shop_states.specs.inner.LaneStates.{IsKeptInLanes}
 use Rattle.shop_states.specs.inner.MachineRaises.{AreEmpty, AreRaisesFit}
-use Rattle.shop_states.specs.inner.Raises.{HasBlocks}
-use Rattle.shop_states.specs.inner.Siblings.{AreLatest, AreSiblings, BoundsRaises, CanRaiseBehind, IsAmong, IsLateIn}
+use Rattle.shop_states.specs.inner.Raises.{HasBlocks, IsInBlocks}
+use Rattle.shop_states.specs.inner.Siblings.{AreLatest, AreSiblings, BoundsRaises, CanRaiseLate, IsAmong, IsLateAt}
 use Rattle.shop_states.specs.inner.Siblings.{RaisesBehind, end_by, job_at}
 use Rattle.shop_states.specs.inner.Watchers.{AreSeen, Watches, no_floor}
 use Rattle.shop_states.proofs.LaneFits.{spans_fit}
-use Rattle.shop_states.proofs.LateHeads.{can_late, its_word, now_small}
+use Rattle.shop_states.proofs.LateHeads.{can_end, can_late, its_word, now_small, second_low}
 use Rattle.shop_states.proofs.LateSpans.{child_ceilings, late_ceiling, settled}
 use Rattle.shop_states.proofs.OwnSpans.{its_machine}
 use Rattle.shop_states.proofs.RaisedHeads.{has_blocks}
@@ -43,21 +43,33 @@ module _ {greatest : ℕ} {shop : Shop} {w : List ℕ} {l : LayoutState} {hs es 
   pub bound_small : lb shop w < 2 ^ 49
   bound_small = (sums_small shop kept.kept.limits w kept.kept.word).bound
 
-  its_from : {from : ℕ} → from ≡ 8 * get_or l.blocks m 0
-      → from ≡ 8 * get_or l.blocks (machine_of shop t.job ((placing shop w).steps t.job)) 0
-  its_from is = is ∙ ap (λ (n : ℕ). 8 * get_or l.blocks n 0) machine_is
+  its_from : {from : ℕ} → from ≡ get_or l.blocks m 0
+      → from ≡ get_or l.blocks (machine_of shop t.job ((placing shop w).steps t.job)) 0
+  its_from is = is ∙ ap (λ (n : ℕ). get_or l.blocks n 0) machine_is
 
-  its_to : {to : ℕ} → to ≡ 8 * get_or l.blocks (m + 1) 0
-      → to ≡ 8 * get_or l.blocks (machine_of shop t.job ((placing shop w).steps t.job) + 1) 0
-  its_to is = is ∙ ap (λ (n : ℕ). 8 * get_or l.blocks (n + 1) 0) machine_is
+  its_to : {to : ℕ} → to ≡ get_or l.blocks (m + 1) 0
+      → to ≡ get_or l.blocks (machine_of shop t.job ((placing shop w).steps t.job) + 1) 0
+  its_to is = is ∙ ap (λ (n : ℕ). get_or l.blocks (n + 1) 0) machine_is
 
-  pub children_can : {from to : ℕ} → from ≡ 8 * get_or l.blocks m 0 → to ≡ 8 * get_or l.blocks (m + 1) 0
-      → CanRaiseBehind greatest l (rows_of l hs es) (IsLateIn from to (get_or nexts t.job 0) t.end t.second)
-  children_can from_is to_is = can_late kept siblings latest (its_from from_is) (its_to to_is)
+  -- the machine is late
+  pub children_can : {from behind : ℕ} → from ≡ get_or l.blocks m 0 → behind ≡ get_or l.blocks (m + 1) 0
+      → CanRaiseLate greatest l (rows_of l hs es)
+      (record { from = from; behind = behind; last = get_or nexts t.job 0; latest = t })
+  children_can {from} {behind} from_is behind_is =
+      let blocks = machine_blocks in let ordered = blocks.ordered in let within = blocks.within
+      in let end = can_end kept siblings latest.last in let fits = end.fits in let is = latest.end
+      in record {
+        ordered = omega arith;
+        within = omega arith;
+        second = second_low kept siblings latest;
+        fits = omega arith;
+        can = can_late kept siblings latest (its_from from_is) (its_to behind_is);
+      }
 
-  module _ {from to : ℕ} (from_is : from ≡ 8 * get_or l.blocks m 0) (to_is : to ≡ 8 * get_or l.blocks (m + 1) 0)
+  module _ {from to : ℕ} (from_is : from ≡ get_or l.blocks m 0) (to_is : to ≡ get_or l.blocks (m + 1) 0)
       {now : Rows}
-      (raises : RaisesBehind l (IsLateIn from to (get_or nexts t.job 0) t.end t.second) (rows_of l hs es) now) where
+      (raises : RaisesBehind l (IsLateAt (IsInBlocks from to) (get_or nexts t.job 0) t.end t.second) (rows_of l hs es)
+      now) where
     module _ {before after : List Raise} (empty : AreEmpty before) (many : length before ≡ shop.machines)
         (noted : Watches no_floor l.machines hs now.heads before after) where
       seen : AreSeen no_floor l.machines after hs now.heads

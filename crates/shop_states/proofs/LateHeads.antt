@@ -14,8 +14,8 @@ use Rattle.shop_states.specs.declared.dispatching.Candidate.{Candidate}
 use Rattle.shop_states.specs.declared.siblings.Latest.{Latest}
 use Rattle.shop_states.specs.inner.LaneHeads.{AreHeadsAt}
 use Rattle.shop_states.specs.inner.LaneStates.{IsKeptInLanes}
-use Rattle.shop_states.specs.inner.Raises.{AreInRouteOrder, IsOnMachine, IsRaised, at_in, steps_of}
-use Rattle.shop_states.specs.inner.Siblings.{AreLatest, AreSiblings, CanEnd, CanRaiseBehind, IsAmong, IsLateIn}
+use Rattle.shop_states.specs.inner.Raises.{AreInRouteOrder, IsInBlocks, IsOnMachine, IsRaised, at_in, steps_of}
+use Rattle.shop_states.specs.inner.Siblings.{AreLatest, AreSiblings, CanEnd, CanRaiseBehind, IsAmong, IsLateAt}
 use Rattle.shop_states.specs.inner.Siblings.{IsRaisedBehind, RaisesBehind, end_by, job_at}
 use Rattle.shop_states.specs.inner.Watchers.{floor_on}
 use Rattle.shop_states.proofs.AdvanceSteps.{end_small}
@@ -151,8 +151,8 @@ module _ {greatest : ℕ} {shop : Shop} {w : List ℕ} {l : LayoutState} {hs es 
     late_head : ℕ → ℕ
     late_head q = max (of_last q) (beside.0 q)
 
-    module _ {from to : ℕ} (from_is : from ≡ 8 * get_or l.blocks machine 0)
-        (to_is : to ≡ 8 * get_or l.blocks (machine + 1) 0) where
+    module _ {from to : ℕ} (from_is : from ≡ get_or l.blocks machine 0)
+        (to_is : to ≡ get_or l.blocks (machine + 1) 0) where
       last_raised : IsRaised l (IsOnMachine l machine) t.end
           (at_in (set hs (place l t.job ((placing shop w).steps t.job)) 0)) of_last
       unfolding of_last
@@ -166,7 +166,7 @@ module _ {greatest : ℕ} {shop : Shop} {w : List ℕ} {l : LayoutState} {hs es 
           → get_or (set hs (place l t.job ((placing shop w).steps t.job)) 0) q 0 ≡ get_or hs q 0
       waits_there q ne = search (rules, struck_other, its_word, its_place)
 
-      late_raised : IsRaisedBehind l (IsLateIn from to last t.end t.second) (at_in hs) late_head
+      late_raised : IsRaisedBehind l (IsLateAt (IsInBlocks from to) last t.end t.second) (at_in hs) late_head
       unfolding late_head
       late_raised =
           let b = beside.1
@@ -191,20 +191,20 @@ module _ {greatest : ℕ} {shop : Shop} {w : List ℕ} {l : LayoutState} {hs es 
       late_small q = grind (arith, child_small, its_word, beside)
 
       -- an operation that begins when the machine is free ends in time
-      ends_fit : (q e : ℕ) → IsLateIn from to last t.end t.second q e → 0 < get_or hs q 0
+      ends_fit : (q e : ℕ) → IsLateAt (IsInBlocks from to) last t.end t.second q e → 0 < get_or hs q 0
           → e + get_or l.times q 0 ≤ greatest
       unfolding late_head
       ends_fit q e at waits =
           let b = beside.1
-          in elim at.2 [
+          in elim at.1 [
             | inl it ↦ grind (arith, beside, late_fits)
-            | inr it ↦ (let same = waits_there q it.0 in let e_is = it.1 in let low = at.0 in let high = at.1
+            | inr it ↦ (let same = waits_there q it.0 in let e_is = it.1 in let low = at.0.0 in let high = at.0.1
                 in let reach = last_raised.reach q (omega arith, omega arith) (omega arith)
                 in let up = last_raised.rises q
                 in let f = late_fits q (omega arith) in omega arith)
           ]
 
-      pub can_late : CanRaiseBehind greatest l (rows_of l hs es) (IsLateIn from to last t.end t.second)
+      pub can_late : CanRaiseBehind greatest l (rows_of l hs es) (IsLateAt (IsInBlocks from to) last t.end t.second)
       can_late =
           let limits = kept.kept.limits in let laid = kept.kept.laid in let heads = kept.kept.heads
           in record {
@@ -225,7 +225,8 @@ module _ {greatest : ℕ} {shop : Shop} {w : List ℕ} {l : LayoutState} {hs es 
           }
 
       -- the raised heads
-      module _ {now : Rows} (raises : RaisesBehind l (IsLateIn from to last t.end t.second) (rows_of l hs es) now) where
+      module _ {now : Rows}
+          (raises : RaisesBehind l (IsLateAt (IsInBlocks from to) last t.end t.second) (rows_of l hs es) now) where
         pub now_small : (q : ℕ) → get_or now.heads q 0 ≤ latest_end shop + 1
         now_small q = let a = raises.least late_head late_raised q in let b = late_small q in omega arith
 
@@ -275,11 +276,11 @@ module _ {greatest : ℕ} {shop : Shop} {w : List ℕ} {l : LayoutState} {hs es 
                     ap (end_by hs l.times nexts) among.is
                     in elim (cases_eq q last) [
                       | inr ne ↦ (let late = raises.raised.behind i k t.end two
-                          (omega arith, omega arith, inr (ne, refl))
+                          ((omega arith, omega arith), inr (ne, refl))
                           (omega arith)
                           in let each = latest.each among.at among.within in omega arith)
                       | inl is ↦ (let late = raises.raised.behind i k t.second two
-                          (omega arith, omega arith, inl (is, refl)) (omega arith)
+                          ((omega arith, omega arith), inl (is, refl)) (omega arith)
                           in let differs : job_at cs among.at ≡ t.job → ⊥ = λ same. (
                           let here : q ≡ place l j ((placing shop w).steps j) = is ∙ (its_place latest.last
                           ∙ ap (λ (x : ℕ). place l x ((placing shop w).steps x)) (sym same ∙ among.is))

@@ -19,7 +19,8 @@ use Rattle.shop_states.specs.inner.Ceilings.{AreChildCeilings, IsCeiling}
 use Rattle.shop_states.specs.inner.HeadRaises.{Raise}
 use Rattle.shop_states.specs.inner.LaneHeads.{AreHeadsAt}
 use Rattle.shop_states.specs.inner.LaneStates.{AreHeadsInLanes, IsKeptInLanes}
-use Rattle.shop_states.specs.inner.Siblings.{AreLatest, AreSiblings, IsAmong, IsLateIn, RaisesBehind, end_by}
+use Rattle.shop_states.specs.inner.Raises.{IsInBlocks}
+use Rattle.shop_states.specs.inner.Siblings.{AreLatest, AreSiblings, IsAmong, IsLateAt, RaisesBehind, end_by}
 use Rattle.shop_states.specs.inner.Watchers.{floor_on}
 use Rattle.shop_states.proofs.CeilingLemmas.{IsBelow, ceiling_of_spans}
 use Rattle.shop_states.proofs.ChildBounds.{child-le}
@@ -39,9 +40,10 @@ IsServedIn g a b = g ≤ b → g ≤ a
 module _ {greatest : ℕ} {shop : Shop} {w : List ℕ} {l : LayoutState} {hs es nexts : List ℕ}
     (kept : IsKeptInLanes greatest shop w l (rows_of l hs es) nexts) {cs : List Candidate}
     (siblings : AreSiblings shop w cs) {t : Latest} (latest : AreLatest (end_by hs l.times nexts) cs t)
-    {from to : ℕ} (from_is : from ≡ 8 * get_or l.blocks (machine_of shop t.job ((placing shop w).steps t.job)) 0)
-    (to_is : to ≡ 8 * get_or l.blocks (machine_of shop t.job ((placing shop w).steps t.job) + 1) 0) {now : Rows}
-    (raises : RaisesBehind l (IsLateIn from to (get_or nexts t.job 0) t.end t.second) (rows_of l hs es) now) where
+    {from to : ℕ} (from_is : from ≡ get_or l.blocks (machine_of shop t.job ((placing shop w).steps t.job)) 0)
+    (to_is : to ≡ get_or l.blocks (machine_of shop t.job ((placing shop w).steps t.job) + 1) 0) {now : Rows}
+    (raises : RaisesBehind l (IsLateAt (IsInBlocks from to) (get_or nexts t.job 0) t.end t.second) (rows_of l hs es)
+    now) where
   small : (q : ℕ) → get_or now.heads q 0 ≤ latest_end shop + 1
   small = now_small kept siblings latest from_is to_is raises
 

@@ -11,7 +11,7 @@ ghost use Rattle.shop_states.specs.inner.Siblings.{BoundsRaises};
 
 use crate::head_raises::{LaneRaise, take_raise};
 use crate::machine_sets::MachineSet;
-use shop_lanes::{HeadRange, LaneRows, StateLanes};
+use shop_lanes::{HeadRange, LaneRows, StateLanes, are_wide};
 use shop_layout::Grid;
 
 /// The heads and ends of a word in lanes, with the layout of its instance.
@@ -109,8 +109,7 @@ fn take_any_spans<L: StateLanes>(
         (laid_rows L.heads L.ends laid.now)
         (raises_in L.value raises.old) (raises_in L.value raises.new) least limit result }
 {
-    // few instances need lanes of 64 bits: one loop is enough there
-    if L::GREATEST > u32::MAX as u64 {
+    if are_wide(L::GREATEST) {
         return take_spans_of::<L, 0>(raises, raised, ceilings, laid, least, limit);
     }
     match laid.grid.blocks_each() {

@@ -10,7 +10,7 @@ ghost use Rattle.shop_states.specs.inner.MachineRaises.{AreEmpty, AreListed, Are
 ghost use Rattle.shop_states.specs.inner.MachineRaises.{CanTakeSpans};
 ghost use Rattle.shop_states.specs.inner.RaiseCalls.{CanRaise, HasRaised};
 ghost use Rattle.shop_states.specs.inner.Raises.{HasBlocks, IsOnMachine};
-ghost use Rattle.shop_states.specs.inner.Siblings.{BoundsRaises, CanRaiseBehind, IsLateOn};
+ghost use Rattle.shop_states.specs.inner.Siblings.{BoundsRaises, CanRaiseLate, IsLateOn};
 ghost use Rattle.shop_states.specs.inner.Siblings.{RaisesBehind};
 ghost use Rattle.shop_states.specs.inner.Watchers.{AreKnown, Watches, no_floor};
 
@@ -150,11 +150,8 @@ impl<L: StateLanes> MachineRaises<L> {
         late: LateMachine,
     ) -> MachineSet
         requires at_rest { AreEmpty self.old }
-        requires ordered { late.from ≤ late.to }
-        requires within { late.to ≤ length (L.heads lanes.old) }
-        requires second { late.latest.second ≤ late.latest.end }
-        requires can { CanRaiseBehind L.GREATEST routes.now
-            (rows_of routes.now (L.heads lanes.old) (L.ends lanes.old)) (IsLateOn late) }
+        requires can { CanRaiseLate L.GREATEST routes.now
+            (rows_of routes.now (L.heads lanes.old) (L.ends lanes.old)) late }
         requires known { AreKnown routes.now.machines (length self.old) }
         ensures raises { RaisesBehind routes.now (IsLateOn late)
             (rows_of routes.now (L.heads lanes.old) (L.ends lanes.old))

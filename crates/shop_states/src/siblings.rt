@@ -3,7 +3,7 @@
 // are raised as if every operation there had to wait until then, no head of a child is higher, and no span is greater.
 // One pass over the machines whose heads rose thus bounds nearly all children.
 ghost use Rattle.std.specs.Prelude.{◌≡◌, ℕ, ◌+◌, ◌*◌, ◌^◌, ◌≤◌, ◌<◌, ◌⊎◌, List, ◌∷◌, ◌++◌, []};
-ghost use Rattle.std.specs.Prelude.{IsTrue, false};
+ghost use Rattle.std.specs.Prelude.{IsTrue};
 ghost use Rattle.std.specs.Prelude.{length, slice_index};
 ghost use Rattle.shop_model.specs.Shop.{Shop};
 ghost use Rattle.shop_bound.specs.Bound.{lb};
@@ -15,10 +15,11 @@ ghost use Rattle.shop_states.specs.inner.LaneStates.{IsKeptInLanes};
 ghost use Rattle.shop_states.specs.inner.MachineRaises.{AreEmpty, AreListed};
 ghost use Rattle.shop_states.specs.inner.Siblings.{AreLatest, AreSiblings, CanBoundChildren};
 ghost use Rattle.shop_states.specs.inner.Siblings.{CanEnd};
-ghost use Rattle.shop_states.specs.inner.Siblings.{CanRaiseBehind, IsAmong, IsEndAt, IsLateOn};
+ghost use Rattle.shop_states.specs.inner.Siblings.{CanRaiseBehind, CanRaiseLate, IsAmong, IsEndAt, IsLateOn};
 ghost use Rattle.shop_states.specs.inner.Siblings.{RaisesBehind, end_by, job_at};
 ghost use Rattle.shop_states.specs.inner.Watchers.{AreKnown, Watches, no_floor};
 
+use crate::dispatches::MOST_MARKED;
 use crate::dispatching::Candidate;
 use crate::head_raises::{LaneRaise, see};
 use crate::lane_bounds::LaidLanes;
@@ -162,15 +163,6 @@ fn raise_behind<L: StateLanes, const FEW: bool>(
     raise_route::<L, FEW>(lanes, raises, raised, routes, first, ready);
 }
 
-/// Tells whether an operation with this head waits and can begin before `end`.
-#[inline(always)]
-fn is_delayed(head: u64, end: u64) -> bool
-    ensures yes { IsTrue result → (0 < head) × (head < end) }
-    ensures no { result ≡ false → (head ≡ 0) ⊎ (end ≤ head) }
-{
-    head > 0 && head < end
-}
-
 /// Answers until when the candidates can delay the operation at `position`: until the latest end, or the second latest
 /// for the operation that ends last, at `last`, since it doesn't delay itself.
 #[inline(always)]
@@ -184,19 +176,21 @@ fn free_at(position: usize, last: usize, latest: Latest) -> u64
     latest.end
 }
 
-/// A machine whose operations some candidates delay, all on that machine. It has positions `from` up to `to`
+/// A machine whose operations some candidates delay, all on that machine. It has blocks `from` up to `behind`
 /// (excluded); the candidates' operation that ends last stands at `last`, and `latest` tells when.
 #[derive(Clone, Copy)]
 pub(crate) struct LateMachine {
     pub from: usize,
-    pub to: usize,
+    pub behind: usize,
     pub last: usize,
     pub latest: Latest,
 }
 
 /// Raises the heads behind each operation that waits on a late machine, as if the operation began at the latest time
 /// until which candidates can delay it, see `free_at`. Notes how far heads rose. No head of a child is then higher,
-/// except on that machine, where heads stay. `FEW` says that there are at most 64 machines, see `see`.
+/// except on that machine, where heads stay. Marks up to eight blocks at once, and visits only what waits there and can
+/// begin before the latest end: behind all else, heads are late enough. So are they where a marked head rises before
+/// its turn. `FEW` says that there are at most 64 machines, see `see`.
 pub(crate) fn raise_late<L: StateLanes, const FEW: bool>(
     lanes: &mut L,
     raises: &mut [LaneRaise<L::Number>],
@@ -204,11 +198,8 @@ pub(crate) fn raise_late<L: StateLanes, const FEW: bool>(
     routes: &Routes,
     late: LateMachine,
 )
-    requires ordered { late.from ≤ late.to }
-    requires within { late.to ≤ length (L.heads lanes.old) }
-    requires second { late.latest.second ≤ late.latest.end }
-    requires can { CanRaiseBehind L.GREATEST routes.now
-        (rows_of routes.now (L.heads lanes.old) (L.ends lanes.old)) (IsLateOn late) }
+    requires can { CanRaiseLate L.GREATEST routes.now
+        (rows_of routes.now (L.heads lanes.old) (L.ends lanes.old)) late }
     requires known { AreKnown routes.now.machines (length raises.old) }
     requires machines_fit { IsTrue FEW → length raises.old ≤ 64 }
     requires listed { AreListed (raises_in L.value raises.old) raised.old }
@@ -220,29 +211,16 @@ pub(crate) fn raise_late<L: StateLanes, const FEW: bool>(
     ensures listed { AreListed (raises_in L.value raises.new) raised.new }
     ensures machines { length raises.new ≡ length raises.old }
 {
-    for position in late.from..late.to {
-        if is_delayed(lanes.head(position), late.latest.end) {
+    let mut from = late.from;
+    while from < late.behind {
+        let to = from + (late.behind - from).min(MOST_MARKED);
+        let mut todo = lanes.below(from, to, late.latest.end);
+        while let Some(position) = todo.pop_first() {
             let free = free_at(position, late.last, late.latest);
             raise_behind::<L, FEW>(lanes, raises, raised, routes, position, free);
         }
+        from = to;
     }
-}
-
-/// Answers the first position of `machine`, and the position behind its last one.
-fn positions_of<L: StateLanes>(grid: &Grid<L>, machine: usize) -> (usize, usize)
-    requires small { machine + 1 < 2 ^ 64 }
-    requires known { machine + 1 < length grid.now.blocks }
-    requires ordered { slice_index grid.now.blocks machine
-        ≤ slice_index grid.now.blocks (machine + 1) }
-    requires within { 8 * slice_index grid.now.blocks (machine + 1) ≤ length grid.now.following }
-    ensures first { result.0 ≡ 8 * slice_index grid.now.blocks machine }
-    ensures behind { result.1 ≡ 8 * slice_index grid.now.blocks (machine + 1) }
-{
-    // no machine ends behind the last block: nothing is cut
-    let blocks = grid.positions() / 8;
-    let first = grid.block(machine).min(blocks);
-    let behind = grid.block(machine + 1).min(blocks);
-    (8 * first, 8 * behind)
 }
 
 /// The candidates of a word, and the bound of the word itself.
@@ -302,10 +280,10 @@ pub(crate) fn bound_children<L: StateLanes>(
     let latest = latest_of(candidates, lanes, &routes, next);
     let last = next[latest.job] as usize;
     let machine = routes.machine(last) as usize;
-    let (from, to) = positions_of(grid, machine);
+    let (from, behind) = grid.blocks_of(grid.fixed_blocks_each(), machine);
     let late = LateMachine {
         from,
-        to,
+        behind,
         last,
         latest,
     };

@@ -12,20 +12,23 @@
 --     CanEnd greatest l heads ..     that can be told
 --     AreLatest ends cs latest       of these candidates the one that ends last, with its end, and
 --                                    the latest end of the others
---     IsLateIn from to x end second  positions from `from` on and before `to` count: their machine is
---                                    free from `end` on, for x from `second` on
+--     IsLateAt among x end second    these positions count: their machine is free from `end` on, for x
+--                                    from `second` on
 --     IsLateOn late                  positions of a late machine count so
+--     CanRaiseLate greatest l ..     some heads that are raised so fit into lanes, where that
+--                                    machine's blocks are
 --     AreSiblings shop w cs          the word goes on with each candidate, all on one machine
 --     CanBoundChildren greatest ..   lanes and next operations are those of some word of this bound,
 --                                    which goes on with these candidates
 --     BoundsRaises l rows old cs ..  each number is at least `least` and the spans that begin within
 --                                    the raise of its machine; b is at least each number
-use Rattle.std.specs.Prelude.{◌≡◌, ℕ, ◌+◌, ◌≤◌, ◌<◌, ◌^◌, ◌⊎◌, List, [], ◌∷◌, ◌++◌, length, slice_index, slice_index_or}
+use Rattle.std.specs.Prelude.{◌≡◌, ℕ, ◌+◌, ◌*◌, ◌≤◌, ◌<◌, ◌^◌, ◌⊎◌, List, [], ◌∷◌, ◌++◌, length, slice_index}
+use Rattle.std.specs.Prelude.{slice_index_or}
 use Rattle.shop_lanes.specs.{Rows.Rows, Spans.spans_between}
 use Rattle.shop_model.specs.{Shop.{Shop, machine_of}, Word.{IsWord, placing}}
 use Rattle.shop_bound.specs.Bound.{lb}
 use Rattle.shop_layout.specs.{Lanes.lanes_on, Positions.{LayoutState, place}}
-use Rattle.shop_states.specs.inner.Raises.{AreInRouteOrder, IsFollowed, IsIndexed, IsPlace, at_in, steps_of}
+use Rattle.shop_states.specs.inner.Raises.{AreInRouteOrder, IsFollowed, IsInBlocks, IsIndexed, IsPlace, at_in, steps_of}
 use Rattle.shop_states.specs.{declared.siblings.LateMachine.LateMachine, declared.dispatching.Candidate.Candidate}
 use Rattle.shop_states.specs.{inner.HeadRaises.{Raise, raise_of}, declared.siblings.Latest.Latest}
 use Rattle.shop_states.specs.{inner.LaneStates.IsKeptInLanes, inner.MachineRaises.AreEmpty}
@@ -88,11 +91,18 @@ pub record AreLatest (ends : ℕ → ℕ) (cs : List Candidate) (t : Latest) : T
   pub others : (i : ℕ) → i < length cs → (job_at cs i ≡ t.job → ⊥) → ends (job_at cs i) ≤ t.second
   pub second : (t.second ≡ 0) ⊎ ((j : ℕ) × (IsAmong cs j × ((j ≡ t.job → ⊥) × (t.second ≡ ends j))))
 
-abbrev pub IsLateIn : ℕ → ℕ → ℕ → ℕ → ℕ → ℕ → ℕ → Type 0
-IsLateIn from to x end second q e = (from ≤ q) × (q < to) × (((q ≡ x) × (e ≡ second)) ⊎ ((q ≡ x → ⊥) × (e ≡ end)))
+abbrev pub IsLateAt : (ℕ → Type 0) → ℕ → ℕ → ℕ → ℕ → ℕ → Type 0
+IsLateAt among x end second q e = among q × (((q ≡ x) × (e ≡ second)) ⊎ ((q ≡ x → ⊥) × (e ≡ end)))
 
 abbrev pub IsLateOn : LateMachine → ℕ → ℕ → Type 0
-IsLateOn late = IsLateIn late.from late.to late.last late.latest.end late.latest.second
+IsLateOn late = IsLateAt (IsInBlocks late.from late.behind) late.last late.latest.end late.latest.second
+
+pub record CanRaiseLate (greatest : ℕ) (l : LayoutState) (rows : Rows) (late : LateMachine) : Type 0 where
+  pub ordered : late.from ≤ late.behind
+  pub within : 8 * late.behind ≤ length rows.heads
+  pub second : late.latest.second ≤ late.latest.end
+  pub fits : late.latest.end ≤ greatest
+  pub can : CanRaiseBehind greatest l rows (IsLateOn late)
 
 pub record AreSiblings (shop : Shop) (w : List ℕ) (cs : List Candidate) : Type 0 where
   pub fits : (i : ℕ) → i < length cs → IsWord shop (w ++ job_at cs i ∷ [])

@@ -24,39 +24,20 @@ machine-machine-requires g c =
     in let heads = kept.heads.positions in let machines = kept.laid.machines_at.positions
     in rw c.routes-routes.ensures (omega arith)
 
-pub positions_of-from-requires : goal.positions_of-from-requires
-positions_of-from-requires g c =
+pub blocks_of-from-requires : goal.blocks_of-from-requires
+blocks_of-from-requires g c =
     let latest = rw c.routes-routes.ensures at c.latest_of-latest.ensures
     in let on = rw c.routes-routes.ensures at c.machine-machine.ensures
     in let blocks = machine_blocks c.requires.can.kept c.requires.can.siblings latest on
-    in let small = blocks.small in let within = blocks.within
-    in let heads = c.requires.can.kept.kept.heads.positions
-    in let following = c.requires.can.kept.kept.laid.positions.following
-    in record { small = omega arith; known = blocks.known; ordered = blocks.ordered; within = omega arith }
-
-pub raise_late-raised-requires-clause-ordered : goal.raise_late-raised-requires-clause-ordered
-raise_late-raised-requires-clause-ordered g c =
-    let latest = rw c.routes-routes.ensures at c.latest_of-latest.ensures
-    in let on = rw c.routes-routes.ensures at c.machine-machine.ensures
-    in let ordered = (machine_blocks c.requires.can.kept c.requires.can.siblings latest on).ordered
-    in let first = c.positions_of-from.ensures.first in let behind = c.positions_of-from.ensures.behind in omega arith
-
-pub raise_late-raised-requires-clause-within : goal.raise_late-raised-requires-clause-within
-raise_late-raised-requires-clause-within g c =
-    let latest = rw c.routes-routes.ensures at c.latest_of-latest.ensures
-    in let on = rw c.routes-routes.ensures at c.machine-machine.ensures
-    in let within = (machine_blocks c.requires.can.kept c.requires.can.siblings latest on).within
-    in let behind = c.positions_of-from.ensures.behind in omega arith
-
-pub raise_late-raised-requires-clause-second : goal.raise_late-raised-requires-clause-second
-raise_late-raised-requires-clause-second g c = grind arith
+    in let small = blocks.small
+    in record { even = c.fixed_blocks_each.ensures.even; small = omega arith; known = blocks.known }
 
 pub raise_late-raised-requires-clause-can : goal.raise_late-raised-requires-clause-can
 raise_late-raised-requires-clause-can g c =
     let latest = rw c.routes-routes.ensures at c.latest_of-latest.ensures
     in let on = rw c.routes-routes.ensures at c.machine-machine.ensures
     in rw c.routes-routes.ensures (children_can c.requires.can.kept c.requires.can.siblings latest on
-    c.positions_of-from.ensures.first c.positions_of-from.ensures.behind)
+    c.blocks_of-from.ensures.first c.blocks_of-from.ensures.behind)
 
 pub raise_late-raised-requires-clause-known : goal.raise_late-raised-requires-clause-known
 raise_late-raised-requires-clause-known g c = rw c.routes-routes.ensures (λ q here.
@@ -83,8 +64,8 @@ take_ceilings-requires-clause-can g c =
       listed = c.raise_late-raised.ensures.listed;
       times = omega arith;
       tails = omega arith;
-      fits = late_raises_fit c.requires.can.kept c.requires.can.siblings latest on c.positions_of-from.ensures.first
-          c.positions_of-from.ensures.behind raises c.requires.at_rest c.requires.can.machines_are noted;
+      fits = late_raises_fit c.requires.can.kept c.requires.can.siblings latest on c.blocks_of-from.ensures.first
+          c.blocks_of-from.ensures.behind raises c.requires.at_rest c.requires.can.machines_are noted;
     }
 
 pub returns-clause-known : goal.returns-clause-known
@@ -93,7 +74,7 @@ returns-clause-known g c = λ shop w kept siblings bound_is i here.
     in let on = rw c.routes-routes.ensures at c.machine-machine.ensures
     in let raises = rw c.routes-routes.ensures at c.raise_late-raised.ensures.raises
     in let noted = rw c.routes-routes.ensures at c.raise_late-raised.ensures.noted
-    in children_known kept siblings latest on c.positions_of-from.ensures.first c.positions_of-from.ensures.behind
+    in children_known kept siblings latest on c.blocks_of-from.ensures.first c.blocks_of-from.ensures.behind
     raises c.requires.at_rest (c.requires.can.machines_are ∙ same_machines c.requires.can.kept.kept.laid
     kept.kept.laid) noted bound_is (c.take_ceilings.ensures.bounds (c.take_ceilings.result + 1) refl) i here
 
@@ -104,7 +85,7 @@ returns-clause-settled g c = λ shop w kept siblings bound_is i least here advan
     in let raises = rw c.routes-routes.ensures at c.raise_late-raised.ensures.raises
     in let noted = rw c.routes-routes.ensures at c.raise_late-raised.ensures.noted
     in let many = c.requires.can.machines_are ∙ same_machines c.requires.can.kept.kept.laid kept.kept.laid
-    in children_settled kept siblings latest on c.positions_of-from.ensures.first c.positions_of-from.ensures.behind
+    in children_settled kept siblings latest on c.blocks_of-from.ensures.first c.blocks_of-from.ensures.behind
     raises c.requires.at_rest many noted bound_is (c.take_ceilings.ensures.bounds (c.take_ceilings.result + 1) refl)
     (c.take_ceilings.ensures.long ∙ (c.requires.room ∙ many)) i least here advancing (omega arith)
 
