@@ -246,10 +246,13 @@ module _ {l : LayoutState} {first last end second : ℕ} where
         raises = behind_more raises past late_enough_there;
         to_come = λ q here.
             let is = there q here in let low_q = is.there.0 in let waits = is.waits
-            in ((omega arith, is.there.1), elim (cases_lt 0 (get_or old.heads q 0)) [
-              | inl some ↦ some
-              | inr none ↦ (let rests = raises.raised.rests q (omega arith) in omega arith)
-            ]);
+            in (
+              (omega arith, is.there.1),
+              elim (cases_lt 0 (get_or old.heads q 0)) [
+                | inl some ↦ some
+                | inr none ↦ (let rests = raises.raised.rests q (omega arith) in omega arith)
+              ],
+            );
         rises = subst Rises (sym are) (below_rises now from to end ordered (let a = raises.positions in omega arith));
       }
 
@@ -279,10 +282,16 @@ module _ {l : LayoutState} {first last end second : ℕ} where
               → IsLateAt (IsPast first to todo) last end second r e ⊎ IsEndAt q free r e
           split r e at = elim (cases_eq r q) [
             | inl is ↦ inr (is, grind arith)
-            | inr ne ↦ inl ((at.0.0, λ h. elim (subst (λ (xs : List ℕ). IsIn xs r) popped h) [
-              | inl f ↦ ne f
-              | inr g ↦ at.0.1 g
-            ]), at.1)
+            | inr ne ↦ inl (
+              (
+                at.0.0,
+                λ h. elim (subst (λ (xs : List ℕ). IsIn xs r) popped h) [
+                  | inl f ↦ ne f
+                  | inr g ↦ at.0.1 g
+                ],
+              ),
+              at.1,
+            )
           ]
 
           pub late_can : {greatest behind : ℕ} → to ≤ behind

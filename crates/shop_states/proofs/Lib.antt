@@ -38,6 +38,7 @@ pub mod LaneFits
 pub mod LaneSpans
 pub mod LateHeads
 pub mod LateSpans
+pub mod LatestEnds
 pub mod LeftSlots
 pub mod ListedCandidates
 pub mod Listing

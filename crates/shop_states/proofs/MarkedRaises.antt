@@ -3,13 +3,14 @@ use Rattle.std.proofs.Common.{◌≡◌, ℕ, ◌+◌, ◌*◌, ◌≤◌, ◌<�
 use Rattle.shop_lanes.specs.Rows.{Rows}
 use Rattle.shop_lanes.specs.Marks.{positions_among}
 use Rattle.shop_layout.specs.Positions.{AreEven, LayoutState}
+use Rattle.shop_states.specs.declared.dispatches.Dispatch.{Dispatch}
 use Rattle.shop_states.specs.inner.Dispatches.{marked_up_to}
 use Rattle.shop_states.specs.inner.HeadRaises.{Raise}
 use Rattle.shop_states.specs.inner.MachineRaises.{AreListed}
-use Rattle.shop_states.specs.inner.RaiseCalls.{CanRaise, HasRaised}
-use Rattle.shop_states.specs.inner.Raises.{IsInBlocks, Raises}
+use Rattle.shop_states.specs.inner.RaiseCalls.{CanDelay, CanRaise, HasRaised}
+use Rattle.shop_states.specs.inner.Raises.{IsInBlocks, IsOnMachine, Raises}
 use Rattle.shop_states.specs.inner.RisingLists.{IsIn}
-use Rattle.shop_states.specs.inner.Watchers.{Sees}
+use Rattle.shop_states.specs.inner.Watchers.{AreKnown, Sees}
 use Rattle.shop_states.proofs.RaiseLoops.{blocks_raisable, marks_in, marks_raisable, marks_raised, more_blocks}
 use Rattle.shop_states.proofs.RaiseLoops.{no_blocks}
 use Rattle.shop_states.proofs.Watching.{sees_both, sees_none}
@@ -18,6 +19,12 @@ use Rattle.shop_states.proofs.Watching.{sees_both, sees_none}
 pub all_marked : (l : LayoutState) (m each : ℕ) → AreEven l.blocks each → 0 < each → each ≤ 8
     → m + 1 < length l.blocks → get_or l.blocks (m + 1) 0 ≡ marked_up_to l m
 all_marked l m each even some few known = grind arith
+
+-- what a dispatch delays can be raised
+pub can_raise_all : {greatest : ℕ} {l : LayoutState} {nexts : List ℕ} {rows : Rows} {d : Dispatch} {machines : ℕ}
+    → CanDelay greatest l nexts rows d → AreKnown l.machines machines
+    → CanRaise greatest l nexts (IsOnMachine l d.machine) d.end rows machines
+can_raise_all can known = record { fits = can.fits; raisable = can.raisable; jobs = can.jobs; known = known }
 
 module _ (greatest : ℕ) (l : LayoutState) (nexts : List ℕ) (old : Rows) (marks : List ℕ) (from to e : ℕ)
     (ordered : from ≤ to) (within : 8 * to ≤ length old.heads) (are : marks ≡ positions_among old.heads from to e) where

@@ -9,11 +9,13 @@ use Rattle.shop_lanes.specs.Spans.{spans_between}
 use Rattle.shop_model.specs.Shop.{Shop, machine_of}
 use Rattle.shop_model.specs.Word.{IsWord, place_next, placing}
 use Rattle.shop_bound.specs.Bound.{lb}
+use Rattle.shop_states.specs.declared.dispatches.Dispatch.{Dispatch}
 use Rattle.shop_states.specs.inner.Advances.{IsAdvancing, IsLeastAt}
 use Rattle.shop_states.specs.inner.Ceilings.{AreChildCeilings, AreUnder}
 use Rattle.shop_states.specs.inner.ChildBounds.{IsLeastAfter}
 use Rattle.shop_states.specs.inner.BoundsUpTo.{IsBoundUpTo}
 use Rattle.shop_layout.specs.HeadLimits.{latest_end}
+use Rattle.shop_states.specs.inner.Dispatches.{IsDispatchOf}
 use Rattle.shop_states.specs.inner.HeadRaises.{Raise, raise_of}
 use Rattle.shop_states.specs.inner.LaneBounds.{AreSpansFit}
 use Rattle.shop_layout.specs.Lanes.{lanes_on, rows_of}
@@ -21,6 +23,7 @@ use Rattle.shop_states.specs.inner.LaneEnds.{CanKeepEnds, IsEndOf, end_at}
 use Rattle.shop_states.specs.inner.LaneStates.{AreHeadsInLanes, IsKeptInLanes}
 use Rattle.shop_layout.specs.Positions.{IsLaidOut, LayoutState, place}
 use Rattle.shop_states.specs.inner.MachineRaises.{AreEmpty, AreRaisesFit}
+use Rattle.shop_states.specs.inner.RaiseCalls.{CanDelay}
 use Rattle.shop_states.specs.inner.Raises.{HasBlocks, IsOnMachine, IsRaisable, Raises}
 use Rattle.shop_states.specs.inner.Watchers.{AreSeen, Sees, Watches, floor_on}
 use Rattle.shop_states.proofs.RaiseSteps.{put_is}
@@ -182,3 +185,16 @@ module _ {greatest : ℕ} {shop : Shop} {w : List ℕ} {l : LayoutState} {rows :
           | inr off ↦ (let none : floor_on own end m ≡ 0 = rw (ne_eqb m own off) refl in absurd (omega arith))
         ]
       ])
+
+-- the operation of a dispatch is struck out: its end can raise heads
+pub can_delay : {greatest : ℕ} {shop : Shop} {w : List ℕ} {l : LayoutState} {hs es nexts : List ℕ}
+    (kept : IsKeptInLanes greatest shop w l (rows_of l hs es) nexts) (d : Dispatch) (fits : IsWord shop (w ++ d.job ∷ []))
+    (is : IsDispatchOf l hs nexts d) {hs' es' : List ℕ} (struck : hs' ≡ set hs d.position 0) (beside : es' ≡ es)
+    → CanDelay greatest l nexts (rows_of l hs' es') d
+can_delay kept d fits is struck beside = record {
+  machine = trial_blocks kept d.job fits is.position_is is.machine_is is.end_is struck beside;
+  delayed = rw struck is.delayed_are;
+  fits = its_end kept d.job fits is.position_is is.machine_is is.end_is;
+  raisable = trial_raisable kept d.job fits is.position_is is.machine_is is.end_is struck beside;
+  jobs = grind arith;
+}

@@ -1,10 +1,8 @@
 // Lists a word's candidates: the jobs of its conflict set, each with a lower bound of the word extended by that job.
-ghost use Rattle.std.specs.Prelude.{◌≡◌, ℕ, ◌+◌, ◌*◌, ◌^◌, ◌≤◌, ◌<◌, List, [], ◌∷◌, ◌++◌, length, map};
-ghost use Rattle.std.specs.Prelude.{vec_capacity};
+ghost use Rattle.std.specs.Prelude.{◌≡◌, ℕ, ◌+◌, ◌*◌, ◌^◌, ◌≤◌, ◌<◌, List, [], ◌∷◌, ◌++◌, length, map, vec_capacity};
 ghost use Rattle.shop_model.specs.Shop.{Shop};
-ghost use Rattle.shop_states.specs.inner.Candidates.{AreCandidatesOf, CanGather, CanList};
-ghost use Rattle.shop_states.specs.inner.Candidates.{IsChosenBy};
-ghost use Rattle.shop_states.specs.inner.Candidates.{IsTold, ListsGathered, ListsOwn, told_at};
+ghost use Rattle.shop_states.specs.inner.Candidates.{AreCandidatesOf, CanGather, CanList, IsChosenBy, IsTold};
+ghost use Rattle.shop_states.specs.inner.Candidates.{ListsGathered, ListsOwn, told_at};
 ghost use Rattle.shop_states.specs.inner.JobSets.{members};
 ghost use Rattle.shop_states.specs.inner.LaneChoices.{IsJobBelow};
 ghost use Rattle.shop_states.specs.inner.LaneStates.{IsKeptInLanes};
@@ -13,6 +11,7 @@ ghost use Rattle.shop_states.specs.inner.RisingLists.{IsGatheredWith, IsIn};
 ghost use Rattle.shop_layout.specs.Lanes.{rows_of};
 ghost use Rattle.shop_layout.specs.Positions.{HoldsMachines};
 
+use crate::dispatches::MOST_MARKED;
 use crate::dispatching::Candidate;
 use crate::job_sets::BITS;
 use crate::lane_choices::{ConflictBlocks, conflict_set};
@@ -198,7 +197,7 @@ fn list_on_machine<L: StateLanes>(
     } = first;
     let next = state.next.as_slice();
     let (from, behind) = grid.blocks_of(grid.fixed_blocks_each(), machine);
-    let to = from + (behind - from).min(8);
+    let to = from + (behind - from).min(MOST_MARKED);
     let below = state.lanes.below(from, to, end);
     // dispatching a sole candidate keeps the word's bound
     if to == behind && below.has_no_other(next[chosen] as usize) {

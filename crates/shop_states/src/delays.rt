@@ -1,8 +1,8 @@
 // Raises heads after an operation is dispatched, where the bound is known: nothing is noted.
 ghost use Rattle.std.specs.Prelude.{◌≤◌, ◌<◌, [], length, slice_index};
 ghost use Rattle.shop_layout.specs.Lanes.{rows_of};
-ghost use Rattle.shop_states.specs.inner.Dispatches.{AreDelayedOn};
-ghost use Rattle.shop_states.specs.inner.Raises.{AreWaiting, HasBlocks, IsOnMachine, IsPosition, IsRaisable, Raises};
+ghost use Rattle.shop_states.specs.inner.RaiseCalls.{CanDelay};
+ghost use Rattle.shop_states.specs.inner.Raises.{AreWaiting, IsOnMachine, IsPosition, IsRaisable, Raises};
 ghost use Rattle.shop_states.specs.inner.RisingLists.{IsIn};
 
 use crate::dispatches::{Dispatch, MOST_MARKED};
@@ -77,14 +77,8 @@ fn delay_marked<L: StateLanes>(lanes: &mut L, ahead: &OpenRoutes, marks: Marks, 
 /// in one form, but notes nothing: each head that rises takes fewer steps, and no machine can be bounded afterwards.
 #[inline(always)]
 pub(crate) fn delay<L: StateLanes>(lanes: &mut L, grid: &Grid<L>, next: &[u32], dispatch: Dispatch)
-    requires machine { HasBlocks grid.now (length (L.heads lanes.old)) dispatch.machine }
-    requires delayed { AreDelayedOn grid.now dispatch.machine dispatch.end (L.heads lanes.old)
-        dispatch.delayed }
-    requires fits { dispatch.end ≤ L.GREATEST }
-    requires raisable { IsRaisable L.GREATEST grid.now next.now
-        (rows_of grid.now (L.heads lanes.old) (L.ends lanes.old))
-        (IsOnMachine grid.now dispatch.machine) dispatch.end }
-    requires jobs { length grid.now.places ≤ length next.now }
+    requires { CanDelay L.GREATEST grid.now next.now
+        (rows_of grid.now (L.heads lanes.old) (L.ends lanes.old)) dispatch }
     ensures { Raises L.GREATEST grid.now next.now (IsOnMachine grid.now dispatch.machine) dispatch.end
         (rows_of grid.now (L.heads lanes.old) (L.ends lanes.old))
         (rows_of grid.now (L.heads lanes.new) (L.ends lanes.new)) }

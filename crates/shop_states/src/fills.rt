@@ -2,8 +2,8 @@
 ghost use Rattle.std.specs.Prelude.{◌≡◌, ℕ, ◌<◌, List, length};
 ghost use Rattle.shop_model.specs.Placements.{PlacementState, IsPlacement};
 ghost use Rattle.shop_model.specs.Word.{IsWord, Placing, placing};
-ghost use Rattle.shop_states.specs.inner.Fills.{AreNextsSet, CanFill, HasFilled, HasFilledJob};
-ghost use Rattle.shop_states.specs.inner.Fills.{IsAtLeg, IsAtSomeLeg, IsNextSet, IsOnSomeRoute};
+ghost use Rattle.shop_states.specs.inner.Fills.{AreNextsSet, CanFill, HasFilled, HasFilledJob, IsAtLeg, IsAtSomeLeg};
+ghost use Rattle.shop_states.specs.inner.Fills.{IsNextSet, IsOnSomeRoute};
 ghost use Rattle.shop_states.specs.inner.LaneStates.{HasRoom, IsKeptInLanes};
 ghost use Rattle.shop_states.specs.inner.PlacedNexts.{IsPlacedAt, IsWordAt, placement_at};
 ghost use Rattle.shop_layout.specs.Lanes.{rows_of};

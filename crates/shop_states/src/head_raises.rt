@@ -1,7 +1,6 @@
 // The raise on a machine: of the heads noted there, the least old one and the greatest new one.
 ghost use Rattle.std.specs.Prelude.{◌≡◌, ◌≤◌, ◌<◌, IsTrue, min, max, length, slice_set};
-ghost use Rattle.shop_states.specs.inner.HeadRaises.{nothing_raised, raise_in, raise_of};
-ghost use Rattle.shop_states.specs.inner.HeadRaises.{raises_in, widened};
+ghost use Rattle.shop_states.specs.inner.HeadRaises.{nothing_raised, raise_in, raise_of, raises_in, widened};
 ghost use Rattle.shop_states.specs.inner.MachineRaises.{AreListed};
 
 use crate::machine_sets::MachineSet;

@@ -5,8 +5,7 @@ ghost use Rattle.shop_layout.specs.Positions.{AreEven};
 ghost use Rattle.shop_states.specs.inner.Ceilings.{AreUnder};
 ghost use Rattle.shop_states.specs.inner.HeadRaises.{raise_in, raises_in};
 ghost use Rattle.shop_states.specs.inner.LaidLanes.{laid_rows};
-ghost use Rattle.shop_states.specs.inner.MachineRaises.{CanBoundRows, CanTakeSpans, IsSpanByRaise};
-ghost use Rattle.shop_states.specs.inner.MachineRaises.{TakesSpans};
+ghost use Rattle.shop_states.specs.inner.MachineRaises.{CanBoundRows, CanTakeSpans, IsSpanByRaise, TakesSpans};
 ghost use Rattle.shop_states.specs.inner.Siblings.{BoundsRaises};
 
 use crate::head_raises::{LaneRaise, take_raise};

@@ -1,11 +1,11 @@
 // Finds the conflict set from the heads in lanes.
 ghost use Rattle.std.specs.Prelude.{ℕ, ◌*◌, ◌≤◌, ◌<◌, length};
-ghost use Rattle.shop_states.specs.inner.LaneChoices.{AreConflictBlocks, HaveJobs, IsJobAt};
-ghost use Rattle.shop_states.specs.inner.LaneChoices.{IsJobBelow};
+ghost use Rattle.shop_states.specs.inner.LaneChoices.{AreConflictBlocks, HaveJobs, IsJobAt, IsJobBelow};
 ghost use Rattle.shop_layout.specs.Lanes.{rows_of};
 ghost use Rattle.shop_states.specs.inner.Raises.{IsInBlocks};
 ghost use Rattle.shop_states.specs.inner.RisingLists.{HasGathered, IsGatheredWith, IsIn};
 
+use crate::dispatches::MOST_MARKED;
 use crate::job_sets::JobSet;
 use shop_lanes::{Marks, StateLanes};
 use shop_layout::Grid;
@@ -61,7 +61,7 @@ fn gather_in_blocks<const WORDS: usize, L: StateLanes>(
 {
     let mut from = first;
     while from < behind {
-        let to = from + (behind - from).min(8);
+        let to = from + (behind - from).min(MOST_MARKED);
         let below = lanes.below(from, to, limit);
         gather_marked(jobs, below, grid);
         from = to;

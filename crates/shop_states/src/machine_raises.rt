@@ -2,16 +2,13 @@
 ghost use Rattle.std.specs.Prelude.{◌≡◌, ℕ, ◌+◌, ◌≤◌, ◌<◌, ◌^◌, IfOk, length, replicate};
 ghost use Rattle.shop_lanes.specs.Spans.{spans_between};
 ghost use Rattle.shop_states.specs.inner.Ceilings.{AreUnder};
-ghost use Rattle.shop_states.specs.inner.Dispatches.{AreDelayedOn};
 ghost use Rattle.shop_states.specs.inner.HeadRaises.{nothing_raised, raise_of, raises_in};
 ghost use Rattle.shop_layout.specs.Lanes.{lanes_on, rows_of};
 ghost use Rattle.shop_states.specs.inner.LaidLanes.{laid_rows};
-ghost use Rattle.shop_states.specs.inner.MachineRaises.{AreEmpty, AreListed, AreRaisesFit};
-ghost use Rattle.shop_states.specs.inner.MachineRaises.{CanTakeSpans};
-ghost use Rattle.shop_states.specs.inner.RaiseCalls.{CanRaise, HasRaised};
-ghost use Rattle.shop_states.specs.inner.Raises.{HasBlocks, IsOnMachine};
-ghost use Rattle.shop_states.specs.inner.Siblings.{BoundsRaises, CanRaiseLate, IsLateOn};
-ghost use Rattle.shop_states.specs.inner.Siblings.{RaisesBehind};
+ghost use Rattle.shop_states.specs.inner.MachineRaises.{AreEmpty, AreListed, AreRaisesFit, CanTakeSpans};
+ghost use Rattle.shop_states.specs.inner.RaiseCalls.{CanDelay, HasRaised};
+ghost use Rattle.shop_states.specs.inner.Raises.{IsOnMachine};
+ghost use Rattle.shop_states.specs.inner.Siblings.{BoundsRaises, CanRaiseLate, IsLateOn, RaisesBehind};
 ghost use Rattle.shop_states.specs.inner.Watchers.{AreKnown, Watches, no_floor};
 
 use crate::dispatches::Dispatch;
@@ -84,12 +81,9 @@ impl<L: StateLanes> MachineRaises<L> {
         dispatch: Dispatch,
     ) -> MachineSet
         requires at_rest { AreEmpty self.old }
-        requires machine { HasBlocks grid.now (length (L.heads lanes.old)) dispatch.machine }
-        requires delayed { AreDelayedOn grid.now dispatch.machine dispatch.end (L.heads lanes.old)
-            dispatch.delayed }
-        requires can { CanRaise L.GREATEST grid.now next.now
-            (IsOnMachine grid.now dispatch.machine) dispatch.end
-            (rows_of grid.now (L.heads lanes.old) (L.ends lanes.old)) (length self.old) }
+        requires can { CanDelay L.GREATEST grid.now next.now
+            (rows_of grid.now (L.heads lanes.old) (L.ends lanes.old)) dispatch }
+        requires known { AreKnown grid.now.machines (length self.old) }
         ensures { HasRaised L.GREATEST grid.now next.now
             (IsOnMachine grid.now dispatch.machine) dispatch.end
             (rows_of grid.now (L.heads lanes.old) (L.ends lanes.old))

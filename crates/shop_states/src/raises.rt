@@ -1,11 +1,9 @@
 // Raises heads after an operation is dispatched. `delays.rt` does the same without notes.
 ghost use Rattle.std.specs.Prelude.{◌+◌, ◌≤◌, ◌<◌, ◌^◌, [], IsTrue, length, slice_index};
 ghost use Rattle.shop_layout.specs.Lanes.{rows_of};
-ghost use Rattle.shop_states.specs.inner.Dispatches.{AreDelayedOn};
 ghost use Rattle.shop_states.specs.inner.HeadRaises.{raises_in};
-ghost use Rattle.shop_states.specs.inner.RaiseCalls.{CanRaise, HasRaised};
-ghost use Rattle.shop_states.specs.inner.Raises.{AreWaiting, HasBlocks, IsPosition, IsRaisable};
-ghost use Rattle.shop_states.specs.inner.Raises.{IsOnMachine, Raises, SetsEndAt};
+ghost use Rattle.shop_states.specs.inner.RaiseCalls.{CanDelay, CanRaise, HasRaised};
+ghost use Rattle.shop_states.specs.inner.Raises.{AreWaiting, IsOnMachine, IsPosition, IsRaisable, Raises, SetsEndAt};
 ghost use Rattle.shop_states.specs.inner.RisingLists.{IsIn};
 ghost use Rattle.shop_states.specs.inner.Watchers.{AreKnown, Notes, Sees};
 ghost use Rattle.shop_states.specs.inner.MachineRaises.{AreListed};
@@ -157,7 +155,7 @@ fn raise_marked<L: StateLanes, const FEW: bool>(
 /// marks and raises eight blocks after another. Stays out of line, since each kind of dispatch would else have this
 /// code anew.
 #[inline(never)]
-fn raise_longer<L: StateLanes, const FEW: bool>(
+fn raise_any<L: StateLanes, const FEW: bool>(
     lanes: &mut L,
     raises: &mut [LaneRaise<L::Number>],
     raised: &mut MachineSet,
@@ -165,12 +163,9 @@ fn raise_longer<L: StateLanes, const FEW: bool>(
     next: &[u32],
     dispatch: Dispatch,
 )
-    requires machine { HasBlocks grid.now (length (L.heads lanes.old)) dispatch.machine }
-    requires delayed { AreDelayedOn grid.now dispatch.machine dispatch.end (L.heads lanes.old)
-        dispatch.delayed }
-    requires can { CanRaise L.GREATEST grid.now next.now
-        (IsOnMachine grid.now dispatch.machine) dispatch.end
-        (rows_of grid.now (L.heads lanes.old) (L.ends lanes.old)) (length raises.old) }
+    requires can { CanDelay L.GREATEST grid.now next.now
+        (rows_of grid.now (L.heads lanes.old) (L.ends lanes.old)) dispatch }
+    requires known { AreKnown grid.now.machines (length raises.old) }
     requires machines_fit { IsTrue FEW → length raises.old ≤ 64 }
     requires listed { AreListed (raises_in L.value raises.old) raised.old }
     ensures { HasRaised L.GREATEST grid.now next.now
@@ -210,12 +205,9 @@ pub(crate) fn raise<L: StateLanes>(
     next: &[u32],
     dispatch: Dispatch,
 )
-    requires machine { HasBlocks grid.now (length (L.heads lanes.old)) dispatch.machine }
-    requires delayed { AreDelayedOn grid.now dispatch.machine dispatch.end (L.heads lanes.old)
-        dispatch.delayed }
-    requires can { CanRaise L.GREATEST grid.now next.now
-        (IsOnMachine grid.now dispatch.machine) dispatch.end
-        (rows_of grid.now (L.heads lanes.old) (L.ends lanes.old)) (length raises.old) }
+    requires can { CanDelay L.GREATEST grid.now next.now
+        (rows_of grid.now (L.heads lanes.old) (L.ends lanes.old)) dispatch }
+    requires known { AreKnown grid.now.machines (length raises.old) }
     requires machines_fit { 0 < L.EACH → length raises.old ≤ 64 }
     requires listed { AreListed (raises_in L.value raises.old) raised.old }
     ensures { HasRaised L.GREATEST grid.now next.now
@@ -227,9 +219,9 @@ pub(crate) fn raise<L: StateLanes>(
     let each = grid.fixed_blocks_each();
     if each == 0 || each > 3 {
         if raises.len() <= 64 {
-            return raise_longer::<L, true>(lanes, raises, raised, grid, next, dispatch);
+            return raise_any::<L, true>(lanes, raises, raised, grid, next, dispatch);
         }
-        return raise_longer::<L, false>(lanes, raises, raised, grid, next, dispatch);
+        return raise_any::<L, false>(lanes, raises, raised, grid, next, dispatch);
     }
     let routes = grid.routes();
     let ahead = OpenRoutes { routes, next };

@@ -2,9 +2,7 @@
 // the other operations that wait there until its own ends, at the latest until the latest of these ends. So if heads
 // are raised as if every operation there had to wait until then, no head of a child is higher, and no span is greater.
 // One pass over the machines whose heads rose thus bounds nearly all children.
-ghost use Rattle.std.specs.Prelude.{◌≡◌, ℕ, ◌+◌, ◌*◌, ◌^◌, ◌≤◌, ◌<◌, ◌⊎◌, List, ◌∷◌, ◌++◌, []};
-ghost use Rattle.std.specs.Prelude.{IsTrue};
-ghost use Rattle.std.specs.Prelude.{length, slice_index};
+ghost use Rattle.std.specs.Prelude.{◌≡◌, ℕ, ◌+◌, ◌≤◌, ◌<◌, ◌⊎◌, List, ◌∷◌, ◌++◌, [], IsTrue, length, slice_index};
 ghost use Rattle.shop_model.specs.Shop.{Shop};
 ghost use Rattle.shop_bound.specs.Bound.{lb};
 ghost use Rattle.shop_layout.specs.Lanes.{rows_of};
@@ -13,10 +11,8 @@ ghost use Rattle.shop_states.specs.inner.Ceilings.{AreChildCeilings};
 ghost use Rattle.shop_states.specs.inner.HeadRaises.{raises_in};
 ghost use Rattle.shop_states.specs.inner.LaneStates.{IsKeptInLanes};
 ghost use Rattle.shop_states.specs.inner.MachineRaises.{AreEmpty, AreListed};
-ghost use Rattle.shop_states.specs.inner.Siblings.{AreLatest, AreSiblings, CanBoundChildren};
-ghost use Rattle.shop_states.specs.inner.Siblings.{CanEnd};
-ghost use Rattle.shop_states.specs.inner.Siblings.{CanRaiseBehind, CanRaiseLate, IsAmong, IsEndAt, IsLateOn};
-ghost use Rattle.shop_states.specs.inner.Siblings.{RaisesBehind, end_by, job_at};
+ghost use Rattle.shop_states.specs.inner.Siblings.{AreLatest, AreSiblings, CanBoundChildren, CanEnd, CanRaiseBehind};
+ghost use Rattle.shop_states.specs.inner.Siblings.{CanRaiseLate, IsEndAt, IsLateOn, RaisesBehind, end_by, job_at};
 ghost use Rattle.shop_states.specs.inner.Watchers.{AreKnown, Watches, no_floor};
 
 use crate::dispatches::MOST_MARKED;
@@ -50,63 +46,6 @@ fn end_of<L: StateLanes>(lanes: &L, routes: &Routes, next: &[u32], job: usize) -
     lanes.head(position) + routes.time(position)
 }
 
-/// Finds the candidate whose operation ends last, and answers its job and that end.
-fn last_of<L: StateLanes>(
-    candidates: &[Candidate],
-    lanes: &L,
-    routes: &Routes,
-    next: &[u32],
-) -> (usize, u64)
-    requires some { 0 < length candidates.now }
-    requires can { (i : ℕ) → i < length candidates.now
-        → CanEnd L.GREATEST routes.now (L.heads lanes.now) next.now (job_at candidates.now i) }
-    ensures among { IsAmong candidates.now result.0 }
-    ensures end { result.1 ≡ end_by (L.heads lanes.now) routes.now.times next.now result.0 }
-    ensures each { (i : ℕ) → i < length candidates.now
-        → end_by (L.heads lanes.now) routes.now.times next.now (job_at candidates.now i)
-        ≤ result.1 }
-{
-    let mut last = candidates[0].job as usize;
-    let mut end = end_of(lanes, routes, next, last);
-    for index in 1..candidates.len() {
-        let job = candidates[index].job as usize;
-        let its = end_of(lanes, routes, next, job);
-        if its > end {
-            last = job;
-            end = its;
-        }
-    }
-    (last, end)
-}
-
-/// Answers the latest end of the candidates' operations but that of job `last`, or 0 if there are no others.
-fn second_of<L: StateLanes>(
-    candidates: &[Candidate],
-    lanes: &L,
-    routes: &Routes,
-    next: &[u32],
-    last: usize,
-) -> u64
-    requires { (i : ℕ) → i < length candidates.now
-        → CanEnd L.GREATEST routes.now (L.heads lanes.now) next.now (job_at candidates.now i) }
-    ensures is { (result ≡ 0) ⊎ ((j : ℕ) × (IsAmong candidates.now j × ((j ≡ last → ⊥)
-        × (result ≡ end_by (L.heads lanes.now) routes.now.times next.now j)))) }
-    ensures others { (i : ℕ) → i < length candidates.now → (job_at candidates.now i ≡ last → ⊥)
-        → end_by (L.heads lanes.now) routes.now.times next.now (job_at candidates.now i) ≤ result }
-{
-    let mut second = 0;
-    for index in 0..candidates.len() {
-        let job = candidates[index].job as usize;
-        if job != last {
-            let its = end_of(lanes, routes, next, job);
-            if its > second {
-                second = its;
-            }
-        }
-    }
-    second
-}
-
 /// Finds the latest end of the operations of `candidates`, of which there is at least one, and the latest end of the
 /// others.
 fn latest_of<L: StateLanes>(
@@ -121,9 +60,24 @@ fn latest_of<L: StateLanes>(
     ensures { AreLatest (end_by (L.heads lanes.now) routes.now.times next.now)
         candidates.now result }
 {
-    let (job, end) = last_of(candidates, lanes, routes, next);
-    let second = second_of(candidates, lanes, routes, next, job);
-    Latest { job, end, second }
+    let job = candidates[0].job as usize;
+    let end = end_of(lanes, routes, next, job);
+    let mut latest = Latest {
+        job,
+        end,
+        second: 0,
+    };
+    for index in 1..candidates.len() {
+        let job = candidates[index].job as usize;
+        let end = end_of(lanes, routes, next, job);
+        if end > latest.end {
+            let second = latest.end;
+            latest = Latest { job, end, second };
+        } else if job != latest.job && end > latest.second {
+            latest.second = end;
+        }
+    }
+    latest
 }
 
 /// Raises the heads behind the operation at `position` on its route, as far as they are too early if the operation

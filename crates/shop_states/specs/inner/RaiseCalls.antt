@@ -1,15 +1,19 @@
 -- What a raise of heads asks for, and what it leaves.
 --     CanRaise greatest l nexts ..   the heads at some positions can be raised, and each machine has
 --                                    a place for a raise
+--     CanDelay greatest l nexts ..   a dispatch marks what it delays in the first blocks of its machine, and the heads
+--                                    there can be raised to its end
 --     HasRaised greatest l nexts ..  these heads are raised, and so is every later head on their
 --                                    routes that was too early; how far later heads rose is noted
 --                                    for their machines, which are all in a list
 use Rattle.std.specs.Prelude.{◌≡◌, ℕ, ◌≤◌, List, length}
 use Rattle.shop_lanes.specs.Rows.{Rows}
 use Rattle.shop_layout.specs.Positions.{LayoutState}
+use Rattle.shop_states.specs.declared.dispatches.Dispatch.{Dispatch}
+use Rattle.shop_states.specs.inner.Dispatches.{AreDelayedOn}
 use Rattle.shop_states.specs.inner.HeadRaises.{Raise}
 use Rattle.shop_states.specs.inner.MachineRaises.{AreListed}
-use Rattle.shop_states.specs.inner.Raises.{IsRaisable, Raises}
+use Rattle.shop_states.specs.inner.Raises.{HasBlocks, IsOnMachine, IsRaisable, Raises}
 use Rattle.shop_states.specs.inner.Watchers.{AreKnown, Sees}
 
 pub record CanRaise (greatest : ℕ) (l : LayoutState) (nexts : List ℕ) (among : ℕ → Type 0) (e : ℕ)
@@ -18,6 +22,13 @@ pub record CanRaise (greatest : ℕ) (l : LayoutState) (nexts : List ℕ) (among
   pub raisable : IsRaisable greatest l nexts rows among e
   pub jobs : length l.places ≤ length nexts
   pub known : AreKnown l.machines machines
+
+pub record CanDelay (greatest : ℕ) (l : LayoutState) (nexts : List ℕ) (rows : Rows) (d : Dispatch) : Type 0 where
+  pub machine : HasBlocks l (length rows.heads) d.machine
+  pub delayed : AreDelayedOn l d.machine d.end rows.heads d.delayed
+  pub fits : d.end ≤ greatest
+  pub raisable : IsRaisable greatest l nexts rows (IsOnMachine l d.machine) d.end
+  pub jobs : length l.places ≤ length nexts
 
 pub record HasRaised (greatest : ℕ) (l : LayoutState) (nexts : List ℕ) (among : ℕ → Type 0) (e : ℕ)
     (old new : Rows) (before after : List Raise) (listed_machines : List ℕ) : Type 0 where

@@ -1,29 +1,15 @@
 use Rattle.std.proofs.Common.{rules, ℕ, List, ◌∙◌, ap, refl, arith, length}
 use Rattle.std.proofs.lemmas.List.{length-set}
 use Rattle.shop_layout.proofs.Written.{written_vec}
-use Rattle.shop_states.proofs.Trials.{its_end, its_job, its_position, trial_blocks, trial_keep, trial_kept}
-use Rattle.shop_states.proofs.Trials.{trial_raisable}
+use Rattle.shop_states.proofs.Trials.{can_delay, its_job, its_position, trial_keep, trial_kept}
 use Rattle.shop_states.proofs.advances.advance.Goals as goal
 
 pub set_head-requires-clause-in_range : goal.set_head-requires-clause-in_range
 set_head-requires-clause-in_range g c = search (rules, its_position)
 
-pub delay-requires-clause-machine : goal.delay-requires-clause-machine
-delay-requires-clause-machine g c = search (rules, trial_blocks)
-
-pub delay-requires-clause-delayed : goal.delay-requires-clause-delayed
-delay-requires-clause-delayed g c = grind arith
-
-pub delay-requires-clause-fits : goal.delay-requires-clause-fits
-delay-requires-clause-fits g c = search (rules, its_end)
-
-pub delay-requires-clause-raisable : goal.delay-requires-clause-raisable
-delay-requires-clause-raisable g c = rw c.as_mut_slice-next.ensures.value (trial_raisable c.requires.can.kept
-    c.args.dispatch.job c.requires.can.fits c.requires.is.position_is c.requires.is.machine_is c.requires.is.end_is
-    c.set_head.ensures.heads c.set_head.ensures.ends)
-
-pub delay-requires-clause-jobs : goal.delay-requires-clause-jobs
-delay-requires-clause-jobs g c = grind arith
+pub delay-requires : goal.delay-requires
+delay-requires g c = rw c.as_mut_slice-next.ensures.value (can_delay c.requires.can.kept c.args.dispatch
+    c.requires.can.fits c.requires.is c.set_head.ensures.heads c.set_head.ensures.ends)
 
 pub go_on-requires-clause-job : goal.go_on-requires-clause-job
 go_on-requires-clause-job g c = rw c.as_mut_slice-next.ensures.value

@@ -1,30 +1,21 @@
 use Rattle.std.proofs.Common.{rules, ℕ, List, ◌∙◌, ap, refl, arith, length}
 use Rattle.std.proofs.lemmas.List.{length-set}
 use Rattle.shop_layout.proofs.Written.{written_vec}
-use Rattle.shop_states.proofs.Trials.{trial_raises_fit, trial_raisable, same_machines, its_position, trial_blocks}
-use Rattle.shop_states.proofs.Trials.{trial_bound, trial_under, trial_keep, trial_kept, now_heads, its_end, its_job}
+use Rattle.shop_states.proofs.Trials.{can_delay, its_job, its_position, now_heads, same_machines, trial_bound}
+use Rattle.shop_states.proofs.Trials.{trial_keep, trial_kept, trial_raises_fit, trial_under}
 use Rattle.shop_states.proofs.advances.advance_below.Goals as goal
 
 pub set_head-requires-clause-in_range : goal.set_head-requires-clause-in_range
 set_head-requires-clause-in_range g c = search (rules, its_position)
 
-pub raise-raised-requires-clause-machine : goal.raise-raised-requires-clause-machine
-raise-raised-requires-clause-machine g c = search (rules, trial_blocks)
-
-pub raise-raised-requires-clause-delayed : goal.raise-raised-requires-clause-delayed
-raise-raised-requires-clause-delayed g c = grind arith
-
 pub raise-raised-requires-clause-can : goal.raise-raised-requires-clause-can
-raise-raised-requires-clause-can g c = rw c.as_mut_slice-next.ensures.value (record {
-  fits = its_end c.requires.can.is.kept c.args.dispatch.job c.requires.can.is.fits c.requires.is.position_is
-      c.requires.is.machine_is c.requires.is.end_is;
-  raisable = trial_raisable c.requires.can.is.kept c.args.dispatch.job c.requires.can.is.fits c.requires.is.position_is
-      c.requires.is.machine_is c.requires.is.end_is
-      c.set_head.ensures.heads c.set_head.ensures.ends;
-  jobs = grind arith;
-  known = λ q here. let a = c.requires.can.is.kept.kept.laid.machines_at.known q here
-      in let b = c.requires.can.machines_are in omega arith;
-})
+raise-raised-requires-clause-can g c = rw c.as_mut_slice-next.ensures.value (can_delay c.requires.can.is.kept
+    c.args.dispatch c.requires.can.is.fits c.requires.is c.set_head.ensures.heads c.set_head.ensures.ends)
+
+pub raise-raised-requires-clause-known : goal.raise-raised-requires-clause-known
+raise-raised-requires-clause-known g c = λ q here.
+    let a = c.requires.can.is.kept.kept.laid.machines_at.known q here
+    in let b = c.requires.can.machines_are in omega arith
 
 pub take_bound-bound-requires-clause-fits : goal.take_bound-bound-requires-clause-fits
 take_bound-bound-requires-clause-fits g c =

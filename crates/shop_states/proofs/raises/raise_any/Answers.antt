@@ -6,9 +6,10 @@ use Rattle.shop_states.specs.inner.HeadRaises.{raise_in, raises_in}
 use Rattle.shop_states.specs.inner.RaiseCalls.{CanRaise, HasRaised}
 use Rattle.shop_states.specs.inner.Raises.{IsInBlocks}
 use Rattle.shop_states.specs.inner.RisingLists.{IsIn}
-use Rattle.shop_states.proofs.MarkedRaises.{can_raise_marked, can_raise_on, has_raised_marked, raised_all, raised_on}
+use Rattle.shop_states.proofs.MarkedRaises.{can_raise_all, can_raise_marked, can_raise_on, has_raised_marked, raised_all}
+use Rattle.shop_states.proofs.MarkedRaises.{raised_on}
 use Rattle.shop_states.proofs.RaiseLoops.{marks_waiting}
-use Rattle.shop_states.proofs.raises.raise_longer.Goals as goal
+use Rattle.shop_states.proofs.raises.raise_any.Goals as goal
 
 pub loop-from-init : goal.loop-from-init
 loop-from-init g c = grind (arith, length-map)
@@ -23,7 +24,7 @@ raise_marked-requires-clause-marks g c =
     in let before = raises_in g.L.StateLanes.value c.args.raises.now
     in let mid = raises_in g.L.StateLanes.value c.loop-from.raises
     in let so_far = c.loop-from.invariant.raised in let long = so_far.raises.raised.positions
-    in let on = so_far.ordered in let up = so_far.within in let within = c.requires.machine.within
+    in let on = so_far.ordered in let up = so_far.within in let within = c.requires.can.machine.within
     in marks_waiting now from to end (omega arith) (omega arith) c.loop-from.invariant.marked
 
 pub raise_marked-requires-clause-can : goal.raise_marked-requires-clause-can
@@ -36,11 +37,11 @@ raise_marked-requires-clause-can g c =
     in let before = raises_in g.L.StateLanes.value c.args.raises.now
     in let mid = raises_in g.L.StateLanes.value c.loop-from.raises
     in let so_far = c.loop-from.invariant.raised in let long = so_far.raises.raised.positions
-    in let on = so_far.ordered in let up = so_far.within in let within = c.requires.machine.within
+    in let on = so_far.ordered in let up = so_far.within in let within = c.requires.can.machine.within
     in let many = length-map c.args.raises.now (raise_in g.L.StateLanes.value)
     in let can = subst (λ (n : ℕ). CanRaise g.L.StateLanes.GREATEST l c.args.next.now (IsInBlocks first behind)
     end old n)
-    (sym many) c.requires.can
+    (sym many) (can_raise_all c.requires.can c.requires.known)
     in let its = can_raise_marked g.L.StateLanes.GREATEST l c.args.next.now now c.loop-from.marks from to end
     (omega arith) (omega arith) c.loop-from.invariant.marked (length mid)
     (can_raise_on g.L.StateLanes.GREATEST l c.args.next.now first behind end old before can from to
@@ -61,11 +62,11 @@ loop-from-preserved g c =
     in let before = raises_in g.L.StateLanes.value c.args.raises.now
     in let mid = raises_in g.L.StateLanes.value c.loop-from.raises
     in let so_far = c.loop-from.invariant.raised in let long = so_far.raises.raised.positions
-    in let on = so_far.ordered in let up = so_far.within in let within = c.requires.machine.within
+    in let on = so_far.ordered in let up = so_far.within in let within = c.requires.can.machine.within
     in let many = length-map c.args.raises.now (raise_in g.L.StateLanes.value)
     in let can = subst (λ (n : ℕ). CanRaise g.L.StateLanes.GREATEST l c.args.next.now (IsInBlocks first behind)
     end old n)
-    (sym many) c.requires.can
+    (sym many) (can_raise_all c.requires.can c.requires.known)
     in let new = rows_of l (g.L.StateLanes.heads c.raise_marked.new.lanes)
     (g.L.StateLanes.ends c.raise_marked.new.lanes)
     in let after = raises_in g.L.StateLanes.value c.raise_marked.new.raises
@@ -94,11 +95,11 @@ returns g c =
     in let before = raises_in g.L.StateLanes.value c.args.raises.now
     in let mid = raises_in g.L.StateLanes.value c.loop-from.raises
     in let so_far = c.loop-from.invariant.raised in let long = so_far.raises.raised.positions
-    in let on = so_far.ordered in let up = so_far.within in let within = c.requires.machine.within
+    in let on = so_far.ordered in let up = so_far.within in let within = c.requires.can.machine.within
     in let many = length-map c.args.raises.now (raise_in g.L.StateLanes.value)
     in let can = subst (λ (n : ℕ). CanRaise g.L.StateLanes.GREATEST l c.args.next.now (IsInBlocks first behind)
     end old n)
-    (sym many) c.requires.can
+    (sym many) (can_raise_all c.requires.can c.requires.known)
     in let new = rows_of l (g.L.StateLanes.heads c.raise_marked.new.lanes)
     (g.L.StateLanes.ends c.raise_marked.new.lanes)
     in let after = raises_in g.L.StateLanes.value c.raise_marked.new.raises

@@ -4,7 +4,7 @@ use Rattle.shop_layout.specs.Lanes.{rows_of}
 use Rattle.shop_states.specs.inner.HeadRaises.{raises_in}
 use Rattle.shop_states.specs.inner.MachineRaises.{AreListed}
 use Rattle.shop_states.proofs.MarkedRaises.{AreRaisedUpTo}
-use Rattle.shop_states.proofs.raises.raise_longer.Given as goal
+use Rattle.shop_states.proofs.raises.raise_any.Given as goal
 
 abbrev pub invariant-loop-from : goal.invariant-loop-from
 invariant-loop-from g l = record {
