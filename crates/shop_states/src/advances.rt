@@ -7,7 +7,7 @@ ghost use Rattle.shop_bound.specs.Conflicts.{conflict};
 ghost use Rattle.shop_states.specs.States.{TellsBoundBelow};
 ghost use Rattle.shop_states.specs.inner.Advances.{CanAdvance, CanGoOn, CanStrike, HasSameRoom, IsAdvancing};
 ghost use Rattle.shop_states.specs.inner.Dispatches.{IsDispatchOf};
-ghost use Rattle.shop_states.specs.inner.LaneEnds.{CanKeepEnds};
+ghost use Rattle.shop_states.specs.inner.LaneEnds.{CanKeepEnds, end_at};
 ghost use Rattle.shop_states.specs.inner.LaneStates.{GoesOn, IsKeptInLanes};
 ghost use Rattle.shop_layout.specs.Lanes.{rows_of};
 ghost use Rattle.shop_states.specs.inner.MachineRaises.{AreEmpty};
@@ -15,7 +15,6 @@ ghost use Rattle.shop_states.specs.inner.MachineRaises.{AreEmpty};
 use crate::delays::delay;
 use crate::dispatches::Dispatch;
 use crate::lane_bounds::LaidLanes;
-use crate::lane_ends::set_end_of;
 use crate::machine_raises::MachineRaises;
 use crate::states::State;
 use shop_lanes::StateLanes;
@@ -26,6 +25,23 @@ use shop_layout::Grid;
 pub(crate) struct BoundRange {
     pub least: u64,
     pub limit: u64,
+}
+
+/// Answers the earliest end of the next operation of `job`, plus one like heads in lanes; `GREATEST` if none is left.
+#[inline(always)]
+fn end_of<L: StateLanes>(lanes: &L, grid: &Grid<L>, next: &[u32], job: usize) -> u64
+    requires keep { CanKeepEnds L.GREATEST grid.now next.now
+        (rows_of grid.now (L.heads lanes.now) (L.ends lanes.now)) }
+    requires times { length grid.now.times ≡ length (L.heads lanes.now) }
+    requires job { job < length next.now }
+    ensures { result ≡ end_at L.GREATEST next.now
+        (rows_of grid.now (L.heads lanes.now) (L.ends lanes.now)) job }
+{
+    let position = next[job] as usize;
+    if position >= grid.positions() {
+        return L::GREATEST;
+    }
+    lanes.head(position) + grid.time(position)
 }
 
 /// Makes the operation behind `position` on the route of `job` the job's next one, and sets that operation's end.
@@ -48,7 +64,8 @@ pub(crate) fn go_on<L: StateLanes>(
         (rows_of grid.now (L.heads lanes.new) (L.ends lanes.new)) next.old next.new }
 {
     next[job] = grid.next_behind(position);
-    set_end_of(lanes, grid, next, job);
+    let end = end_of(lanes, grid, next, job);
+    lanes.set_end(job, end);
 }
 
 /// Dispatches the operation of `dispatch`, which was looked up in this state, or in one that this state is a copy of.

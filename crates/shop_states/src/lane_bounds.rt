@@ -2,10 +2,10 @@
 ghost use Rattle.std.specs.Prelude.{◌≡◌, ◌-◌, ◌≤◌, ◌<◌, ◌^◌, ◌⊎◌, IsTrue, length, slice_index};
 ghost use Rattle.shop_lanes.specs.Rows.{lanes_in};
 ghost use Rattle.shop_layout.specs.Positions.{AreEven};
-ghost use Rattle.shop_states.specs.inner.Ceilings.{AreUnder};
 ghost use Rattle.shop_states.specs.inner.HeadRaises.{raise_in, raises_in};
 ghost use Rattle.shop_states.specs.inner.LaidLanes.{laid_rows};
-ghost use Rattle.shop_states.specs.inner.MachineRaises.{CanBoundRows, CanTakeSpans, IsSpanByRaise, TakesSpans};
+ghost use Rattle.shop_states.specs.inner.MachineRaises.{CanBoundRows, CanTakeSpans, CanTakeSpansUnder, IsSpanByRaise};
+ghost use Rattle.shop_states.specs.inner.MachineRaises.{TakesSpans};
 ghost use Rattle.shop_states.specs.inner.Siblings.{BoundsRaises};
 
 use crate::head_raises::{LaneRaise, take_raise};
@@ -67,12 +67,9 @@ fn take_spans_of<L: StateLanes, const EACH: usize>(
     limit: u64,
 ) -> u64
     requires even { AreEven laid.now.grid.now.blocks EACH }
-    requires can { CanTakeSpans L.GREATEST (raises_in L.value raises.old) raised laid.now.grid.now
-        (laid_rows L.heads L.ends laid.now) }
-    requires under { AreUnder ceilings.now (raises_in L.value raises.old) laid.now.grid.now
-        (laid_rows L.heads L.ends laid.now) least }
-    ensures { TakesSpans laid.now.grid.now
-        (laid_rows L.heads L.ends laid.now)
+    requires can { CanTakeSpansUnder L.GREATEST ceilings.now (raises_in L.value raises.old) raised
+        laid.now.grid.now (laid_rows L.heads L.ends laid.now) least }
+    ensures { TakesSpans laid.now.grid.now (laid_rows L.heads L.ends laid.now)
         (raises_in L.value raises.old) (raises_in L.value raises.new) least limit result }
 {
     // looked up once: an emptied raise is a write, behind which the rows would be looked up anew
@@ -100,12 +97,9 @@ fn take_any_spans<L: StateLanes>(
     least: u64,
     limit: u64,
 ) -> u64
-    requires can { CanTakeSpans L.GREATEST (raises_in L.value raises.old) raised laid.now.grid.now
-        (laid_rows L.heads L.ends laid.now) }
-    requires under { AreUnder ceilings.now (raises_in L.value raises.old) laid.now.grid.now
-        (laid_rows L.heads L.ends laid.now) least }
-    ensures { TakesSpans laid.now.grid.now
-        (laid_rows L.heads L.ends laid.now)
+    requires { CanTakeSpansUnder L.GREATEST ceilings.now (raises_in L.value raises.old) raised
+        laid.now.grid.now (laid_rows L.heads L.ends laid.now) least }
+    ensures { TakesSpans laid.now.grid.now (laid_rows L.heads L.ends laid.now)
         (raises_in L.value raises.old) (raises_in L.value raises.new) least limit result }
 {
     if are_wide(L::GREATEST) {
@@ -137,12 +131,9 @@ pub(crate) fn take_spans<L: StateLanes>(
     least: u64,
     limit: u64,
 ) -> u64
-    requires can { CanTakeSpans L.GREATEST (raises_in L.value raises.old) raised laid.now.grid.now
-        (laid_rows L.heads L.ends laid.now) }
-    requires under { AreUnder ceilings.now (raises_in L.value raises.old) laid.now.grid.now
-        (laid_rows L.heads L.ends laid.now) least }
-    ensures { TakesSpans laid.now.grid.now
-        (laid_rows L.heads L.ends laid.now)
+    requires { CanTakeSpansUnder L.GREATEST ceilings.now (raises_in L.value raises.old) raised
+        laid.now.grid.now (laid_rows L.heads L.ends laid.now) least }
+    ensures { TakesSpans laid.now.grid.now (laid_rows L.heads L.ends laid.now)
         (raises_in L.value raises.old) (raises_in L.value raises.new) least limit result }
 {
     match laid.grid.fixed_blocks_each() {

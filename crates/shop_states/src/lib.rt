@@ -13,7 +13,6 @@ mod head_raises;
 mod job_sets;
 mod lane_bounds;
 mod lane_choices;
-mod lane_ends;
 mod machine_raises;
 mod machine_sets;
 mod placing;

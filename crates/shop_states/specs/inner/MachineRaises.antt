@@ -6,6 +6,8 @@
 --                                    fit into lanes
 --     IsSpanByRaise ..               the greater of a number and of the spans from within a raise on
 --     CanTakeSpans greatest ..       the spans from within these raises on fit into lanes
+--     CanTakeSpansUnder ..           so they do, and those of a machine with a ceiling are no more than that, or than
+--                                    `least`
 --     TakesSpans ..                  the greatest of a number and of these spans; the raises are empty
 --                                    afterwards
 use Rattle.std.specs.Prelude.{◌≡◌, ℕ, ◌+◌, ◌*◌, ◌%◌, ◌≤◌, ◌<◌, List, length, slice_index}
@@ -13,6 +15,7 @@ use Rattle.shop_lanes.specs.Rows.{Rows, Lane, AreBlocks, lanes_in}
 use Rattle.shop_lanes.specs.Spans.{spans_between, FitsSpan}
 use Rattle.shop_lanes.specs.declared.lane_rows.LaneRows.{LaneRows}
 use Rattle.shop_states.specs.declared.head_raises.LaneRaise.{LaneRaise}
+use Rattle.shop_states.specs.inner.Ceilings.{AreUnder}
 use Rattle.shop_states.specs.inner.HeadRaises.{Raise, raise_of}
 use Rattle.shop_states.specs.inner.RisingLists.{IsIn}
 use Rattle.shop_layout.specs.Lanes.{lanes_on}
@@ -58,6 +61,11 @@ pub record CanTakeSpans (greatest : ℕ) (raises : List Raise) (raised : List �
   pub times : length l.times ≡ length rows.heads
   pub tails : length l.tails ≡ length l.times
   pub fits : AreRaisesFit greatest raises l rows
+
+pub record CanTakeSpansUnder (greatest : ℕ) (ceilings : List ℕ) (raises : List Raise) (raised : List ℕ)
+    (l : LayoutState) (rows : Rows) (least : ℕ) : Type 0 where
+  pub can : CanTakeSpans greatest raises raised l rows
+  pub under : AreUnder ceilings raises l rows least
 
 -- b is at least `least`, and no more than that and the spans of these machines; if it is below the
 -- limit, no span that begins within a raise is more

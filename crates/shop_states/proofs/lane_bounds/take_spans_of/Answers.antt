@@ -21,15 +21,15 @@ pub blocks-requires : goal.blocks-requires
 blocks-requires g c =
     let left = c.loop-machine.invariant.left in let rows = c.rows-rows.ensures in let blocks = c.blocks_of-from.ensures
     in record {
-      ordered = cut_ordered c.requires.can left c.in-Some.ensures blocks.first blocks.behind;
-      within = cut_within c.requires.can left c.in-Some.ensures blocks.first blocks.behind g.L.StateLanes.value
+      ordered = cut_ordered c.requires.can.can left c.in-Some.ensures blocks.first blocks.behind;
+      within = cut_within c.requires.can.can left c.in-Some.ensures blocks.first blocks.behind g.L.StateLanes.value
           c.rows-rows.result rows.heads;
     }
 
 pub span_of_rows-most-requires : goal.span_of_rows-most-requires
 span_of_rows-most-requires g c =
     let left = c.loop-machine.invariant.left in let rows = c.rows-rows.ensures in let blocks = c.blocks_of-from.ensures
-    in can_bound c.requires.can left c.in-Some.ensures blocks.first blocks.behind g.L.StateLanes.value
+    in can_bound c.requires.can.can left c.in-Some.ensures blocks.first blocks.behind g.L.StateLanes.value
     c.rows-rows.result rows.heads rows.times rows.tails c.blocks-then-not-is_under.ensures
     c.take_raise-raise.ensures.raise g.row.EACH blocks.count
 
@@ -42,7 +42,7 @@ loop-machine-preserved-then-not-is_under g c =
     in subst (λ (rs : List Raise). IsTakenSo c.args.least c.args.limit old on rs c.pop_first.new.self
     c.span_of_rows-most.result) (sym c.take_raise-raise.ensures.empty)
     (taken_more c.loop-machine.invariant c.in-Some.ensures (nothing_raised g.L.StateLanes.GREATEST) refl
-    (cut_span c.requires.can left c.in-Some.ensures blocks.first blocks.behind g.L.StateLanes.value c.rows-rows.result
+    (cut_span c.requires.can.can left c.in-Some.ensures blocks.first blocks.behind g.L.StateLanes.value c.rows-rows.result
     rows.heads rows.times rows.tails c.blocks-then-not-is_under.ensures c.take_raise-raise.ensures.raise
     c.span_of_rows-most.ensures))
 
@@ -53,7 +53,7 @@ loop-machine-preserved g c =
     in let so = c.loop-machine.invariant
     in let few = c.is_under.ensures c.if-not-is_under.false
     in let here = few.0 in let most = few.1 in let low = so.low
-    in let spans = c.requires.under c.in-Some.machine here (its_known c.requires.can so.left c.in-Some.ensures)
+    in let spans = c.requires.can.under c.in-Some.machine here (its_known c.requires.can.can so.left c.in-Some.ensures)
     in subst (λ (rs : List Raise). IsTakenSo c.args.least c.args.limit old on rs c.pop_first.new.self
     c.loop-machine.most) (sym c.take_raise-raise.ensures.empty)
     (taken_passed so c.in-Some.ensures (nothing_raised g.L.StateLanes.GREATEST) refl (omega arith))
