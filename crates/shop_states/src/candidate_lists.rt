@@ -190,11 +190,7 @@ fn list_on_machine<L: StateLanes>(
     ensures long { length owns.new ≡ length owns.old }
     ensures room { vec_capacity candidates.old ≤ vec_capacity candidates.new }
 {
-    let FirstEnd {
-        chosen,
-        machine,
-        end,
-    } = first;
+    let (chosen, machine, end) = (first.chosen, first.machine, first.end);
     let next = state.next.as_slice();
     let (from, behind) = grid.blocks_of(grid.fixed_blocks_each(), machine);
     let to = from + (behind - from).min(MOST_MARKED);

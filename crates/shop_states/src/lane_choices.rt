@@ -84,17 +84,10 @@ pub(crate) fn conflict_set<const WORDS: usize, L: StateLanes>(
     ensures { IsGatheredWith blocks.chosen (IsJobBelow grid.now (L.heads lanes.now)
         (IsInBlocks blocks.from blocks.behind) blocks.end) result }
 {
-    let ConflictBlocks {
-        chosen,
-        end,
-        to,
-        behind,
-        below,
-        ..
-    } = blocks;
+    let (to, behind, end) = (blocks.to, blocks.behind, blocks.end);
     let mut jobs = JobSet::new();
-    jobs.put(chosen);
-    gather_marked(&mut jobs, below, grid);
+    jobs.put(blocks.chosen);
+    gather_marked(&mut jobs, blocks.below, grid);
     gather_in_blocks(&mut jobs, lanes, grid, to, behind, end);
     jobs.rises();
     jobs
