@@ -92,12 +92,8 @@ fn write_back<B: Block>(
     ensures { WritesOwnSpans B.value rows.now owns.old owns.new }
 {
     let one = B::splat(1);
-    let ColumnEnds {
-        begins,
-        before,
-        mut clocks,
-        mut behind,
-    } = ends;
+    let (begins, before) = (ends.begins, ends.before);
+    let (mut clocks, mut behind) = (ends.clocks, ends.behind);
     let mut block = count / 8;
     while block > 0 {
         block -= 1;
