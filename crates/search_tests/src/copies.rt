@@ -312,13 +312,24 @@ fn assert_walk_in_lanes(
     }
 }
 
-#[test]
-fn dispatches_in_copies(rt: HostRuntime) {
+/// Walks a random word of each instance with long machines, to which routes come back. Machines of more than 64
+/// operations are marked in several parts, and operations of time 0 are among them.
+fn assert_walks_of_long_machines(rt: &impl Abort, alloc: Global, manner: Manner) {
     let mut numbers = Numbers { state: 7 };
     for shape in &SHAPES {
-        let instance = made(&rt, rt.alloc(), &mut numbers, shape, 5);
-        assert_walk_in_lanes(&rt, rt.alloc(), &mut numbers, &instance, Manner::Alone);
+        let instance = made(rt, alloc, &mut numbers, shape, 5);
+        assert_walk_in_lanes(rt, alloc, &mut numbers, &instance, manner);
     }
+}
+
+#[test]
+fn dispatches_in_copies(rt: HostRuntime) {
+    assert_walks_of_long_machines(&rt, rt.alloc(), Manner::Alone);
+}
+
+#[test]
+fn dispatches_children_in_copies_of_long_machines(rt: HostRuntime) {
+    assert_walks_of_long_machines(&rt, rt.alloc(), Manner::Together);
 }
 
 /// How many jobs and machines, and the greatest time: of one to nine blocks a machine, in lanes of each width.
