@@ -16,15 +16,15 @@ returns-then-upto-load g c = search (rules, leaps_within)
 
 pub returns-then-ahead-upto : goal.returns-then-ahead-upto
 returns-then-ahead-upto g c = leaps_past c.loop-settled.invariant c.load_of-load.ensures g.B.Block.GREATEST
-    (nearest_in g.B.Block.value c.args.rows.now c.requires.can.whole_blocks g.B.Block.GREATEST (c.loop-settled.settled + 1)
-    c.nearest_of-ahead.result
+    (nearest_in g.B.Block.value c.args.rows.now c.requires.can.whole_blocks g.B.Block.GREATEST
+    (c.loop-settled.settled + 1) c.nearest_of-ahead.result
     (let below = c.requires.can.below in let left = c.loop-settled-test.true in omega arith) c.nearest_of-ahead.ensures)
     (let far = c.if-ahead-upto.true in let below = c.requires.can.below in omega arith) c.args.limit
 
 pub returns-then-bound-limit : goal.returns-then-bound-limit
 returns-then-bound-limit g c = leaps_reached (leap c.loop-settled.invariant c.load_of-load.ensures g.B.Block.GREATEST
-    (next_head g.B.Block.value c.args.rows.now c.requires.can.whole_blocks g.B.Block.GREATEST (c.loop-settled.settled + 1)
-    c.nearest_of-ahead.result c.args.range.upto c.requires.can.below
+    (next_head g.B.Block.value c.args.rows.now c.requires.can.whole_blocks g.B.Block.GREATEST
+    (c.loop-settled.settled + 1) c.nearest_of-ahead.result c.args.range.upto c.requires.can.below
     c.nearest_of-ahead.ensures (let near = c.if-ahead-upto.false in let left = c.loop-settled-test.true in omega arith))
     c.loop-settled-test.true (let near = c.if-ahead-upto.false in let left = c.loop-settled-test.true in omega arith)
     c.requires.can.below c.max-bound.result (search rules))
@@ -32,8 +32,8 @@ returns-then-bound-limit g c = leaps_reached (leap c.loop-settled.invariant c.lo
 
 pub loop-settled-preserved : goal.loop-settled-preserved
 loop-settled-preserved g c = leap c.loop-settled.invariant c.load_of-load.ensures g.B.Block.GREATEST
-    (next_head g.B.Block.value c.args.rows.now c.requires.can.whole_blocks g.B.Block.GREATEST (c.loop-settled.settled + 1)
-    c.nearest_of-ahead.result c.args.range.upto c.requires.can.below
+    (next_head g.B.Block.value c.args.rows.now c.requires.can.whole_blocks g.B.Block.GREATEST
+    (c.loop-settled.settled + 1) c.nearest_of-ahead.result c.args.range.upto c.requires.can.below
     c.nearest_of-ahead.ensures (let near = c.if-ahead-upto.false in let left = c.loop-settled-test.true in omega arith))
     c.loop-settled-test.true (let near = c.if-ahead-upto.false in let left = c.loop-settled-test.true in omega arith)
     c.requires.can.below c.max-bound.result (search rules)

@@ -27,7 +27,8 @@ raise_marked-requires-clause-can g c =
     in let all = all_marked l m c.fixed_blocks_each-each.result c.fixed_blocks_each-each.ensures.even
     (let some = c.if-each-eq0.false in omega arith) (omega arith) c.requires.can.machine.known
     in let can = subst (λ (b : ℕ). CanRaise g.L.StateLanes.GREATEST l c.args.next.now
-    (IsInBlocks (get_or l.blocks m 0) b) c.args.dispatch.end rows (length c.args.raises.now)) all (can_raise_all c.requires.can c.requires.known)
+    (IsInBlocks (get_or l.blocks m 0) b) c.args.dispatch.end rows (length c.args.raises.now)) all
+    (can_raise_all c.requires.can c.requires.known)
     in subst (λ (r : LayoutState). CanRaise g.L.StateLanes.GREATEST r c.args.next.now (IsIn c.args.dispatch.delayed)
     c.args.dispatch.end (rows_of r (g.L.StateLanes.heads c.args.lanes.now) (g.L.StateLanes.ends c.args.lanes.now))
     (length c.args.raises.now)) (sym c.routes-routes.ensures)

@@ -6,8 +6,8 @@ use Rattle.shop_states.specs.inner.HeadRaises.{raise_in, raises_in}
 use Rattle.shop_states.specs.inner.RaiseCalls.{CanRaise, HasRaised}
 use Rattle.shop_states.specs.inner.Raises.{IsInBlocks}
 use Rattle.shop_states.specs.inner.RisingLists.{IsIn}
-use Rattle.shop_states.proofs.MarkedRaises.{can_raise_all, can_raise_marked, can_raise_on, has_raised_marked, raised_all}
-use Rattle.shop_states.proofs.MarkedRaises.{raised_on}
+use Rattle.shop_states.proofs.MarkedRaises.{can_raise_all, can_raise_marked, can_raise_on, has_raised_marked}
+use Rattle.shop_states.proofs.MarkedRaises.{raised_all, raised_on}
 use Rattle.shop_states.proofs.RaiseLoops.{marks_waiting}
 use Rattle.shop_states.proofs.raises.raise_any.Goals as goal
 

@@ -1,7 +1,8 @@
 use Rattle.std.proofs.Common.{inl, inr, refl}
 use Rattle.shop_states.specs.inner.Siblings.{end_by}
 use Rattle.shop_states.proofs.LatestEnds.{ends_earlier, ends_later, ends_second}
-use Rattle.shop_states.proofs.siblings.latest_of.Goals.{then-end-latest, else-end-latest+then-job-latest+then-end-latest-2}
+use Rattle.shop_states.proofs.siblings.latest_of.Goals.{then-end-latest}
+use Rattle.shop_states.proofs.siblings.latest_of.Goals.{else-end-latest+then-job-latest+then-end-latest-2}
 use Rattle.shop_states.proofs.siblings.latest_of.Goals.{else-end-latest+else-job-latest}
 use Rattle.shop_states.proofs.siblings.latest_of.Goals.{else-job-latest-via-then-job-latest+else-end-latest-2}
 use Rattle.shop_states.proofs.siblings.latest_of.Goals.{else-job-latest-via-else-job-latest}
@@ -16,8 +17,8 @@ loop-index-preserved g c =
       | then-end-latest w ↦ rw w.latest-is (ends_later {ends = ends} so here refl end w.if-end-latest.true)
       | else-end-latest+then-job-latest+then-end-latest-2 w ↦ rw w.latest-is (ends_second {ends = ends} so here refl end
           w.if-end-latest.false w.if-job-latest.true w.if-end-latest-2.true)
-      | else-end-latest+else-job-latest w ↦ rw w.latest-is (ends_earlier {ends = ends} so here refl end w.if-end-latest.false
-          (elim w.else-job-latest.branch [
+      | else-end-latest+else-job-latest w ↦ rw w.latest-is (ends_earlier {ends = ends} so here refl end
+          w.if-end-latest.false (elim w.else-job-latest.branch [
             | else-job-latest-via-then-job-latest+else-end-latest-2 v ↦ inr v.if-end-latest-2.false
             | else-job-latest-via-else-job-latest v ↦ inl v.if-job-latest.false
           ]))

@@ -1,6 +1,7 @@
 use Rattle.std.proofs.Common.{◌∙◌, refl, arith}
 use Rattle.shop_states.specs.inner.Watchers.{no_floor}
-use Rattle.shop_states.proofs.BehindRaises.{late_all, late_begins, late_can, late_ends, late_marked, late_on, late_waits}
+use Rattle.shop_states.proofs.BehindRaises.{late_all, late_begins, late_can, late_ends, late_marked, late_on}
+use Rattle.shop_states.proofs.BehindRaises.{late_waits}
 use Rattle.shop_states.proofs.Watching.{watch_both, watch_none}
 use Rattle.shop_states.proofs.siblings.raise_late.Goals as goal
 
