@@ -300,6 +300,9 @@ fn assert_walk_in_lanes(
         LaneLayout::In16By3(laid_out) => {
             assert_walk(rt, alloc, numbers, laid_out, instance, manner)
         }
+        LaneLayout::In16By4(laid_out) => {
+            assert_walk(rt, alloc, numbers, laid_out, instance, manner)
+        }
         LaneLayout::In16(laid_out) => {
             assert_walk(rt, alloc, numbers, laid_out, instance, manner)
         }

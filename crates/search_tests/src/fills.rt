@@ -94,6 +94,7 @@ fn assert_fills_in_lanes(
     match layout.lanes() {
         LaneLayout::In16By2(laid_out) => assert_fills(rt, numbers, laid_out, instance),
         LaneLayout::In16By3(laid_out) => assert_fills(rt, numbers, laid_out, instance),
+        LaneLayout::In16By4(laid_out) => assert_fills(rt, numbers, laid_out, instance),
         LaneLayout::In16(laid_out) => assert_fills(rt, numbers, laid_out, instance),
         LaneLayout::In32(laid_out) => assert_fills(rt, numbers, laid_out, instance),
         LaneLayout::In64(laid_out) => assert_fills(rt, numbers, laid_out, instance),

@@ -179,7 +179,7 @@ impl<B: Block, const EACH: usize> StateLanes for BlockLanes<B, EACH> {
 
     #[inline(always)]
     fn first_least_end(&self) -> (usize, u64) {
-        first_least::<B>(self.ends())
+        first_least::<B, EACH>(self.ends())
     }
 
     #[inline(always)]
@@ -187,7 +187,7 @@ impl<B: Block, const EACH: usize> StateLanes for BlockLanes<B, EACH> {
         let (first, end) = (8 * from, 8 * to);
         Marks::new(
             first,
-            bits_up_to::<B>(&self.heads()[first..end], limit.saturating_sub(1)),
+            bits_up_to::<B, EACH>(&self.heads()[first..end], limit.saturating_sub(1)),
         )
     }
 
@@ -226,6 +226,6 @@ impl<B: Block, const EACH: usize> StateLanes for BlockLanes<B, EACH> {
 
     #[inline(always)]
     fn own_spans(&self, fixed: &FixedBlocks<B>, from: usize, to: usize, owns: &mut [B::Number]) {
-        own_spans::<B>(&self.rows(fixed).blocks(from, to), owns)
+        own_spans::<B, EACH>(&self.rows(fixed).blocks(from, to), owns)
     }
 }

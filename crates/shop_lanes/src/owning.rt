@@ -148,9 +148,9 @@ fn own_spans_of_longer<B: Block>(rows: &LaneRows<B::Number>, owns: &mut [B::Numb
 }
 
 /// Writes into `owns` the own span of each waiting operation: how late the operation, and the others with their tails,
-/// end if it starts first, at its head, and they follow by rank.
+/// end if it starts first, at its head, and they follow by rank. `EACH` is as for `bits_up_to`.
 #[inline(always)]
-pub(crate) fn own_spans<B: Block>(rows: &LaneRows<B::Number>, owns: &mut [B::Number])
+pub(crate) fn own_spans<B: Block, const EACH: usize>(rows: &LaneRows<B::Number>, owns: &mut [B::Number])
     requires { CanOwn B.value B.GREATEST rows.now owns.old }
     ensures { WritesOwnSpans B.value rows.now owns.old owns.new }
 {
@@ -158,6 +158,7 @@ pub(crate) fn own_spans<B: Block>(rows: &LaneRows<B::Number>, owns: &mut [B::Num
         8 => own_spans_of::<B>(8, rows, owns),
         16 => own_spans_of::<B>(16, rows, owns),
         24 => own_spans_of::<B>(24, rows, owns),
+        32 if EACH == 4 => own_spans_of::<B>(32, rows, owns),
         _ => own_spans_of_longer::<B>(rows, owns),
     }
 }

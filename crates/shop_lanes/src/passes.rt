@@ -120,9 +120,10 @@ fn bits_of_longer<B: Block>(heads: &[B::Number], upto: u64) -> u64
     }
 }
 
-/// Sets bit i of the result if number i of `heads` is above 0 and at most `upto`.
+/// Sets bit i of the result if number i of `heads` is above 0 and at most `upto`. Code for four blocks is inlined only
+/// where each machine has four, as `EACH` says.
 #[inline(always)]
-pub(crate) fn bits_up_to<B: Block>(heads: &[B::Number], upto: u64) -> u64
+pub(crate) fn bits_up_to<B: Block, const EACH: usize>(heads: &[B::Number], upto: u64) -> u64
     requires whole_blocks { length heads.now % 8 ≡ 0 }
     requires few { length heads.now ≤ 64 }
     requires fits { upto ≤ B.GREATEST }
@@ -132,6 +133,7 @@ pub(crate) fn bits_up_to<B: Block>(heads: &[B::Number], upto: u64) -> u64
         8 => bits_between::<B>(8, heads, 0, upto),
         16 => bits_between::<B>(16, heads, 0, upto),
         24 => bits_between::<B>(24, heads, 0, upto),
+        32 if EACH == 4 => bits_between::<B>(32, heads, 0, upto),
         _ => bits_of_longer::<B>(heads, upto),
     }
 }
@@ -243,9 +245,9 @@ fn first_least_of_longer<B: Block>(numbers: &[B::Number]) -> (usize, u64)
     }
 }
 
-/// The first position of the least number of `numbers`, and this least number.
+/// The first position of the least number of `numbers`, and this least number. `EACH` is as for `bits_up_to`.
 #[inline(always)]
-pub(crate) fn first_least<B: Block>(numbers: &[B::Number]) -> (usize, u64)
+pub(crate) fn first_least<B: Block, const EACH: usize>(numbers: &[B::Number]) -> (usize, u64)
     requires { CanFindLeast B.value B.GREATEST numbers.now }
     ensures { IsLeastFound (map B.value numbers.now) result }
 {
@@ -253,6 +255,7 @@ pub(crate) fn first_least<B: Block>(numbers: &[B::Number]) -> (usize, u64)
         8 => first_least_of::<B>(8, numbers),
         16 => first_least_of::<B>(16, numbers),
         24 => first_least_of::<B>(24, numbers),
+        32 if EACH == 4 => first_least_of::<B>(32, numbers),
         _ => first_least_of_longer::<B>(numbers),
     }
 }

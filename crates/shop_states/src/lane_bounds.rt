@@ -139,6 +139,7 @@ pub(crate) fn take_spans<L: StateLanes>(
     match laid.grid.fixed_blocks_each() {
         2 => take_spans_of::<L, 2>(raises, raised, ceilings, laid, least, limit),
         3 => take_spans_of::<L, 3>(raises, raised, ceilings, laid, least, limit),
+        4 => take_spans_of::<L, 4>(raises, raised, ceilings, laid, least, limit),
         _ => take_any_spans(raises, raised, ceilings, laid, least, limit),
     }
 }

@@ -217,7 +217,7 @@ pub(crate) fn raise<L: StateLanes>(
         (raises_in L.value raises.old) (raises_in L.value raises.new) raised.new }
 {
     let each = grid.fixed_blocks_each();
-    if each == 0 || each > 3 {
+    if each == 0 || each > 4 {
         if raises.len() <= 64 {
             return raise_any::<L, true>(lanes, raises, raised, grid, next, dispatch);
         }

@@ -14,11 +14,12 @@ use std::alloc::{AllocError as NoMemory, Global};
 /// A walk over states in lanes of the type `L`.
 type WalkerIn<'l, 'a, L> = Walker<'l, 'a, LaidOut<'a, L>, State<L>>;
 
-/// A walk in lanes of 16, 32 or 64 bits; in those of 16 bits for two, three or any number of blocks a machine.
+/// A walk in lanes of 16, 32 or 64 bits; in those of 16 bits for two, three, four or any number of blocks a machine.
 #[derive(Drop)]
 pub(crate) enum LaneWalker<'l, 'a> {
     In16By2(WalkerIn<'l, 'a, Lanes16<2>>),
     In16By3(WalkerIn<'l, 'a, Lanes16<3>>),
+    In16By4(WalkerIn<'l, 'a, Lanes16<4>>),
     In16(WalkerIn<'l, 'a, Lanes16<0>>),
     In32(WalkerIn<'l, 'a, Lanes32>),
     In64(WalkerIn<'l, 'a, Lanes64>),
@@ -44,6 +45,9 @@ impl<'l, 'a> LaneWalker<'l, 'a> {
             }
             LaneLayout::In16By3(laid_out) => {
                 LaneWalker::In16By3(Walker::new(alloc, instance, laid_out, most)?)
+            }
+            LaneLayout::In16By4(laid_out) => {
+                LaneWalker::In16By4(Walker::new(alloc, instance, laid_out, most)?)
             }
             LaneLayout::In16(laid_out) => {
                 LaneWalker::In16(Walker::new(alloc, instance, laid_out, most)?)
@@ -75,6 +79,7 @@ impl<'l, 'a> LaneWalker<'l, 'a> {
         match self {
             LaneWalker::In16By2(walker) => walker.search(alloc, piece, best, budget),
             LaneWalker::In16By3(walker) => walker.search(alloc, piece, best, budget),
+            LaneWalker::In16By4(walker) => walker.search(alloc, piece, best, budget),
             LaneWalker::In16(walker) => walker.search(alloc, piece, best, budget),
             LaneWalker::In32(walker) => walker.search(alloc, piece, best, budget),
             LaneWalker::In64(walker) => walker.search(alloc, piece, best, budget),

@@ -19,7 +19,10 @@ fn bytes_of_number(layout: &Layout) -> usize
     ensures some { 0 < result }
 {
     match layout.lanes() {
-        LaneLayout::In16By2(_) | LaneLayout::In16By3(_) | LaneLayout::In16(_) => 2,
+        LaneLayout::In16By2(_)
+        | LaneLayout::In16By3(_)
+        | LaneLayout::In16By4(_)
+        | LaneLayout::In16(_) => 2,
         LaneLayout::In32(_) => 4,
         LaneLayout::In64(_) => 8,
     }

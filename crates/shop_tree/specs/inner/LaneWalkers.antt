@@ -4,12 +4,13 @@
 --     IsWalkOf shop w      it searches this instance, and its states are kept
 use Rattle.std.specs.Prelude.{◌≡◌}
 use Rattle.shop_model.specs.Shop.{Shop}
-use Rattle.shop_tree.specs.declared.lane_walkers.LaneWalker.TheVariants.{In16By2, In16By3, In16, In32, In64}
+use Rattle.shop_tree.specs.declared.lane_walkers.LaneWalker.TheVariants.{In16By2, In16By3, In16By4, In16, In32, In64}
 use Rattle.shop_tree.specs.{declared.lane_walkers.LaneWalker.LaneWalker, inner.StateWalkers.HasStates}
 
 abbrev pub shop_walked : LaneWalker → Shop
 shop_walked (In16By2 w) = w.progress.instance.now
 shop_walked (In16By3 w) = w.progress.instance.now
+shop_walked (In16By4 w) = w.progress.instance.now
 shop_walked (In16 w) = w.progress.instance.now
 shop_walked (In32 w) = w.progress.instance.now
 shop_walked (In64 w) = w.progress.instance.now
@@ -17,6 +18,7 @@ shop_walked (In64 w) = w.progress.instance.now
 abbrev pub HasLaneStates : LaneWalker → Type 0
 HasLaneStates (In16By2 w) = HasStates w
 HasLaneStates (In16By3 w) = HasStates w
+HasLaneStates (In16By4 w) = HasStates w
 HasLaneStates (In16 w) = HasStates w
 HasLaneStates (In32 w) = HasStates w
 HasLaneStates (In64 w) = HasStates w

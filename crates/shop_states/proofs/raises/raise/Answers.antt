@@ -23,7 +23,7 @@ raise_marked-requires-clause-can g c =
     let l = c.args.grid.now in let m = c.args.dispatch.machine
     in let rows = rows_of l (g.L.StateLanes.heads c.args.lanes.now) (g.L.StateLanes.ends c.args.lanes.now)
     in let ordered = c.requires.can.machine.ordered in let within = c.requires.can.machine.within
-    in let few = c.if-each-gt3.false
+    in let few = c.if-each-gt4.false
     in let all = all_marked l m c.fixed_blocks_each-each.result c.fixed_blocks_each-each.ensures.even
     (let some = c.if-each-eq0.false in omega arith) (omega arith) c.requires.can.machine.known
     in let can = subst (λ (b : ℕ). CanRaise g.L.StateLanes.GREATEST l c.args.next.now
@@ -45,7 +45,7 @@ returns g c =
     in let before = raises_in g.L.StateLanes.value c.args.raises.now
     in let after = raises_in g.L.StateLanes.value c.raise_marked.new.raises
     in let ordered = c.requires.can.machine.ordered in let within = c.requires.can.machine.within
-    in let few = c.if-each-gt3.false
+    in let few = c.if-each-gt4.false
     in let all = all_marked l m c.fixed_blocks_each-each.result c.fixed_blocks_each-each.ensures.even
     (let some = c.if-each-eq0.false in omega arith) (omega arith) c.requires.can.machine.known
     in let raised = subst (λ (r : LayoutState). HasRaised g.L.StateLanes.GREATEST r c.args.next.now
