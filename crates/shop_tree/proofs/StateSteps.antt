@@ -1,13 +1,14 @@
 -- Steps of a walk over states: where it stands before and after, and what waits.
-use Rattle.std.proofs.Common.{◌≡◌, ℕ, List, ◌++◌, All, map}
+use Rattle.std.proofs.Common.{◌≡◌, ℕ, ◌<◌, List, ◌++◌, All, length, map}
 use Rattle.std.proofs.Common.{◌∙◌, refl, sym, ap, subst, arith, Result, Ok, Err, Option, Some, None}
+use Rattle.shop_model.specs.Shop.{operation_count}
 use Rattle.shop_bound.specs.Bound.{lb}
 use Rattle.shop_tree.specs.declared.held.Held.{Held}
 use Rattle.shop_tree.specs.inner.Held.{IsKept, Kept, held, with_held_rest}
 use Rattle.shop_tree.specs.declared.walkers.Walker.{Walker}
-use Rattle.shop_tree.specs.inner.Slots.{HoldSlots}
+use Rattle.shop_tree.specs.inner.Slots.{HaveStayed, HoldSlots, Lists}
 use Rattle.shop_tree.specs.inner.StateWalkers.{stage_of, AreHeld, HasCandidates, HasGoneOn, HasReached, HasStates}
-use Rattle.shop_tree.specs.inner.StateWalkers.{IsAtState, StandsAs, StandsAt}
+use Rattle.shop_tree.specs.inner.StateWalkers.{IsAtState, IsListedAt, StandsAs, StandsAt}
 use Rattle.shop_states.specs.declared.dispatching.Dispatching.{Ghosts}
 use Rattle.std.specs.Result.{OnOk}
 use Rattle.shop_tree.specs.inner.Walkers.{Stage, HasExpanded, IsInOrder}
@@ -25,10 +26,10 @@ pub stands_still : {D S C T E : Type 0} {g : Ghosts D S C} (v w : Walker D S C g
     → stage_of w ≡ stage_of v → w.candidates.items ≡ v.candidates.items
     → w.states.dispatcher.now ≡ v.states.dispatcher.now
     → AreHeld (g.IsStateOf v.states.dispatcher.now) w.path.items w.stack.items
-    → OnOk r (HoldSlots g.IsSlot g.IsScratch w.states)
-    → OnOk r (w.states.current.value ≡ v.states.current.value) → OnOk r (StandsAs v w)
-stands_still {g = g} v w (Ok x) stage candidates same held sound current = grind arith
-stands_still v w (Err e) stage candidates same held sound current = tt
+    → OnOk r (HoldSlots g w.states)
+    → OnOk r (HaveStayed v.states w.states) → OnOk r (StandsAs v w)
+stands_still {g = g} v w (Ok x) stage candidates same held sound stayed = grind arith
+stands_still v w (Err e) stage candidates same held sound stayed = tt
 
 pub stands_where : {D S C : Type 0} {g : Ghosts D S C} (v : Walker D S C g) → HasStates v → StandsAs v v
 stands_where v states = record { stage = refl; candidates = refl; dispatcher = refl; current = refl; states = states }
@@ -76,3 +77,30 @@ gone v w is h = subst (λ (t : Option ℕ). HasGoneOn v w t) is h
 pub ended : {D S C : Type 0} {g : Ghosts D S C} (v w : Walker D S C g) {told : Option ℕ} → told ≡ None
     → HasGoneOn v w told → HasExpanded (stage_of v) (stage_of w) × HasStates w
 ended v w is h = subst (λ (t : Option ℕ). HasGoneOn v w t) is h
+
+-- and where they are listed
+pub listed_stand : {D S C : Type 0} {g : Ghosts D S C} {v w : Walker D S C g} {b n : ℕ} → StandsAs v w
+    → IsListedAt v b n → IsListedAt w b n
+listed_stand {v} {w} {n = n} s at = record {
+  at = still_at w at.at s.stage s.states (state_stands s at.at.state);
+  short = (let a = at.short in let e = v.progress.counted in let f = w.progress.counted
+      in let h : operation_count w.progress.instance.now ≡ operation_count v.progress.instance.now =
+      ap (λ (t : Stage). operation_count t.shop) s.stage
+      in let k : length w.path.items ≡ length v.path.items = ap (λ (t : Stage). length t.word) s.stage in omega arith);
+  candidates = candidates_stand s n at.candidates;
+}
+
+-- so they are, once they were listed
+pub listed_at : {D S C : Type 0} {g : Ghosts D S C} {v w : Walker D S C g} {b n : ℕ} → StandsAt v b
+    → stage_of w ≡ stage_of v → w.stack.items ≡ v.stack.items → w.states.dispatcher.now ≡ v.states.dispatcher.now
+    → w.states.current.value ≡ v.states.current.value → HoldSlots g w.states
+    → length w.path.items < w.progress.operations
+    → Lists g v.states w.path.items w.progress.best w.candidates.items n → IsListedAt w b n
+listed_at {g = g} {v} {w} {n = n} at stage stack same current slots short lists =
+    let word : w.path.items ≡ v.path.items = ap (λ (t : Stage). t.word) stage
+    in record {
+      at = still_at w at stage (record { held = rw (same, word, stack) at.states.held; states = slots })
+          (rw (same, word, current) at.state);
+      short = short;
+      candidates = rw same lists;
+    }

@@ -24,14 +24,14 @@ advance-requires-clause-can g c =
     in let word = self.path.items
     in let cand = c.index-candidate.result.now
     in let one = one_listed self.candidates.items cand _ c.requires.one c.index-candidate.ensures
-    in let at = c.requires.at
+    in let at = c.requires.listed.at
     in record {
       word = word;
       is = (
         at.state,
-        alone_own one c.requires.candidates,
+        alone_own one c.requires.listed.candidates,
       );
-      fits = alone_fits one c.requires.candidates (g.met.D.Dispatching.state_is_of_word d word self.states.current.value
+      fits = alone_fits one c.requires.listed.candidates (g.met.D.Dispatching.state_is_of_word d word self.states.current.value
           at.state);
       bound_is = at.bound ∙ ap (λ (x : Shop). lb x word) (sym self.same_shop);
     }
@@ -39,9 +39,9 @@ advance-requires-clause-can g c =
 pub overflow_add-closed : goal.overflow_add-closed
 overflow_add-closed g c =
     let self = c.args.self.now
-    in let few = few_closed c.requires.candidates
+    in let few = few_closed c.requires.listed.candidates
     in let limits = (g.met.D.Dispatching.state_is_within_limits self.states.dispatcher.now self.path.items _
-    c.requires.at.state).jobs
+    c.requires.listed.at.state).jobs
     in omega arith
 
 pub close-requires : goal.close-requires
@@ -52,18 +52,18 @@ close-requires g c =
     in let word = self.path.items
     in let cand = c.index-candidate.result.now
     in let one = one_listed self.candidates.items cand _ c.requires.one c.index-candidate.ensures
-    in let at = c.requires.at
+    in let at = c.requires.listed.at
     in let bound = at.bound ∙ ap (λ (x : Shop). lb x word) (sym self.same_shop)
     in let high = told_high self.progress.best (lb shop (word ++ cand.job ∷ [])) c.advance.result c.in_default.is
-    (c.advance.ensures.told word at.state (alone_own one c.requires.candidates) bound)
+    (c.advance.ensures.taken.told word at.state (alone_own one c.requires.listed.candidates) bound)
     in record {
       word = subst (λ (x : Shop). IsWord x word) self.same_shop
           (g.met.D.Dispatching.state_is_of_word d word self.states.current.value at.state);
       limits = subst IsWithinLimits self.same_shop
           (g.met.D.Dispatching.state_is_within_limits d word self.states.current.value at.state);
-      short = c.requires.short;
+      short = c.requires.listed.short;
       closed = subst (λ (x : Shop). AreChildren x self.progress.best word [] (c.args.closed + 1)) self.same_shop
-          (alone_closed one c.requires.candidates high);
+          (alone_closed one c.requires.listed.candidates high);
       in_order = at.in_order;
       states = record {
         held = subst (λ x. AreHeld (g.D.Dispatching.IsStateOf x) word self.stack.items)
@@ -77,11 +77,11 @@ put_rest-requires g c =
     let self = c.args.self.now
     in let d = self.states.dispatcher.now
     in let word = self.path.items
-    in let state = c.requires.at.state
+    in let state = c.requires.listed.at.state
     in let limits = g.met.D.Dispatching.state_is_within_limits d word self.states.current.value state
     in let most = word_length (g.D.Dispatching.shop d) word limits
     (g.met.D.Dispatching.state_is_of_word d word self.states.current.value state)
-    in let few = few_closed c.requires.candidates
+    in let few = few_closed c.requires.listed.candidates
     in let jobs = limits.jobs in let b = c.len.ensures in let e = self.path.ok.0
     in record { depth = omega arith; count = omega arith }
 
@@ -93,13 +93,13 @@ take_job-requires g c =
     in let word = self.path.items
     in let cand = c.index-candidate.result.now
     in let one = one_listed self.candidates.items cand _ c.requires.one c.index-candidate.ensures
-    in let at = c.requires.at
+    in let at = c.requires.listed.at
     in let longer = held_on is self.progress.instance.now self.progress.best word cand.job self.stack.items at.in_order
     at.states.held
     in let after = c.advance.new.self.current.value
     in record {
       some = c.requires.some;
-      short = c.requires.short;
+      short = c.requires.listed.short;
       held = subst (λ x. AreHeld (g.D.Dispatching.IsStateOf x) (word ++ cand.job ∷ []) c.put_rest.new.stack.items)
           (sym c.advance.ensures.dispatcher)
           (subst (λ hs. AreHeld is (word ++ cand.job ∷ []) hs) (sym c.in_ok-put_rest.ensures)
@@ -107,7 +107,7 @@ take_job-requires g c =
       slots = c.advance.ensures.sound;
       state = subst (λ x. g.D.Dispatching.IsStateOf x (word ++ cand.job ∷ []) after) (sym c.advance.ensures.dispatcher)
           (told_state (is (word ++ cand.job ∷ []) after) c.in-Some.bound c.advance.result c.in-Some.is
-          (c.advance.ensures.state word at.state (alone_own one c.requires.candidates)));
+          (c.advance.ensures.taken.state word at.state (alone_own one c.requires.listed.candidates)));
     }
 
 pub returns : goal.returns
@@ -118,17 +118,17 @@ returns g c =
     in let word = self.path.items
     in let cand = c.index-candidate.result.now
     in let one = one_listed self.candidates.items cand _ c.requires.one c.index-candidate.ensures
-    in let at = c.requires.at
+    in let at = c.requires.listed.at
     in let bound = at.bound ∙ ap (λ (x : Shop). lb x word) (sym self.same_shop)
-    in let own = alone_own one c.requires.candidates
+    in let own = alone_own one c.requires.listed.candidates
     in let is_word = g.met.D.Dispatching.state_is_of_word d word self.states.current.value at.state
     in let low = told_low self.progress.best (lb shop (word ++ cand.job ∷ [])) c.in-Some.bound c.advance.result
-    c.in-Some.is (c.advance.ensures.told word at.state own bound)
+    c.in-Some.is (c.advance.ensures.taken.told word at.state own bound)
     in let o : Open = record { depth = length word; job = cand.job; bound = c.in-Some.bound }
     in let kids : AreChildren self.progress.instance.now self.progress.best word (o ∷ []) c.args.closed =
     subst (λ (x : Shop). AreChildren x self.progress.best word (o ∷ []) c.args.closed) self.same_shop
-    (alone_kept one c.requires.candidates o is_word refl refl low.0 low.1)
-    in let short : length word < operation_count self.progress.instance.now = (let a = c.requires.short
+    (alone_kept one c.requires.listed.candidates o is_word refl refl low.0 low.1)
+    in let short : length word < operation_count self.progress.instance.now = (let a = c.requires.listed.short
     in let b = self.progress.counted in omega arith)
     in let new = c.put_rest.new.stack.items
     in let depth : c.len.result ≡ length word = (let a = c.len.ensures in let b = self.path.ok.0 in omega arith)
