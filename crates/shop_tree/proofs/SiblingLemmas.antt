@@ -23,8 +23,9 @@ use Rattle.shop_tree.specs.declared.walk_states.WalkStates.{WalkStates}
 use Rattle.shop_tree.specs.inner.Held.{IsHeldOf, IsKept, Kept, held, opens_in}
 use Rattle.shop_tree.specs.inner.Opens.{AreChildren}
 use Rattle.shop_tree.specs.inner.Slots.{AreBounded, IsBranchingOf, IsStateIn, Lists}
-use Rattle.shop_tree.specs.inner.Tried.{HasGiven, HasPutChildren, IsChildBelow}
+use Rattle.shop_tree.specs.inner.Tried.{HasGiven, HasPutChildren}
 use Rattle.shop_tree.proofs.StripLemmas.{at_kid, many}
+use Rattle.shop_tree.proofs.TrialLemmas.{IsChildBelow}
 
 -- the bound of a settled child
 pub settled_bound : (shop : Shop) (word : List ℕ) (bound top : ℕ) (cs : List Candidate)

@@ -98,20 +98,6 @@ impl<'l, 'a, D: Dispatching<S>, S: Drop> Walker<'l, 'a, D, S> {
         Ok(Some(bound))
     }
 
-    /// Takes the state, if any, from entry `stripped` of the stack, keeps it as a spare, and adds 1 to `stripped`.
-    /// Fails with `NoMemory` if memory runs out.
-    fn strip_next(&mut self) -> Result<(), NoMemory>
-        requires within { self.old.stripped < length self.old.stack.items }
-        requires states { HasStates self.old }
-        ensures stands { OnOk result (StandsAs self.old self.new) }
-        ensures later { self.new.stripped ≡ self.old.stripped + 1 }
-        ensures length { length self.new.stack.items ≡ length self.old.stack.items }
-    {
-        let state = self.stack[self.stripped].state.take();
-        self.stripped += 1;
-        self.states.give_back(state)
-    }
-
     /// Takes states from the lowest entries of the stack until `wanted` states are free, or no entry has a state left.
     /// Fails with `NoMemory` if memory runs out.
     #[inline(never)]
@@ -120,7 +106,9 @@ impl<'l, 'a, D: Dispatching<S>, S: Drop> Walker<'l, 'a, D, S> {
         ensures stands { OnOk result (StandsAs self.old self.new) }
     {
         while self.states.free() < wanted && self.stripped < self.stack.len() {
-            self.strip_next()?;
+            let state = self.stack[self.stripped].state.take();
+            self.stripped += 1;
+            self.states.give_back(state)?;
         }
         Ok(())
     }

@@ -7,11 +7,10 @@
 --     stage_of w          where it stands: what waits is told without states
 --     HasStates w         its states are kept so
 --     IsAtState w         its current state is that of the word that it came to
---     HasCandidates w n   the candidates of that word whose bounds by their own machine are below the best are at hand,
---                         and there are n others
 --     StandsAs v w        w stands where v stood, with the same current state
 --     StandsAt w b        its word has bound b, which is below the best, and all that waits and its states are in order
---     IsListedAt w b n    so, its word isn't full, and its candidates are at hand, but for n others
+--     IsListedAt w b n    so, its word isn't full, and its candidates with own numbers below the best are at hand, but
+--                         for n others
 --     HasReached v w b    the walk went on from v's word to one with bound b, and took it
 --     HasGoneOn v w told  the walk went on from v's word to a child with the bound that is told, or had nowhere to go
 use Rattle.std.specs.Prelude.{◌≡◌, ℕ, ◌<◌, Option, Some, None, List, All, length}
@@ -38,9 +37,6 @@ module _ {D S C : Type 0} {g : Ghosts D S C} where
     stack = waiting_in w.stack.items;
   }
 
-  abbrev pub HasCandidates : Walker D S C g → ℕ → Type 0
-  HasCandidates w n = Lists g w.states w.path.items w.progress.best w.candidates.items n
-
   abbrev pub IsAtState : Walker D S C g → Type 0
   IsAtState w = IsStateIn g w.states w.path.items
 
@@ -64,7 +60,7 @@ pub record StandsAt {D S C : Type 0} {g : Ghosts D S C} (w : Walker D S C g) (b 
 pub record IsListedAt {D S C : Type 0} {g : Ghosts D S C} (w : Walker D S C g) (b n : ℕ) : Type 0 where
   pub at : StandsAt w b
   pub short : length w.path.items < w.progress.operations
-  pub candidates : HasCandidates w n
+  pub candidates : Lists g w.states w.path.items w.progress.best w.candidates.items n
 
 pub record HasReached {D S C : Type 0} {g : Ghosts D S C} (v w : Walker D S C g) (b : ℕ) : Type 0 where
   pub followed : HasFollowed (stage_of v) (stage_of w)

@@ -1,4 +1,4 @@
-use Rattle.std.proofs.Common.{◌≡◌, ◌+◌, ◌<◌, ◌≤◌, ◌-◌, [], ◌∷◌, ◌++◌, None, get_or, sym, ◌∙◌, ap, subst}
+use Rattle.std.proofs.Common.{◌≡◌, ◌+◌, ◌<◌, ◌≤◌, ◌-◌, [], ◌∷◌, ◌++◌, None, get_or, sym, ◌∙◌, subst}
 use Rattle.std.proofs.Common.{append-nil, arith, length, refl}
 use Rattle.std.specs.List.{insert}
 use Rattle.shop_model.proofs.WordLengths.{word_length}

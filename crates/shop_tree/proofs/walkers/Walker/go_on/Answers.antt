@@ -1,4 +1,4 @@
-use Rattle.std.proofs.Common.{◌<◌, ◌++◌, ◌∷◌, ◌∙◌, [], ℕ, length, sym, ap, subst, arith}
+use Rattle.std.proofs.Common.{◌<◌, ◌∙◌, ℕ, length, sym, ap, subst, arith}
 use Rattle.shop_model.specs.Shop.{Shop, operation_count}
 use Rattle.shop_bound.specs.Conflicts.{SoleCandidateKeepsBound}
 use Rattle.shop_nodes.specs.Branching.{conflict}
