@@ -59,29 +59,10 @@ impl<'l, 'a, D: Dispatching<S>, S: Drop> Walker<'l, 'a, D, S> {
         put_rest(&mut self.stack, self.path.len(), count)
     }
 
-    /// Follows the one listed candidate to its child, puts one entry for the `closed` other children on the stack, and
-    /// answers the child's bound. If that child is closed too, calls `close` for all children instead and answers
-    /// `None`. `bound` is the bound of the current word. Fails with `NoMemory` if memory runs out.
-    #[inline(always)]
-    fn follow_kept(&mut self, bound: u64, closed: usize) -> Result<Option<u64>, NoMemory>
-        requires one { length self.old.candidates.items ≡ 1 }
-        requires some { 0 < self.old.progress.budget }
-        requires listed { IsListedAt self.old bound closed }
-        ensures { IfOk result (HasGoneOn self.old self.new) }
-    {
-        let candidate = self.candidates[0];
-        let Some(bound) = self.states.advance(candidate, bound, self.progress.best) else {
-            self.close(closed + 1)?;
-            return Ok(None);
-        };
-        put_rest(&mut self.stack, self.path.len(), closed)?;
-        self.take_job(candidate.job);
-        Ok(Some(bound))
-    }
-
-    /// Follows the one listed candidate to its child and answers the child's bound, or `None` if the child is closed.
-    /// If `closed`, the number of other children, is 0, the child keeps `bound`. Fails with `NoMemory` if memory runs
-    /// out.
+    /// Follows the one listed candidate to its child, puts an entry for the `closed` other children, if any, on the
+    /// stack, and answers the child's bound. If no other child is closed, that is `bound`, the bound of the current
+    /// word. If the child is closed too, calls `close` for all children instead and answers `None`. Fails with
+    /// `NoMemory` if memory runs out.
     #[inline(always)]
     fn go_on(&mut self, bound: u64, closed: usize) -> Result<Option<u64>, NoMemory>
         requires one { length self.old.candidates.items ≡ 1 }
@@ -89,12 +70,18 @@ impl<'l, 'a, D: Dispatching<S>, S: Drop> Walker<'l, 'a, D, S> {
         requires listed { IsListedAt self.old bound closed }
         ensures { IfOk result (HasGoneOn self.old self.new) }
     {
-        if closed > 0 {
-            return self.follow_kept(bound, closed);
+        let candidate = self.candidates[0];
+        if closed == 0 {
+            self.states.strike(candidate.job);
+            self.take_job(candidate.job);
+            return Ok(Some(bound));
         }
-        let job = self.candidates[0].job;
-        self.states.strike(job);
-        self.take_job(job);
+        let Some(bound) = self.states.advance(candidate, bound, self.progress.best) else {
+            self.close(closed + 1)?;
+            return Ok(None);
+        };
+        put_rest(&mut self.stack, self.path.len(), closed)?;
+        self.take_job(candidate.job);
         Ok(Some(bound))
     }
 

@@ -37,8 +37,7 @@ impl<'l, D: Dispatching<S>, S: Drop> WalkStates<'l, D, S> {
         let Some(child) = bare_top(stack, from) else {
             return Ok(());
         };
-        let candidates = branching.candidates;
-        if !self.advance_to(child.job, candidates, branching.bound, branching.limit) {
+        if !self.advance_to(child.job, branching) {
             return Ok(());
         }
         let top = stack.len() - 1;

@@ -79,7 +79,8 @@ impl<'l, D: Dispatching<S>, S: Drop> WalkStates<'l, D, S> {
         requires sole { HasSoleCandidate (D.shop self.old.dispatcher.now) (IsStateIn D.Dispatching self.old) job }
         ensures sound { HoldSlots D.Dispatching self.new }
         ensures state { (w : List ℕ) → IsStateIn D.Dispatching self.old w
-            → conflict (D.shop self.old.dispatcher.now) w ≡ job ∷ [] → IsStateIn D.Dispatching self.new (w ++ job ∷ []) }
+            → conflict (D.shop self.old.dispatcher.now) w ≡ job ∷ []
+            → IsStateIn D.Dispatching self.new (w ++ job ∷ []) }
         ensures dispatcher { self.new.dispatcher.now ≡ self.old.dispatcher.now }
     {
         self.dispatcher.strike(&mut self.current, job);

@@ -81,24 +81,20 @@ impl<'l, D: Dispatching<S>, S: Drop> WalkStates<'l, D, S> {
             .dispatch_child_in_copy(scratch, &self.current, trial, candidate, bound, limit)
     }
 
-    /// Dispatches the candidate with this `job` in the current state itself, after `bound_children`, where the bound of
-    /// its child is known already, and is below `limit`. Answers whether the current state is the child's now; else it
-    /// may be no word's state any more. `bound` is the bound of the word before the dispatch.
-    pub(crate) fn advance_to(
-        &mut self,
-        job: u16,
-        candidates: &[Candidate],
-        bound: u64,
-        limit: u64,
-    ) -> bool
+    /// Dispatches the candidate of `branching` with this `job` in the current state itself, after `bound_children`. The
+    /// bound of its child is known already, and is below the limit. Answers whether the current state is the child's
+    /// now; else it may be no word's state any more.
+    pub(crate) fn advance_to(&mut self, job: u16, branching: &Branching<'_>) -> bool
         requires sound { HoldSlots D.Dispatching self.old }
-        requires can { All (λ c. CanTakeKnown D.Dispatching self.old c bound) candidates.now }
+        requires can { All (λ c. CanTakeKnown D.Dispatching self.old c branching.now.bound)
+            branching.now.candidates.now }
         ensures sound { HoldSlots D.Dispatching self.new }
         ensures state { IsTrue result → (w : List ℕ) → IsStateIn D.Dispatching self.old w
-            → All (D.IsCandidate self.old.dispatcher.now w) candidates.now
+            → All (D.IsCandidate self.old.dispatcher.now w) branching.now.candidates.now
             → IsStateIn D.Dispatching self.new (w ++ job ∷ []) }
         ensures dispatcher { self.new.dispatcher.now ≡ self.old.dispatcher.now }
     {
+        let (bound, limit, candidates) = (branching.bound, branching.limit, branching.candidates);
         for index in 0..candidates.len() {
             let candidate = candidates[index];
             if candidate.job == job {
