@@ -117,7 +117,7 @@ module _ {shop : Shop} {word : List ℕ} {limit : ℕ} {is : Candidate → Type 
 
   pub sole_listed : (cs : List Candidate) (c d : Candidate) {n : ℕ} → length cs ≡ 1 → c ≡ get_or cs 0 d → n ≡ 0
       → ListsBelow shop word limit is (conflict shop word) cs n → conflict shop word ≡ c.job ∷ []
-  sole_listed cs c d long is all_listed all = lists_all all all_listed ∙ ap (map (λ x. x.job)) (one_listed cs c d long is)
+  sole_listed cs c d long is each all = lists_all all each ∙ ap (map (λ x. x.job)) (one_listed cs c d long is)
 
   pub few_closed : {cs : List Candidate} {n : ℕ} → ListsBelow shop word limit is (conflict shop word) cs n
       → length cs + n ≤ length shop.jobs

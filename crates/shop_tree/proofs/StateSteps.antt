@@ -6,9 +6,9 @@ use Rattle.shop_bound.specs.Bound.{lb}
 use Rattle.shop_tree.specs.declared.held.Held.{Held}
 use Rattle.shop_tree.specs.inner.Held.{IsKept, Kept, held, with_held_rest}
 use Rattle.shop_tree.specs.declared.walkers.Walker.{Walker}
-use Rattle.shop_tree.specs.inner.Slots.{HoldSlots, Lists}
+use Rattle.shop_tree.specs.inner.Slots.{HoldSlots, IsStateIn, Lists}
 use Rattle.shop_tree.specs.inner.StateWalkers.{stage_of, AreHeld, HasGoneOn, HasReached, HasStates}
-use Rattle.shop_tree.specs.inner.StateWalkers.{IsAtState, IsListedAt, StandsAs, StandsAt}
+use Rattle.shop_tree.specs.inner.StateWalkers.{IsListedAt, StandsAs, StandsAt}
 use Rattle.shop_states.specs.declared.dispatching.Dispatching.{Ghosts}
 use Rattle.shop_tree.specs.inner.Walkers.{Stage, HasExpanded, IsInOrder}
 use Rattle.shop_tree.proofs.ExpandLemmas.{HasGone}
@@ -40,12 +40,12 @@ module _ {D S C : Type 0} {g : Ghosts D S C} {v w : Walker D S C g} (s : StandsA
       → Lists g w.states w.path.items w.progress.best w.candidates.items n
   candidates_stand h = rw (s.dispatcher, s.candidates, path_same, best_same) h
 
-  state_stands : IsAtState v → IsAtState w
+  state_stands : IsStateIn g v.states v.path.items → IsStateIn g w.states w.path.items
   state_stands h = grind (arith, path_same)
 
 -- and where its candidates were gathered
 pub still_at : {D S C : Type 0} {g : Ghosts D S C} {v : Walker D S C g} (w : Walker D S C g) {b : ℕ} → StandsAt v b
-    → stage_of w ≡ stage_of v → HasStates w → IsAtState w → StandsAt w b
+    → stage_of w ≡ stage_of v → HasStates w → IsStateIn g w.states w.path.items → StandsAt w b
 still_at {v} w at same states state = record {
   bound = at.bound ∙ sym (ap (λ (t : Stage). lb t.shop t.word) same);
   below = (let a = at.below in let e : w.progress.best ≡ v.progress.best = ap (λ (t : Stage). t.walk.best) same
@@ -57,7 +57,7 @@ still_at {v} w at same states state = record {
 
 -- a walk that went on stands at the word that it took
 pub reached : {D S C : Type 0} {g : Ghosts D S C} (v w : Walker D S C g) (b : ℕ) → HasGone (stage_of v) (stage_of w) b
-    → HasStates w → IsAtState w → HasReached v w b
+    → HasStates w → IsStateIn g w.states w.path.items → HasReached v w b
 reached v w b gone states state = grind (arith, gone)
 
 -- what is told of a walk that went on, and of one that didn't

@@ -5,7 +5,7 @@ ghost use Rattle.shop_model.specs.Word.{IsWord};
 ghost use Rattle.shop_tree.specs.inner.Opens.{AreChildren};
 ghost use Rattle.shop_tree.specs.inner.Slots.{HoldSlots, IsStateIn};
 ghost use Rattle.shop_tree.specs.inner.StateWalkers.{stage_of, AreHeld, HasGoneOn, HasStates};
-ghost use Rattle.shop_tree.specs.inner.StateWalkers.{IsAtState, IsListedAt, StandsAs, StandsAt};
+ghost use Rattle.shop_tree.specs.inner.StateWalkers.{IsListedAt, StandsAs, StandsAt};
 ghost use Rattle.shop_tree.specs.inner.Walkers.{gone_on, HasBranched, HasExpanded, IsInOrder};
 
 use crate::branchings::Branching;
@@ -31,7 +31,7 @@ impl<'l, 'a, D: Dispatching<S>, S: Drop> Walker<'l, 'a, D, S> {
         requires state { IsStateIn D.Dispatching self.old.states (self.old.path.items ++ job ∷ []) }
         ensures stage { stage_of self.new ≡ gone_on (stage_of self.old) job }
         ensures states { HasStates self.new }
-        ensures state { IsAtState self.new }
+        ensures state { IsStateIn D.Dispatching self.new.states self.new.path.items }
     {
         let progress = &mut self.progress;
         progress.budget -= 1;

@@ -7,8 +7,7 @@
 --     CanTake g s c bound       the current state is that of some word of this bound, which can go on with candidate c
 --     CanTakeKnown g s c bound  so, and what a dispatch needs knows the child
 --     HasTaken g s c bound limit answer child
---                               the answer is the bound of the current word's child by c, if it is below the limit, and
---                               then this is the child's state
+--                               the child by c has the bound that is answered, if below the limit, and then this state
 --     IsBranchingOf g s b       b tells the current word, its bound and its candidates rightly
 --     AreBounded g s b top      the children of b were bounded together, and those that `top` settles have these bounds
 --     HasPutAll g s b old new n on top of the old stack lie the children of b below its limit, and there are n others
@@ -17,8 +16,8 @@ use Rattle.shop_bound.specs.Bound.{lb}
 use Rattle.shop_states.specs.States.{CanDispatch, ListsBelow, Settles, TellsBoundBelow}
 use Rattle.shop_states.specs.declared.dispatching.{Candidate.Candidate, Dispatching.Ghosts}
 use Rattle.shop_nodes.specs.Branching.{conflict}
-use Rattle.shop_tree.specs.{declared.branchings.Branching.Branching, declared.held.Held.Held}
-use Rattle.shop_tree.specs.{declared.walk_states.WalkStates.WalkStates, inner.Held.AreStates, inner.Tried.HasPutChildren}
+use Rattle.shop_tree.specs.{declared.branchings.Branching.Branching, declared.held.Held.Held, inner.Held.AreStates}
+use Rattle.shop_tree.specs.{declared.walk_states.WalkStates.WalkStates, inner.Tried.HasPutChildren}
 
 pub record HaveStayed {D S C : Type 0} (old new : WalkStates D S C) : Type 0 where
   pub current : new.current.value ≡ old.current.value

@@ -6,11 +6,9 @@
 -- Of a walker:
 --     stage_of w          where it stands: what waits is told without states
 --     HasStates w         its states are kept so
---     IsAtState w         its current state is that of the word that it came to
 --     StandsAs v w        w stands where v stood, with the same current state
---     StandsAt w b        its word has bound b, which is below the best, and all that waits and its states are in order
---     IsListedAt w b n    so, its word isn't full, and its candidates with own numbers below the best are at hand, but
---                         for n others
+--     StandsAt w b        its word has bound b, which is below the best; all that waits, and its states, are in order
+--     IsListedAt w b n    so, its word isn't full, and its candidates are at hand, but for n others
 --     HasReached v w b    the walk went on from v's word to one with bound b, and took it
 --     HasGoneOn v w told  the walk went on from v's word to a child with the bound that is told, or had nowhere to go
 use Rattle.std.specs.Prelude.{◌≡◌, ℕ, ◌<◌, Option, Some, None, List, All, length}
@@ -18,7 +16,8 @@ use Rattle.shop_bound.specs.Bound.{lb}
 use Rattle.shop_states.specs.declared.dispatching.Dispatching.{Ghosts}
 use Rattle.shop_tree.specs.{declared.held.Held.Held, declared.walk_states.WalkStates.WalkStates}
 use Rattle.shop_tree.specs.{declared.walkers.Walker.Walker, inner.Held.{IsHeld, waiting_in}, inner.Searching.walked}
-use Rattle.shop_tree.specs.{inner.Slots.{HoldSlots, IsStateIn, Lists}, inner.Walkers.{Stage, HasExpanded, HasFollowed, IsInOrder}}
+use Rattle.shop_tree.specs.inner.{Slots.{HoldSlots, IsStateIn, Lists}, Walkers.{Stage, HasExpanded, HasFollowed}}
+use Rattle.shop_tree.specs.inner.Walkers.{IsInOrder}
 
 abbrev pub AreHeld : {S : Type 0} → (List ℕ → S → Type 0) → List ℕ → List (Held S) → Type 0
 AreHeld is word hs = All (IsHeld is word) hs
@@ -37,9 +36,6 @@ module _ {D S C : Type 0} {g : Ghosts D S C} where
     stack = waiting_in w.stack.items;
   }
 
-  abbrev pub IsAtState : Walker D S C g → Type 0
-  IsAtState w = IsStateIn g w.states w.path.items
-
   abbrev pub HasStates : Walker D S C g → Type 0
   HasStates w = KeepsStates g w.path.items w.stack.items w.states
 
@@ -55,7 +51,7 @@ pub record StandsAt {D S C : Type 0} {g : Ghosts D S C} (w : Walker D S C g) (b 
   pub below : b < w.progress.best
   pub in_order : IsInOrder (stage_of w)
   pub states : HasStates w
-  pub state : IsAtState w
+  pub state : IsStateIn g w.states w.path.items
 
 pub record IsListedAt {D S C : Type 0} {g : Ghosts D S C} (w : Walker D S C g) (b n : ℕ) : Type 0 where
   pub at : StandsAt w b

@@ -60,8 +60,8 @@ loop-index-preserved-in_ok-put g c =
     in let job = (get_or cs (i - 1) none).job
     in let b = c.max-settled.result
     in let within : i - 1 < length cs = (let a = now.trying.within in omega arith)
-    in let told = settled_bound shop word at.bound c.args.top cs now.bounded.settled (i - 1) none within b c.max-settled.ensures
-    c.if-top-settled.true
+    in let told = settled_bound shop word at.bound c.args.top cs now.bounded.settled (i - 1) none within b
+    c.max-settled.ensures c.if-top-settled.true
     in let child = settled_child is shop word at.limit job b told c.if-settled-limit.true
     in let e : c.len-from.result ≡ length c.args.stack.now.items =
     (let a = c.len-from.ensures in let k = c.args.stack.now.ok.0 in omega arith)
@@ -93,8 +93,8 @@ loop-index-preserved-else-settled-limit g c =
     in let job = (get_or cs (i - 1) none).job
     in let b = c.max-settled.result
     in let within : i - 1 < length cs = (let a = now.trying.within in omega arith)
-    in let told = settled_bound shop word at.bound c.args.top cs now.bounded.settled (i - 1) none within b c.max-settled.ensures
-    c.if-top-settled.true
+    in let told = settled_bound shop word at.bound c.args.top cs now.bounded.settled (i - 1) none within b
+    c.max-settled.ensures c.if-top-settled.true
     in let high : at.limit ≤ lb shop (word ++ job ∷ []) = (let a = c.if-settled-limit.false in omega arith)
     in record {
       kids = now.kids;
@@ -134,7 +134,8 @@ loop-index-preserved-in_default g c =
     in let some : 0 < i = (let a = c.loop-index-test.true in omega arith)
     in let job = (get_or cs (i - 1) (record { job = 0; own = 0 })).job
     in let high = told_high at.limit (lb (g.D.Dispatching.shop d) (word ++ job ∷ [])) c.try_child.result
-    c.in_default.is (c.try_child.ensures.taken.told word now.branching.state (next_own some now.trying) now.branching.bound)
+    c.in_default.is (c.try_child.ensures.taken.told word now.branching.state (next_own some now.trying)
+    now.branching.bound)
     in let left = c.try_child.new.self.current.value
     in let same = c.try_child.ensures.dispatcher
     in let state = subst (λ s. g.D.Dispatching.IsStateOf d word s) (sym c.try_child.ensures.current) now.branching.state

@@ -140,6 +140,7 @@ returns-clause-children g c =
     in record {
       put = subst (λ x. HasPutChildren (g.D.Dispatching.IsStateOf x) (g.D.Dispatching.shop x) at.limit word old new
           c.loop-index.others) now.same (all_tried c.loop-index.index now.kids c.loop-index.others
-          c.loop-index.self.current.value old new (let a = c.loop-index-test.false in omega arith) now.stack now.trying);
+          c.loop-index.self.current.value old new (let a = c.loop-index-test.false in omega arith) now.stack
+          now.trying);
       more = now.more;
     }

@@ -31,8 +31,8 @@ pub returns-clause-expanded : goal.returns-clause-expanded
 returns-clause-expanded g c =
     let self = c.args.self.now
     in let new = stage_of c.push_children.new.self
-    in let short : length self.path.items < operation_count self.progress.instance.now = (let a = c.requires.listed.short
-    in let b = self.progress.counted in omega arith)
+    in let short : length self.path.items < operation_count self.progress.instance.now =
+    (let a = c.requires.listed.short in let b = self.progress.counted in omega arith)
     in on_ok _ (HasExpanded (stage_of self) new)
     (λ b. expands_branched (stage_of self) new short c.requires.listed.at.in_order
     (subst (λ (t : Stage). HasBranched t new) c.in_ok-reclaim.ensures.stands.stage b))

@@ -13,7 +13,8 @@ use Rattle.shop_tree.specs.inner.StateWalkers.{stage_of, AreHeld}
 use Rattle.shop_tree.specs.inner.Walkers.{Stage, gone_on}
 use Rattle.shop_tree.proofs.ExpandLemmas.{HasGone, follows_kept, follows_one}
 use Rattle.shop_tree.proofs.HeldLemmas.{rest_waits, states_rest}
-use Rattle.shop_tree.proofs.ListedLemmas.{alone_closed, alone_fits, alone_kept, alone_own, few_closed, one_listed, sole_listed}
+use Rattle.shop_tree.proofs.ListedLemmas.{alone_closed, alone_fits, alone_kept, alone_own, few_closed, one_listed}
+use Rattle.shop_tree.proofs.ListedLemmas.{sole_listed}
 use Rattle.shop_tree.proofs.StateLemmas.{held_on}
 use Rattle.shop_tree.proofs.StateSteps.{reached}
 use Rattle.shop_tree.proofs.TrialLemmas.{told_high, told_low, told_state}
@@ -23,8 +24,8 @@ pub strike-requires-clause-sole : goal.strike-requires-clause-sole
 strike-requires-clause-sole g c = record {
   word = c.args.self.now.path.items;
   is = c.requires.listed.at.state;
-  sole = sole_listed c.args.self.now.candidates.items c.index-candidate.result.now _ c.requires.one c.index-candidate.ensures
-      c.if-closed-eq0.true c.requires.listed.candidates;
+  sole = sole_listed c.args.self.now.candidates.items c.index-candidate.result.now _ c.requires.one
+      c.index-candidate.ensures c.if-closed-eq0.true c.requires.listed.candidates;
 }
 
 pub take_job-requires-clause-held : goal.take_job-requires-clause-held
@@ -38,8 +39,8 @@ take_job-requires-clause-held g c =
 
 pub take_job-requires-clause-state : goal.take_job-requires-clause-state
 take_job-requires-clause-state g c = c.strike.ensures.state c.args.self.now.path.items c.requires.listed.at.state
-    (sole_listed c.args.self.now.candidates.items c.index-candidate.result.now _ c.requires.one c.index-candidate.ensures
-    c.if-closed-eq0.true c.requires.listed.candidates)
+    (sole_listed c.args.self.now.candidates.items c.index-candidate.result.now _ c.requires.one
+    c.index-candidate.ensures c.if-closed-eq0.true c.requires.listed.candidates)
 
 pub returns-then-closed-eq0 : goal.returns-then-closed-eq0
 returns-then-closed-eq0 g c =
@@ -49,10 +50,10 @@ returns-then-closed-eq0 g c =
     in let word = self.path.items
     in let job = c.index-candidate.result.now.job
     in let at = c.requires.listed.at
-    in let alone = sole_listed self.candidates.items c.index-candidate.result.now _ c.requires.one c.index-candidate.ensures
-    c.if-closed-eq0.true c.requires.listed.candidates
-    in let short : length word < operation_count shop = (let a = c.requires.listed.short in let b = self.progress.counted
-    in omega arith)
+    in let alone = sole_listed self.candidates.items c.index-candidate.result.now _ c.requires.one
+    c.index-candidate.ensures c.if-closed-eq0.true c.requires.listed.candidates
+    in let short : length word < operation_count shop =
+    (let a = c.requires.listed.short in let b = self.progress.counted in omega arith)
     in let keeps : SoleCandidateKeepsBound shop word = subst (λ (x : Shop). SoleCandidateKeepsBound x word)
     self.same_shop (g.met.D.Dispatching.sole_keeps_bound d word self.states.current.value at.state)
     in let gone = follows_one (stage_of self) job short
@@ -77,8 +78,8 @@ advance-requires-clause-can g c =
         at.state,
         alone_own one c.requires.listed.candidates,
       );
-      fits = alone_fits one c.requires.listed.candidates (g.met.D.Dispatching.state_is_of_word d word self.states.current.value
-          at.state);
+      fits = alone_fits one c.requires.listed.candidates
+          (g.met.D.Dispatching.state_is_of_word d word self.states.current.value at.state);
       bound_is = at.bound ∙ ap (λ (x : Shop). lb x word) (sym self.same_shop);
     }
 

@@ -21,7 +21,8 @@ put_rest-requires g c =
     let self = c.args.self.now
     in let d = self.states.dispatcher.now
     in let word = self.path.items
-    in let limits = g.met.D.Dispatching.state_is_within_limits d word self.states.current.value c.requires.listed.at.state
+    in let limits = g.met.D.Dispatching.state_is_within_limits d word self.states.current.value
+    c.requires.listed.at.state
     in let most = word_length (g.D.Dispatching.shop d) word limits
     (g.met.D.Dispatching.state_is_of_word d word self.states.current.value c.requires.listed.at.state)
     in let few = few_closed c.requires.listed.candidates
@@ -40,7 +41,8 @@ set_rest_below-requires g c =
     in let e = ap (λ (hs : List (Held g.row.S.Denot)). length hs) c.in_ok-put_rest.ensures
     in let f = rest_long old c.len-depth.result c.args.closed
     in let h = c.len-below.ensures in let i = self.stack.ok.0
-    in let limits = g.met.D.Dispatching.state_is_within_limits d word self.states.current.value c.requires.listed.at.state
+    in let limits = g.met.D.Dispatching.state_is_within_limits d word self.states.current.value
+    c.requires.listed.at.state
     in let most = word_length (g.D.Dispatching.shop d) word limits
     (g.met.D.Dispatching.state_is_of_word d word self.states.current.value c.requires.listed.at.state)
     in let few = few_open put.children
