@@ -32,16 +32,6 @@ fn judge(alloc: Global, instance: &Instance, schedule: &[u8]) -> Result<(bool, V
     }
 }
 
-/// Answers the schedule text: `schedule` if it is given, else the instance text itself.
-fn schedule_or<'t>(schedule: Option<&'t [u8]>, text: &'t [u8]) -> &'t [u8]
-    ensures { result.now ≡ schedule_in text.now (option_copied schedule.entry) }
-{
-    match schedule {
-        Some(schedule) => schedule,
-        None => text,
-    }
-}
-
 /// Judges a schedule for the instance of `text` that the arguments name: tells whether it is feasible, and answers the
 /// line of the verdict. Without `schedule`, the schedule stands in the instance text itself. Reads and writes no
 /// device. For library callers: the program doesn't use `check_bytes`.
@@ -62,7 +52,7 @@ pub fn check_bytes(
 {
     let named = read(alloc, args.format, text)?;
     let asked = ask(named.as_slice(), &args.name)?;
-    judge(alloc, &asked.instance, schedule_or(schedule, text))
+    judge(alloc, &asked.instance, schedule.unwrap_or(text))
 }
 
 /// Answers the schedule text: all of the second source, or the instance text if there is none. Fails if the source

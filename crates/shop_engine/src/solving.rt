@@ -3,12 +3,12 @@ ghost use Rattle.std.specs.Prelude.{◌≡◌, ◌<◌, ◌^◌, IfOk, IfErr};
 ghost use Rattle.shop_model.specs.Shop.{IsFeasible};
 ghost use Rattle.shop_model.specs.Checking.{HasShape, starts_of};
 ghost use Rattle.shop_text.specs.Texts.{OrNoMemory};
-ghost use Rattle.shop_text.specs.Writing.{report_text, text_with_gantt};
+ghost use Rattle.shop_text.specs.Writing.{text_with_gantt};
 ghost use Rattle.shop_text.specs.Names.{shop_of_named};
 ghost use Rattle.shop_runs.specs.Runs.{planned, SaysAnswer};
 ghost use Rattle.shop_engine.specs.Asking.{name_in, IsAskFault};
 ghost use Rattle.shop_engine.specs.Headline.{IsRight, IsDetermined, IsRightOf, IsDeterminedOf, WhereKnown};
-ghost use Rattle.shop_engine.specs.Solving.{IsSolving};
+ghost use Rattle.shop_engine.specs.Solving.{IsSolution, IsSolving};
 ghost use Rattle.shop_engine.specs.SolvedSchedules.{GivesSchedule, PassesCheck};
 ghost use Rattle.shop_engine.specs.inner.Told.{told_by, HasWords};
 
@@ -27,11 +27,17 @@ fn is_word(number: u64)
     ensures { number < 2 ^ 64 }
 {}
 
-/// Makes the report of `answer`. Fails with `NoMemory` if memory runs out.
-fn report_of(alloc: Global, asked: &Named, answer: &Answer) -> Result<Vec<u8>, NoMemory>
-    requires { HasShape asked.now.instance answer.now.table }
+/// Makes the report of `answer`, with its Gantt text if `with_gantt`. Fails with `NoMemory` if memory runs out.
+fn text_of(
+    alloc: Global,
+    asked: &Named,
+    answer: &Answer,
+    with_gantt: bool,
+) -> Result<Vec<u8>, NoMemory>
+    requires shape { HasShape asked.now.instance answer.now.table }
+    requires feasible { IsFeasible asked.now.instance (starts_of answer.now.table) }
     ensures written { IfOk result (λ v.
-        v.items ≡ report_text (told_by (shop_of_named asked.now) answer.now)) }
+        v.items ≡ text_with_gantt (told_by (shop_of_named asked.now) answer.now) with_gantt) }
     ensures words { HasWords answer.now }
 {
     let told = Report {
@@ -49,23 +55,7 @@ fn report_of(alloc: Global, asked: &Named, answer: &Answer) -> Result<Vec<u8>, N
     is_word(told.open_nodes as u64);
     is_word(told.rounds);
     is_word(told.nodes);
-    report(alloc, &told)
-}
-
-/// Makes the report of `answer`, with its Gantt text if `with_gantt`. Fails with `NoMemory` if memory runs out.
-fn text_of(
-    alloc: Global,
-    asked: &Named,
-    answer: &Answer,
-    with_gantt: bool,
-) -> Result<Vec<u8>, NoMemory>
-    requires shape { HasShape asked.now.instance answer.now.table }
-    requires feasible { IsFeasible asked.now.instance (starts_of answer.now.table) }
-    ensures written { IfOk result (λ v.
-        v.items ≡ text_with_gantt (told_by (shop_of_named asked.now) answer.now) with_gantt) }
-    ensures words { HasWords answer.now }
-{
-    let mut text = report_of(alloc, asked, answer)?;
+    let mut text = report(alloc, &told)?;
     if with_gantt {
         let chart = gantt(alloc, &asked.instance, &answer.table)?;
         text.extend_from_slice(chart.as_slice())?;
@@ -111,9 +101,7 @@ fn solve<R, C: Crew<R>>(
     crew: &mut C,
 ) -> Result<(Vec<u8>, Answer), ReadFault>
     requires { C.ready }
-    ensures right { IfOk result (λ p. IsRightOf
-        args.now.format (name_in args.now.name) args.now.gantt text.now p.0.items) }
-    ensures determined { IfOk result (λ p. IsDeterminedOf args.now text.now p.0.items) }
+    ensures solution { IfOk result (λ p. IsSolution args.now text.now p.0.items) }
     ensures schedule { IfOk result (λ p. PassesCheck
         args.now.format (name_in args.now.name) text.now p.0.items) }
     ensures refused { IfErr result (λ fault. OrNoMemory

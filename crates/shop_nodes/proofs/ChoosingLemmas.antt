@@ -9,7 +9,11 @@ use Rattle.shop_model.specs.Shop.{Shop, route_of}
 use Rattle.shop_model.specs.Word.{Placing}
 use Rattle.shop_nodes.specs.declared.next_operations.NextOperation.{NextOperation}
 use Rattle.shop_nodes.specs.Branching.{next_end, chosen_of, conflicts_with}
-use Rattle.shop_nodes.specs.inner.Choosing.{IsNext, open_below, IsChoice}
+use Rattle.shop_nodes.specs.inner.Choosing.{IsNext, IsChoice}
+
+-- the jobs below n with steps left, in order
+abbrev pub open_below : Shop → Placing → ℕ → List ℕ
+open_below shop p n = filter (λ j. ltb (p.steps j) (length (route_of shop j))) (range_with_len 0 n)
 
 range-last : (a n : ℕ) → range_with_len a (suc n) ≡ range_with_len a n ++ (a + n) ∷ []
 range-last a zero = let e : a + 0 ≡ a = omega arith in rw e refl

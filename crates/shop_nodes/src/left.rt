@@ -149,10 +149,8 @@ fn add_open_waiting(
         (stack_words instance.now (arc_slice_items halt.now.path) halt.now.waiting.items)) }
 {
     let waiting = halt.waiting.as_slice();
-    let mut left = waiting.len();
-    while left > 0 {
-        left -= 1;
-        add_if_open(instance, makespan, &halt.path, waiting[left], nodes)?;
+    for index in (0..waiting.len()).rev() {
+        add_if_open(instance, makespan, &halt.path, waiting[index], nodes)?;
     }
     Ok(())
 }
@@ -240,10 +238,8 @@ fn waiting_nodes(
 {
     let waiting = halt.waiting.as_slice();
     let mut nodes = Vec::new(alloc);
-    let mut left = waiting.len();
-    while left > 0 {
-        left -= 1;
-        let mut next = nodes_of(alloc, instance, makespan, &halt.path, waiting[left])?;
+    for index in (0..waiting.len()).rev() {
+        let mut next = nodes_of(alloc, instance, makespan, &halt.path, waiting[index])?;
         nodes.append(&mut next)?;
     }
     Ok(nodes)

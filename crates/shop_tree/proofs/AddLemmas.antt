@@ -10,7 +10,7 @@ use Rattle.shop_bound.specs.Bound.{lb}
 use Rattle.shop_nodes.specs.Branching.{branch, conflict, sort_by}
 use Rattle.shop_nodes.specs.Halts.{last_of, IsClosed, IsWaiting}
 use Rattle.shop_tree.specs.inner.Opens.{open_words, IsAt, AreChildren}
-use Rattle.shop_tree.specs.inner.Pushing.{with_opens, with_rest}
+use Rattle.shop_tree.proofs.Pushing.{with_opens, with_rest}
 use Rattle.shop_tree.specs.inner.Searching.{Adds}
 use Rattle.shop_nodes.specs.declared.halts.Open.{Open}
 use Rattle.shop_nodes.specs.declared.halts.Waiting.{Waiting}

@@ -12,8 +12,8 @@ use Rattle.shop_bound.specs.Conflicts.{SoleCandidateKeepsBound}
 use Rattle.shop_nodes.specs.Branching.{branch, conflict, sort_by}
 use Rattle.shop_nodes.specs.Walking.{Walk, walk}
 use Rattle.shop_nodes.specs.Halts.{word_at, IsWaiting}
-use Rattle.shop_tree.specs.inner.Opens.{AreChildren, IsUpTo}
-use Rattle.shop_tree.specs.inner.Pushing.{with_opens, with_rest}
+use Rattle.shop_tree.specs.inner.Opens.{AreChildren}
+use Rattle.shop_tree.proofs.Pushing.{with_opens, with_rest}
 use Rattle.shop_tree.specs.inner.Walkers.{Stage, HasFollowed, HasBranched, HasExpanded, IsInOrder}
 use Rattle.shop_tree.specs.inner.Walkers.{gone_on, on_top, spent_one}
 use Rattle.shop_tree.specs.inner.Searching.{walk_stack, Adds, entered}
@@ -21,7 +21,7 @@ use Rattle.shop_nodes.specs.declared.halts.Open.{Open}
 use Rattle.shop_nodes.specs.declared.halts.Waiting.{Waiting}
 use Rattle.shop_nodes.specs.declared.halts.Waiting.TheVariants.{Child}
 use Rattle.shop_tree.proofs.ListLemmas.{all_weaker}
-use Rattle.shop_tree.proofs.OpenLemmas.{adds-waits, all-same, all-lower, deep, words-same}
+use Rattle.shop_tree.proofs.OpenLemmas.{IsUpTo, adds-waits, all-same, all-lower, deep, words-same}
 use Rattle.shop_tree.proofs.TurnLemmas.{below_waits, child_walks, children_walk}
 use Rattle.shop_tree.proofs.AddLemmas.{adds-children, few-children, long_rest}
 use Rattle.shop_nodes.proofs.WalkSteps.{walk-cut}

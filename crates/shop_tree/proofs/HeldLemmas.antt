@@ -9,7 +9,7 @@ use Rattle.shop_nodes.specs.declared.halts.Waiting.TheVariants.{Child, Rest}
 use Rattle.shop_tree.specs.declared.held.Held.{Held}
 use Rattle.shop_tree.specs.inner.Held.{IsHeld, IsKept, Kept, held, opens_in, waiting_in, with_held_rest}
 use Rattle.shop_tree.specs.inner.Held.{HasSetRestBelow}
-use Rattle.shop_tree.specs.inner.Pushing.{with_opens, with_rest}
+use Rattle.shop_tree.proofs.Pushing.{with_opens, with_rest}
 
 children_moved : {S : Type 0} (ks : List (Kept S)) → waiting_in (map held ks) ≡ map (λ o. Child o) (opens_in ks)
 children_moved [] = refl

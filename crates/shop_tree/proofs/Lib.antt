@@ -1,4 +1,5 @@
 mod ListLemmas
+mod Pushing
 mod OpenLemmas
 mod Entering
 mod AddLemmas

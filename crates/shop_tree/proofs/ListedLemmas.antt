@@ -115,9 +115,9 @@ module _ {shop : Shop} {word : List ℕ} {limit : ℕ} {is : Candidate → Type 
   lists_all (listed {js = js} {cs = cs} j d same own rest) e = grind (arith, lists_all rest e)
   lists_all (closed {n = n} j high rest) e = absurd (omega arith)
 
-  pub sole_listed : (cs : List Candidate) (c : Candidate) → cs ≡ c ∷ []
-      → ListsBelow shop word limit is (conflict shop word) cs 0 → conflict shop word ≡ c.job ∷ []
-  sole_listed cs c e all = lists_all all refl ∙ ap (map (λ x. x.job)) e
+  pub sole_listed : (cs : List Candidate) (c d : Candidate) {n : ℕ} → length cs ≡ 1 → c ≡ get_or cs 0 d → n ≡ 0
+      → ListsBelow shop word limit is (conflict shop word) cs n → conflict shop word ≡ c.job ∷ []
+  sole_listed cs c d long is each all = lists_all all each ∙ ap (map (λ x. x.job)) (one_listed cs c d long is)
 
   pub few_closed : {cs : List Candidate} {n : ℕ} → ListsBelow shop word limit is (conflict shop word) cs n
       → length cs + n ≤ length shop.jobs

@@ -6,13 +6,17 @@ use Rattle.std.proofs.lemmas.List.{take-append-le, length-take-le, take-take, le
 use Rattle.std.proofs.lemmas.List.Sums.{fold-append}
 use Rattle.shop_model.specs.Shop.{Shop}
 use Rattle.shop_nodes.specs.Halts.{word_at, waiting_words, stack_words, IsWaiting}
-use Rattle.shop_tree.specs.inner.Opens.{open_words, depth_of, IsUpTo, IsFrom, IsAt, IsRising, AreWaiting}
+use Rattle.shop_tree.specs.inner.Opens.{open_words, depth_of, IsFrom, IsAt, IsRising, AreWaiting}
 use Rattle.shop_tree.specs.inner.Searching.{walk_stack, Adds}
 use Rattle.shop_nodes.specs.Walking.{Walk, walk}
 use Rattle.shop_nodes.specs.declared.halts.Open.{Open}
 use Rattle.shop_nodes.specs.declared.halts.Waiting.{Waiting}
 use Rattle.shop_nodes.specs.declared.halts.Waiting.TheVariants.{Child, Rest}
 use Rattle.shop_tree.proofs.ListLemmas.{reverse-cons, all_append, all_front, all_back, all_weaker}
+
+-- an entry that begins with at most n entries of the word
+abbrev pub IsUpTo : ℕ → Waiting → Type 0
+IsUpTo n x = depth_of x ≤ n
 
 pub begins_alike : (v w : List ℕ) (n : ℕ) → take n v ≡ take n w → (k : ℕ) → k ≤ n → take k v ≡ take k w
 begins_alike v w n alike k h = sym (take-take k n v h) ∙ (ap (take k) alike ∙ take-take k n w h)

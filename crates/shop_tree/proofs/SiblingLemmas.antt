@@ -1,6 +1,6 @@
 -- Children that are settled without a trial, and the one on top of the stack, which is given the current state.
 use Rattle.std.proofs.Common.{◌≡◌, ℕ, zero, suc, ◌-◌, ◌≤◌, ◌<◌, List, [], ◌∷◌, ◌++◌, length, map, get_or, set, take}
-use Rattle.std.proofs.Common.{max, All, None, inl, inr, sym, ◌∙◌, ap, subst, arith}
+use Rattle.std.proofs.Common.{max, All, IfSome, None, Option, Some, inl, inr, sym, ◌∙◌, ap, subst, arith}
 use Rattle.std.proofs.Math.Seq.{map-set_same, take-length}
 use Rattle.std.proofs.lemmas.List.{get_or-map, length-map, map-set, set-append_right}
 use Rattle.std.proofs.lemmas.List.Elements.{All-set, All-from_recursion}
@@ -16,11 +16,16 @@ use Rattle.shop_nodes.specs.declared.halts.Open.{Open}
 use Rattle.shop_nodes.specs.declared.halts.Waiting.{Waiting}
 use Rattle.shop_nodes.specs.declared.halts.Waiting.TheVariants.{Child, Rest}
 use Rattle.shop_nodes.proofs.ChildrenLemmas.{child-word}
+use Rattle.shop_states.specs.declared.dispatching.Dispatching.{Ghosts}
+use Rattle.shop_tree.specs.declared.branchings.Branching.{Branching}
 use Rattle.shop_tree.specs.declared.held.Held.{Held}
+use Rattle.shop_tree.specs.declared.walk_states.WalkStates.{WalkStates}
 use Rattle.shop_tree.specs.inner.Held.{IsHeldOf, IsKept, Kept, held, opens_in}
 use Rattle.shop_tree.specs.inner.Opens.{AreChildren}
-use Rattle.shop_tree.specs.inner.Tried.{HasGiven, HasPutChildren, IsChildBelow}
+use Rattle.shop_tree.specs.inner.Slots.{AreBounded, IsBranchingOf, IsStateIn, Lists}
+use Rattle.shop_tree.specs.inner.Tried.{HasGiven, HasPutChildren}
 use Rattle.shop_tree.proofs.StripLemmas.{at_kid, many}
+use Rattle.shop_tree.proofs.TrialLemmas.{IsChildBelow}
 
 -- the bound of a settled child
 pub settled_bound : (shop : Shop) (word : List ℕ) (bound top : ℕ) (cs : List Candidate)
@@ -128,3 +133,37 @@ put_given {S} is shop limit word old mid new n from e put (inr (child, (state, a
       states = All-set (IsKept is word) put.kids k given
           (subst (λ (w : List ℕ). IsHeldOf is w state) word_is at.own) put.states;
     }
+
+-- what is known of the current word, once a trial left its state
+module _ {D S C : Type 0} {g : Ghosts D S C} {s t : WalkStates D S C} {b : Branching}
+    (same : t.dispatcher.now ≡ s.dispatcher.now) where
+  pub branching_stays : t.current.value ≡ s.current.value → IsBranchingOf g s b → IsBranchingOf g t b
+  branching_stays current at = record {
+    state = rw (same, current) at.state;
+    bound = rw same at.bound;
+    listed = rw same at.listed;
+  }
+
+  pub bounded_stays : {top : ℕ} → ((w : List ℕ) (j : ℕ) → g.KnowsChild s.dispatcher.now s.scratch w j
+      → g.KnowsChild s.dispatcher.now t.scratch w j) → AreBounded g s b top → AreBounded g t b top
+  bounded_stays {top} kept at = record {
+    settled = rw same at.settled;
+    known = λ k c within. subst (λ x. g.KnowsChild x t.scratch b.word.now (get_or b.candidates.now k c).job) (sym same)
+        (kept b.word.now (get_or b.candidates.now k c).job (at.known k c within));
+  }
+
+-- children that were bounded together
+pub bounded_together : {D S C : Type 0} {g : Ghosts D S C} {s : WalkStates D S C} {b : Branching}
+    (t : WalkStates D S C) → IsBranchingOf g s b → (answer : Option ℕ)
+    → IfSome answer (λ top. (w : List ℕ) (limit others : ℕ) → IsStateIn g s w
+    → b.bound ≡ lb (g.shop s.dispatcher.now) w → Lists g s w limit b.candidates.now others
+    → Settles (g.shop s.dispatcher.now) w b.bound top b.candidates.now)
+    → IfSome answer (λ top. (w : List ℕ) (limit others : ℕ) → IsStateIn g s w
+    → b.bound ≡ lb (g.shop s.dispatcher.now) w → Lists g s w limit b.candidates.now others
+    → All (λ c. g.KnowsChild s.dispatcher.now t.scratch w c.job) b.candidates.now)
+    → t.dispatcher.now ≡ s.dispatcher.now → IfSome answer (AreBounded g t b)
+bounded_together t at None settled known same = tt
+bounded_together {b = b} t at (Some top) settled known same = record {
+  settled = rw same (settled b.word.now b.limit b.closed at.state at.bound at.listed);
+  known = rw same (known b.word.now b.limit b.closed at.state at.bound at.listed);
+}

@@ -16,10 +16,10 @@ use Rattle.shop_nodes.specs.declared.halts.Waiting.{Waiting}
 use Rattle.shop_nodes.specs.declared.halts.Waiting.TheVariants.{Child, Rest}
 use Rattle.shop_tree.specs.inner.Held.{IsHeld, IsHeldAs, waiting_in}
 use Rattle.shop_nodes.specs.Halts.{word_at, IsWaiting}
-use Rattle.shop_tree.specs.inner.Opens.{AreWaiting, IsUpTo}
+use Rattle.shop_tree.specs.inner.Opens.{AreWaiting}
 use Rattle.shop_tree.specs.inner.StateWalkers.{AreHeld}
 use Rattle.shop_tree.proofs.ListLemmas.{all_weaker}
-use Rattle.shop_tree.proofs.OpenLemmas.{begins_alike, begins-child, deep, popped, rising-below}
+use Rattle.shop_tree.proofs.OpenLemmas.{IsUpTo, begins_alike, begins-child, deep, popped, rising-below}
 
 module _ {S : Type 0} (is : List ℕ → S → Type 0) where
   -- Words that begin alike up to n: what begins with n entries at most waits with the same states.

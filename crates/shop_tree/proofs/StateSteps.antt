@@ -1,15 +1,15 @@
 -- Steps of a walk over states: where it stands before and after, and what waits.
-use Rattle.std.proofs.Common.{◌≡◌, ℕ, List, ◌++◌, All, map}
-use Rattle.std.proofs.Common.{◌∙◌, refl, sym, ap, subst, arith, Result, Ok, Err, Option, Some, None}
+use Rattle.std.proofs.Common.{◌≡◌, ℕ, ◌<◌, List, ◌++◌, All, length, map}
+use Rattle.std.proofs.Common.{◌∙◌, refl, sym, ap, subst, arith, Option, Some, None}
+use Rattle.shop_model.specs.Shop.{operation_count}
 use Rattle.shop_bound.specs.Bound.{lb}
 use Rattle.shop_tree.specs.declared.held.Held.{Held}
 use Rattle.shop_tree.specs.inner.Held.{IsKept, Kept, held, with_held_rest}
 use Rattle.shop_tree.specs.declared.walkers.Walker.{Walker}
-use Rattle.shop_tree.specs.inner.Slots.{HoldSlots}
-use Rattle.shop_tree.specs.inner.StateWalkers.{stage_of, AreHeld, HasCandidates, HasGoneOn, HasReached, HasStates}
-use Rattle.shop_tree.specs.inner.StateWalkers.{IsAtState, StandsAs, StandsAt}
+use Rattle.shop_tree.specs.inner.Slots.{HoldSlots, IsStateIn, Lists}
+use Rattle.shop_tree.specs.inner.StateWalkers.{stage_of, AreHeld, HasGoneOn, HasReached, HasStates}
+use Rattle.shop_tree.specs.inner.StateWalkers.{IsListedAt, StandsAs, StandsAt}
 use Rattle.shop_states.specs.declared.dispatching.Dispatching.{Ghosts}
-use Rattle.std.specs.Result.{OnOk}
 use Rattle.shop_tree.specs.inner.Walkers.{Stage, HasExpanded, IsInOrder}
 use Rattle.shop_tree.proofs.ExpandLemmas.{HasGone}
 use Rattle.shop_tree.proofs.HeldLemmas.{states_moved, states_rest}
@@ -20,16 +20,7 @@ pub held_branched : {S : Type 0} (is : List ℕ → S → Type 0) (word : List �
     → new ≡ with_held_rest old depth n ++ map held kids → AreHeld is word new
 held_branched is word old new kids depth n below above put = grind (arith, states_moved, states_rest)
 
--- the walk stands where it stood, whoever gave a state back
-pub stands_still : {D S C T E : Type 0} {g : Ghosts D S C} (v w : Walker D S C g) (r : Result T E)
-    → stage_of w ≡ stage_of v → w.candidates.items ≡ v.candidates.items
-    → w.states.dispatcher.now ≡ v.states.dispatcher.now
-    → AreHeld (g.IsStateOf v.states.dispatcher.now) w.path.items w.stack.items
-    → OnOk r (HoldSlots g.IsSlot g.IsScratch w.states)
-    → OnOk r (w.states.current.value ≡ v.states.current.value) → OnOk r (StandsAs v w)
-stands_still {g = g} v w (Ok x) stage candidates same held sound current = grind arith
-stands_still v w (Err e) stage candidates same held sound current = tt
-
+-- the walk stands where it stood
 pub stands_where : {D S C : Type 0} {g : Ghosts D S C} (v : Walker D S C g) → HasStates v → StandsAs v v
 stands_where v states = record { stage = refl; candidates = refl; dispatcher = refl; current = refl; states = states }
 
@@ -45,15 +36,16 @@ module _ {D S C : Type 0} {g : Ghosts D S C} {v w : Walker D S C g} (s : StandsA
   best_same : w.progress.best ≡ v.progress.best
   best_same = ap (λ (t : Stage). t.walk.best) s.stage
 
-  pub candidates_stand : (n : ℕ) → HasCandidates v n → HasCandidates w n
-  candidates_stand n h = rw (s.dispatcher, s.candidates, path_same, best_same) h
+  candidates_stand : {n : ℕ} → Lists g v.states v.path.items v.progress.best v.candidates.items n
+      → Lists g w.states w.path.items w.progress.best w.candidates.items n
+  candidates_stand h = rw (s.dispatcher, s.candidates, path_same, best_same) h
 
-  pub state_stands : IsAtState v → IsAtState w
+  state_stands : IsStateIn g v.states v.path.items → IsStateIn g w.states w.path.items
   state_stands h = grind (arith, path_same)
 
 -- and where its candidates were gathered
 pub still_at : {D S C : Type 0} {g : Ghosts D S C} {v : Walker D S C g} (w : Walker D S C g) {b : ℕ} → StandsAt v b
-    → stage_of w ≡ stage_of v → HasStates w → IsAtState w → StandsAt w b
+    → stage_of w ≡ stage_of v → HasStates w → IsStateIn g w.states w.path.items → StandsAt w b
 still_at {v} w at same states state = record {
   bound = at.bound ∙ sym (ap (λ (t : Stage). lb t.shop t.word) same);
   below = (let a = at.below in let e : w.progress.best ≡ v.progress.best = ap (λ (t : Stage). t.walk.best) same
@@ -65,7 +57,7 @@ still_at {v} w at same states state = record {
 
 -- a walk that went on stands at the word that it took
 pub reached : {D S C : Type 0} {g : Ghosts D S C} (v w : Walker D S C g) (b : ℕ) → HasGone (stage_of v) (stage_of w) b
-    → HasStates w → IsAtState w → HasReached v w b
+    → HasStates w → IsStateIn g w.states w.path.items → HasReached v w b
 reached v w b gone states state = grind (arith, gone)
 
 -- what is told of a walk that went on, and of one that didn't
@@ -76,3 +68,30 @@ gone v w is h = subst (λ (t : Option ℕ). HasGoneOn v w t) is h
 pub ended : {D S C : Type 0} {g : Ghosts D S C} (v w : Walker D S C g) {told : Option ℕ} → told ≡ None
     → HasGoneOn v w told → HasExpanded (stage_of v) (stage_of w) × HasStates w
 ended v w is h = subst (λ (t : Option ℕ). HasGoneOn v w t) is h
+
+-- and where they are listed
+pub listed_stand : {D S C : Type 0} {g : Ghosts D S C} {v w : Walker D S C g} {b n : ℕ} → StandsAs v w
+    → IsListedAt v b n → IsListedAt w b n
+listed_stand {v} {w} s at = record {
+  at = still_at w at.at s.stage s.states (state_stands s at.at.state);
+  short = (let a = at.short in let e = v.progress.counted in let f = w.progress.counted
+      in let h : operation_count w.progress.instance.now ≡ operation_count v.progress.instance.now =
+      ap (λ (t : Stage). operation_count t.shop) s.stage
+      in let k : length w.path.items ≡ length v.path.items = ap (λ (t : Stage). length t.word) s.stage in omega arith);
+  candidates = candidates_stand s at.candidates;
+}
+
+-- so they are, once they were listed
+pub listed_at : {D S C : Type 0} {g : Ghosts D S C} {v w : Walker D S C g} {b n : ℕ} → StandsAt v b
+    → stage_of w ≡ stage_of v → w.stack.items ≡ v.stack.items → w.states.dispatcher.now ≡ v.states.dispatcher.now
+    → w.states.current.value ≡ v.states.current.value → HoldSlots g w.states
+    → length w.path.items < w.progress.operations
+    → Lists g v.states w.path.items w.progress.best w.candidates.items n → IsListedAt w b n
+listed_at {g = g} {v} {w} {n = n} at stage stack same current slots short lists =
+    let word : w.path.items ≡ v.path.items = ap (λ (t : Stage). t.word) stage
+    in record {
+      at = still_at w at stage (record { held = rw (same, word, stack) at.states.held; states = slots })
+          (rw (same, word, current) at.state);
+      short = short;
+      candidates = rw same lists;
+    }

@@ -1,7 +1,6 @@
 -- Definitions that only contracts inside the crate use.
 pub mod Searching
 pub mod Opens
-pub mod Pushing
 pub mod Walkers
 pub mod Held
 pub mod Tried

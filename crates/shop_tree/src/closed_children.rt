@@ -20,10 +20,8 @@ pub(crate) fn put_rest<S: Drop>(
 {
     if count > 0 {
         let (depth, count) = (depth as u32, count as u32);
-        stack.push(Held {
-            waiting: Waiting::Rest { depth, count },
-            state: None,
-        })?;
+        let (waiting, state) = (Waiting::Rest { depth, count }, None);
+        stack.push(Held { waiting, state })?;
     }
     Ok(())
 }
@@ -47,17 +45,11 @@ pub(crate) fn set_rest_below<S: Drop>(
         return Ok(());
     }
     let (depth, count) = (depth as u32, count as u32);
-    let waiting = Waiting::Rest { depth, count };
+    let (waiting, state) = (Waiting::Rest { depth, count }, None);
     if known > 0 {
         stack[place].waiting = waiting;
         return Ok(());
     }
-    stack.insert(
-        place,
-        Held {
-            waiting,
-            state: None,
-        },
-    )?;
+    stack.insert(place, Held { waiting, state })?;
     Ok(())
 }

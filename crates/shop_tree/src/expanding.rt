@@ -1,13 +1,11 @@
 // Expands a walk's current word: follows sole candidates, then branches.
-ghost use Rattle.std.specs.Prelude.{◌≡◌, ◌≤◌, ◌<◌, ◌+◌, length, [], ◌∷◌, ◌++◌, OnOk, IfOk, IsTrue};
+ghost use Rattle.std.specs.Prelude.{◌≡◌, ◌≤◌, ◌<◌, ◌+◌, length, [], ◌∷◌, ◌++◌, OnOk, IfOk};
 ghost use Rattle.shop_model.specs.Limits.{IsWithinLimits};
 ghost use Rattle.shop_model.specs.Word.{IsWord};
-ghost use Rattle.shop_bound.specs.Bound.{lb};
 ghost use Rattle.shop_tree.specs.inner.Opens.{AreChildren};
-ghost use Rattle.shop_tree.specs.inner.Slots.{HoldSlots};
-ghost use Rattle.shop_tree.specs.inner.StateWalkers.{stage_of, AreHeld, HasCandidates, HasStates};
-ghost use Rattle.shop_tree.specs.inner.StateWalkers.{HasGoneOn, HasReached, IsAtState, StandsAs};
-ghost use Rattle.shop_tree.specs.inner.StateWalkers.{StandsAt};
+ghost use Rattle.shop_tree.specs.inner.Slots.{HoldSlots, IsStateIn};
+ghost use Rattle.shop_tree.specs.inner.StateWalkers.{stage_of, AreHeld, HasGoneOn, HasStates};
+ghost use Rattle.shop_tree.specs.inner.StateWalkers.{IsListedAt, StandsAs, StandsAt};
 ghost use Rattle.shop_tree.specs.inner.Walkers.{gone_on, HasBranched, HasExpanded, IsInOrder};
 
 use crate::branchings::Branching;
@@ -22,29 +20,6 @@ use std::alloc::{AllocError as NoMemory, Global};
 const MOST_WANTED: usize = 3;
 
 impl<'l, 'a, D: Dispatching<S>, S: Drop> Walker<'l, 'a, D, S> {
-    /// Lists the candidates with `own` below the best makespan. Answers how many other children there are, all closed.
-    #[inline(always)]
-    fn list_candidates(&mut self) -> usize
-        requires states { HasStates self.old }
-        requires state { IsAtState self.old }
-        ensures stage { stage_of self.new ≡ stage_of self.old }
-        ensures candidates { HasCandidates self.new result }
-        ensures states { HasStates self.new }
-        ensures state { IsAtState self.new }
-    {
-        self.states
-            .list_candidates(self.progress.best, &mut self.candidates)
-    }
-
-    /// Tells whether exactly one candidate is listed and the budget lasts for its child.
-    #[inline(always)]
-    fn can_go_on(&self) -> bool
-        ensures { IsTrue result
-            → (length self.now.candidates.items ≡ 1) × (0 < self.now.progress.budget) }
-    {
-        self.candidates.len() == 1 && self.progress.budget > 0
-    }
-
     /// Appends `job` to the current word and spends one unit of the budget.
     #[inline(always)]
     fn take_job(&mut self, job: u16)
@@ -52,31 +27,15 @@ impl<'l, 'a, D: Dispatching<S>, S: Drop> Walker<'l, 'a, D, S> {
         requires short { length self.old.path.items < self.old.progress.operations }
         requires held { AreHeld (D.IsStateOf self.old.states.dispatcher.now)
             (self.old.path.items ++ job ∷ []) self.old.stack.items }
-        requires slots { HoldSlots D.IsSlot D.IsScratch self.old.states }
-        requires state { D.IsStateOf self.old.states.dispatcher.now (self.old.path.items ++ job ∷ [])
-            self.old.states.current.value }
+        requires slots { HoldSlots D.Dispatching self.old.states }
+        requires state { IsStateIn D.Dispatching self.old.states (self.old.path.items ++ job ∷ []) }
         ensures stage { stage_of self.new ≡ gone_on (stage_of self.old) job }
         ensures states { HasStates self.new }
-        ensures state { IsAtState self.new }
+        ensures state { IsStateIn D.Dispatching self.new.states self.new.path.items }
     {
         let progress = &mut self.progress;
         progress.budget -= 1;
         self.path.push(job).unwrap();
-    }
-
-    /// Follows the sole candidate to its child. The child's bound is that of the current word, `bound`.
-    #[inline(always)]
-    fn follow_sole(&mut self, bound: u64)
-        requires one { length self.old.candidates.items ≡ 1 }
-        requires some { 0 < self.old.progress.budget }
-        requires short { length self.old.path.items < self.old.progress.operations }
-        requires at { StandsAt self.old bound }
-        requires candidates { HasCandidates self.old 0 }
-        ensures { HasReached self.old self.new bound }
-    {
-        let job = self.candidates[0].job;
-        self.states.strike(job);
-        self.take_job(job);
     }
 
     /// Leaves the current word, whose `count` children are all closed. If the budget lasts for these children, spends
@@ -100,19 +59,23 @@ impl<'l, 'a, D: Dispatching<S>, S: Drop> Walker<'l, 'a, D, S> {
         put_rest(&mut self.stack, self.path.len(), count)
     }
 
-    /// Follows the one listed candidate to its child, puts one entry for the `closed` other children on the stack, and
-    /// answers the child's bound. If that child is closed too, calls `close` for all children instead and answers
-    /// `None`. `bound` is the bound of the current word. Fails with `NoMemory` if memory runs out.
+    /// Follows the one listed candidate to its child, puts an entry for the `closed` other children, if any, on the
+    /// stack, and answers the child's bound. If no other child is closed, that is `bound`, the bound of the current
+    /// word. If the child is closed too, calls `close` for all children instead and answers `None`. Fails with
+    /// `NoMemory` if memory runs out.
     #[inline(always)]
-    fn follow_kept(&mut self, bound: u64, closed: usize) -> Result<Option<u64>, NoMemory>
+    fn go_on(&mut self, bound: u64, closed: usize) -> Result<Option<u64>, NoMemory>
         requires one { length self.old.candidates.items ≡ 1 }
         requires some { 0 < self.old.progress.budget }
-        requires short { length self.old.path.items < self.old.progress.operations }
-        requires at { StandsAt self.old bound }
-        requires candidates { HasCandidates self.old closed }
+        requires listed { IsListedAt self.old bound closed }
         ensures { IfOk result (HasGoneOn self.old self.new) }
     {
         let candidate = self.candidates[0];
+        if closed == 0 {
+            self.states.strike(candidate.job);
+            self.take_job(candidate.job);
+            return Ok(Some(bound));
+        }
         let Some(bound) = self.states.advance(candidate, bound, self.progress.best) else {
             self.close(closed + 1)?;
             return Ok(None);
@@ -120,39 +83,6 @@ impl<'l, 'a, D: Dispatching<S>, S: Drop> Walker<'l, 'a, D, S> {
         put_rest(&mut self.stack, self.path.len(), closed)?;
         self.take_job(candidate.job);
         Ok(Some(bound))
-    }
-
-    /// Follows the one listed candidate to its child and answers the child's bound, or `None` if the child is closed.
-    /// If `closed`, the number of other children, is 0, the child keeps `bound`. Fails with `NoMemory` if memory runs
-    /// out.
-    #[inline(always)]
-    fn go_on(&mut self, bound: u64, closed: usize) -> Result<Option<u64>, NoMemory>
-        requires one { length self.old.candidates.items ≡ 1 }
-        requires some { 0 < self.old.progress.budget }
-        requires short { length self.old.path.items < self.old.progress.operations }
-        requires at { StandsAt self.old bound }
-        requires candidates { HasCandidates self.old closed }
-        ensures { IfOk result (HasGoneOn self.old self.new) }
-    {
-        if closed > 0 {
-            return self.follow_kept(bound, closed);
-        }
-        self.follow_sole(bound);
-        Ok(Some(bound))
-    }
-
-    /// Takes the state, if any, from entry `stripped` of the stack, keeps it as a spare, and adds 1 to `stripped`.
-    /// Fails with `NoMemory` if memory runs out.
-    fn strip_next(&mut self) -> Result<(), NoMemory>
-        requires within { self.old.stripped < length self.old.stack.items }
-        requires states { HasStates self.old }
-        ensures stands { OnOk result (StandsAs self.old self.new) }
-        ensures later { self.new.stripped ≡ self.old.stripped + 1 }
-        ensures length { length self.new.stack.items ≡ length self.old.stack.items }
-    {
-        let state = self.stack[self.stripped].state.take();
-        self.stripped += 1;
-        self.states.give_back(state)
     }
 
     /// Takes states from the lowest entries of the stack until `wanted` states are free, or no entry has a state left.
@@ -163,7 +93,9 @@ impl<'l, 'a, D: Dispatching<S>, S: Drop> Walker<'l, 'a, D, S> {
         ensures stands { OnOk result (StandsAs self.old self.new) }
     {
         while self.states.free() < wanted && self.stripped < self.stack.len() {
-            self.strip_next()?;
+            let state = self.stack[self.stripped].state.take();
+            self.stripped += 1;
+            self.states.give_back(state)?;
         }
         Ok(())
     }
@@ -186,11 +118,7 @@ impl<'l, 'a, D: Dispatching<S>, S: Drop> Walker<'l, 'a, D, S> {
     /// bound, the least on top. `bound` is the word's bound; `closed` counts the children without a listed candidate.
     /// Fails with `NoMemory` if memory runs out.
     fn push_children(&mut self, alloc: Global, bound: u64, closed: usize) -> Result<(), NoMemory>
-        requires bound { bound ≡ lb self.old.progress.instance.now self.old.path.items }
-        requires short { length self.old.path.items < self.old.progress.operations }
-        requires candidates { HasCandidates self.old closed }
-        requires states { HasStates self.old }
-        requires state { IsAtState self.old }
+        requires listed { IsListedAt self.old bound closed }
         ensures branched { OnOk result (HasBranched (stage_of self.old) (stage_of self.new)) }
         ensures states { OnOk result (HasStates self.new) }
     {
@@ -214,9 +142,7 @@ impl<'l, 'a, D: Dispatching<S>, S: Drop> Walker<'l, 'a, D, S> {
     /// Branches on the current word: leaves it if no candidate is listed, else puts its children on the stack. Takes
     /// states from the lowest entries of the stack if spare states run out. Fails with `NoMemory` if memory runs out.
     fn branch(&mut self, alloc: Global, bound: u64, closed: usize) -> Result<(), NoMemory>
-        requires short { length self.old.path.items < self.old.progress.operations }
-        requires at { StandsAt self.old bound }
-        requires candidates { HasCandidates self.old closed }
+        requires listed { IsListedAt self.old bound closed }
         ensures expanded { OnOk result (HasExpanded (stage_of self.old) (stage_of self.new)) }
         ensures states { OnOk result (HasStates self.new) }
     {
@@ -245,18 +171,16 @@ impl<'l, 'a, D: Dispatching<S>, S: Drop> Walker<'l, 'a, D, S> {
     /// Expands the current word, whose bound `bound` is below the best makespan. Follows the listed candidate while
     /// there is exactly one, then branches. Keeps a full word as found. Fails with `NoMemory` if memory runs out.
     pub(crate) fn expand(&mut self, alloc: Global, bound: u64) -> Result<(), NoMemory>
-        requires bound { bound ≡ lb self.old.progress.instance.now self.old.path.items }
-        requires below { bound < self.old.progress.best }
-        requires in_order { IsInOrder (stage_of self.old) }
-        requires states { HasStates self.old }
-        requires state { IsAtState self.old }
+        requires at { StandsAt self.old bound }
         ensures expanded { OnOk result (HasExpanded (stage_of self.old) (stage_of self.new)) }
         ensures states { OnOk result (HasStates self.new) }
     {
         let mut bound = bound;
         while self.path.len() < self.progress.operations {
-            let closed = self.list_candidates();
-            if !self.can_go_on() {
+            let closed = self
+                .states
+                .list_candidates(self.progress.best, &mut self.candidates);
+            if self.candidates.len() != 1 || self.progress.budget == 0 {
                 return self.branch(alloc, bound, closed);
             }
             let Some(next) = self.go_on(bound, closed)? else {

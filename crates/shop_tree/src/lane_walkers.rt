@@ -40,24 +40,12 @@ impl<'l, 'a> LaneWalker<'l, 'a> {
         ensures { IfOk result (IsWalkOf instance.now) }
     {
         Ok(match layout.lanes() {
-            LaneLayout::In16By2(laid_out) => {
-                LaneWalker::In16By2(Walker::new(alloc, instance, laid_out, most)?)
-            }
-            LaneLayout::In16By3(laid_out) => {
-                LaneWalker::In16By3(Walker::new(alloc, instance, laid_out, most)?)
-            }
-            LaneLayout::In16By4(laid_out) => {
-                LaneWalker::In16By4(Walker::new(alloc, instance, laid_out, most)?)
-            }
-            LaneLayout::In16(laid_out) => {
-                LaneWalker::In16(Walker::new(alloc, instance, laid_out, most)?)
-            }
-            LaneLayout::In32(laid_out) => {
-                LaneWalker::In32(Walker::new(alloc, instance, laid_out, most)?)
-            }
-            LaneLayout::In64(laid_out) => {
-                LaneWalker::In64(Walker::new(alloc, instance, laid_out, most)?)
-            }
+            LaneLayout::In16By2(lanes) => Self::In16By2(Walker::new(alloc, instance, lanes, most)?),
+            LaneLayout::In16By3(lanes) => Self::In16By3(Walker::new(alloc, instance, lanes, most)?),
+            LaneLayout::In16By4(lanes) => Self::In16By4(Walker::new(alloc, instance, lanes, most)?),
+            LaneLayout::In16(lanes) => Self::In16(Walker::new(alloc, instance, lanes, most)?),
+            LaneLayout::In32(lanes) => Self::In32(Walker::new(alloc, instance, lanes, most)?),
+            LaneLayout::In64(lanes) => Self::In64(Walker::new(alloc, instance, lanes, most)?),
         })
     }
 

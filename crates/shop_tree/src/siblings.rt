@@ -1,10 +1,7 @@
 // Puts the children of a word on the stack once most of them are bounded: settled ones without a trial.
-ghost use Rattle.std.specs.Prelude.{◌≡◌, ℕ, ◌≤◌, List, All, IfOk, OnOk};
-ghost use Rattle.shop_bound.specs.Bound.{lb};
-ghost use Rattle.shop_states.specs.States.{CanDispatch, ListsBelow, Settles};
-ghost use Rattle.shop_nodes.specs.Branching.{conflict};
-ghost use Rattle.shop_tree.specs.inner.Slots.{HoldSlots};
-ghost use Rattle.shop_tree.specs.inner.Tried.{HasGiven, HasPutChildren};
+ghost use Rattle.std.specs.Prelude.{◌≡◌, All, IfOk, OnOk};
+ghost use Rattle.shop_tree.specs.inner.Slots.{AreBounded, HasPutAll, HoldSlots, IsBranchingOf};
+ghost use Rattle.shop_tree.specs.inner.Tried.{HasGiven};
 
 use crate::branchings::Branching;
 use crate::held::Held;
@@ -25,17 +22,13 @@ impl<'l, D: Dispatching<S>, S: Drop> WalkStates<'l, D, S> {
         from: usize,
         branching: &Branching<'_>,
     ) -> Result<(), NoMemory>
-        requires sound { HoldSlots D.IsSlot D.IsScratch self.old }
-        requires can { All (λ c. CanDispatch (D.shop self.old.dispatcher.now)
-            (λ w. D.IsStateOf self.old.dispatcher.now w self.old.current.value
-            × D.IsCandidate self.old.dispatcher.now w c
-            × D.KnowsChild self.old.dispatcher.now self.old.scratch w c.job)
-            c.job branching.now.bound) branching.now.candidates.now }
-        ensures sound { OnOk result (HoldSlots D.IsSlot D.IsScratch self.new) }
-        ensures given { OnOk result ((w : List ℕ)
-            → D.IsStateOf self.old.dispatcher.now w self.old.current.value
-            → All (D.IsCandidate self.old.dispatcher.now w) branching.now.candidates.now
-            → HasGiven (D.IsStateOf self.old.dispatcher.now) w from stack.old.items stack.new.items) }
+        requires sound { HoldSlots D.Dispatching self.old }
+        requires branching { IsBranchingOf D.Dispatching self.old branching.now }
+        requires known { All (λ c. D.KnowsChild self.old.dispatcher.now self.old.scratch
+            branching.now.word.now c.job) branching.now.candidates.now }
+        ensures sound { OnOk result (HoldSlots D.Dispatching self.new) }
+        ensures given { OnOk result (HasGiven (D.IsStateOf self.old.dispatcher.now)
+            branching.now.word.now from stack.old.items stack.new.items) }
         ensures dispatcher { self.new.dispatcher.now ≡ self.old.dispatcher.now }
     {
         if self.free() == 0 {
@@ -44,8 +37,7 @@ impl<'l, D: Dispatching<S>, S: Drop> WalkStates<'l, D, S> {
         let Some(child) = bare_top(stack, from) else {
             return Ok(());
         };
-        let candidates = branching.candidates;
-        if !self.advance_to(child.job, candidates, branching.bound, branching.limit) {
+        if !self.advance_to(child.job, branching) {
             return Ok(());
         }
         let top = stack.len() - 1;
@@ -67,36 +59,17 @@ impl<'l, D: Dispatching<S>, S: Drop> WalkStates<'l, D, S> {
         branching: &Branching<'_>,
         top: u64,
     ) -> Result<usize, NoMemory>
-        requires sound { HoldSlots D.IsSlot D.IsScratch self.old }
-        requires state { D.IsStateOf self.old.dispatcher.now branching.now.word.now
-            self.old.current.value }
-        requires bound { branching.now.bound
-            ≡ lb (D.shop self.old.dispatcher.now) branching.now.word.now }
-        requires listed { ListsBelow (D.shop self.old.dispatcher.now) branching.now.word.now
-            branching.now.limit (D.IsCandidate self.old.dispatcher.now branching.now.word.now)
-            (conflict (D.shop self.old.dispatcher.now) branching.now.word.now)
-            branching.now.candidates.now branching.now.closed }
-        requires settled { Settles (D.shop self.old.dispatcher.now) branching.now.word.now
-            branching.now.bound top branching.now.candidates.now }
-        requires known { All (λ c. D.KnowsChild self.old.dispatcher.now self.old.scratch
-            branching.now.word.now c.job) branching.now.candidates.now }
-        ensures sound { OnOk result (HoldSlots D.IsSlot D.IsScratch self.new) }
-        ensures children { IfOk result (λ n. HasPutChildren (D.IsStateOf self.old.dispatcher.now)
-            (D.shop self.old.dispatcher.now) branching.now.limit branching.now.word.now
-            stack.old.items stack.new.items n) }
-        ensures more { IfOk result (λ n. branching.now.closed ≤ n) }
+        requires sound { HoldSlots D.Dispatching self.old }
+        requires branching { IsBranchingOf D.Dispatching self.old branching.now }
+        requires bounded { AreBounded D.Dispatching self.old branching.now top }
+        ensures sound { OnOk result (HoldSlots D.Dispatching self.new) }
+        ensures children { IfOk result
+            (HasPutAll D.Dispatching self.old branching.now stack.old.items stack.new.items) }
         ensures dispatcher { self.new.dispatcher.now ≡ self.old.dispatcher.now }
     {
-        let Branching {
-            word,
-            bound,
-            limit,
-            candidates,
-            closed,
-            ..
-        } = *branching;
-        let (from, depth) = (stack.len(), word.len() as u32);
-        let mut others = closed;
+        let (bound, limit, candidates) = (branching.bound, branching.limit, branching.candidates);
+        let (from, depth) = (stack.len(), branching.word.len() as u32);
+        let mut others = branching.closed;
         // The last job first, as in `try_candidates`.
         for index in (0..candidates.len()).rev() {
             let candidate = candidates[index];
@@ -104,12 +77,8 @@ impl<'l, D: Dispatching<S>, S: Drop> WalkStates<'l, D, S> {
             let settled = bound.max(candidate.own);
             if top <= settled {
                 if settled < limit {
-                    let child = Open {
-                        depth,
-                        job,
-                        bound: settled,
-                    };
-                    put(stack, from, child, None)?;
+                    let bound = settled;
+                    put(stack, from, Open { depth, job, bound }, None)?;
                 } else {
                     others += 1;
                 }

@@ -1,12 +1,10 @@
 // The states that a walk keeps: that of its current word, one in which it tries children, and spare ones.
-ghost use Rattle.std.specs.Prelude.{◌≡◌, ℕ, ◌≤◌, List, [], ◌∷◌, ◌++◌, length, vec_capacity, IfOk, OnOk, OnSome};
+ghost use Rattle.std.specs.Prelude.{◌≡◌, ℕ, ◌≤◌, List, [], ◌∷◌, ◌++◌, length, vec_capacity, IfOk, OnOk};
 ghost use Rattle.shop_model.specs.Word.{IsWord};
-ghost use Rattle.shop_bound.specs.Bound.{lb};
-ghost use Rattle.shop_states.specs.States.{ListsBelow, CanDispatch, HasSoleCandidate, IsOfSomeWord};
-ghost use Rattle.shop_states.specs.States.{TellsBoundBelow};
+ghost use Rattle.shop_states.specs.States.{HasSoleCandidate, IsOfSomeWord};
 ghost use Rattle.shop_nodes.specs.Branching.{conflict};
 ghost use Rattle.shop_tree.specs.inner.Held.{IsHeldOf};
-ghost use Rattle.shop_tree.specs.inner.Slots.{HoldSlots};
+ghost use Rattle.shop_tree.specs.inner.Slots.{CanTake, HasTaken, HaveStayed, HoldSlots, IsStateIn, Lists};
 
 mod trials;
 
@@ -33,7 +31,7 @@ impl<'l, D: Dispatching<S>, S: Drop> WalkStates<'l, D, S> {
         dispatcher: &'l D,
         most: usize,
     ) -> Result<WalkStates<'l, D, S>, NoMemory>
-        ensures sound { IfOk result (HoldSlots D.IsSlot D.IsScratch) }
+        ensures sound { IfOk result (HoldSlots D.Dispatching) }
         ensures dispatcher { IfOk result (λ s. s.dispatcher.now ≡ dispatcher.now) }
     {
         Ok(WalkStates {
@@ -48,10 +46,10 @@ impl<'l, D: Dispatching<S>, S: Drop> WalkStates<'l, D, S> {
 
     /// Fills the current state from the word `path`.
     pub(crate) fn fill(&mut self, path: &[u16])
-        requires sound { HoldSlots D.IsSlot D.IsScratch self.old }
+        requires sound { HoldSlots D.Dispatching self.old }
         requires word { IsWord (D.shop self.old.dispatcher.now) path.now }
-        ensures sound { HoldSlots D.IsSlot D.IsScratch self.new }
-        ensures state { D.IsStateOf self.old.dispatcher.now path.now self.new.current.value }
+        ensures sound { HoldSlots D.Dispatching self.new }
+        ensures state { IsStateIn D.Dispatching self.new path.now }
         ensures dispatcher { self.new.dispatcher.now ≡ self.old.dispatcher.now }
     {
         self.dispatcher
@@ -61,14 +59,12 @@ impl<'l, D: Dispatching<S>, S: Drop> WalkStates<'l, D, S> {
     /// Replaces `candidates` by the current word's candidates with `own` below `limit`. Answers how many are left out.
     #[inline(always)]
     pub(crate) fn list_candidates(&mut self, limit: u64, candidates: &mut Vec<Candidate>) -> usize
-        requires sound { HoldSlots D.IsSlot D.IsScratch self.old }
-        requires state { IsOfSomeWord
-            (λ w. D.IsStateOf self.old.dispatcher.now w self.old.current.value) }
+        requires sound { HoldSlots D.Dispatching self.old }
+        requires state { IsOfSomeWord (IsStateIn D.Dispatching self.old) }
         requires room { length (D.shop self.old.dispatcher.now).jobs ≤ vec_capacity candidates.old }
-        ensures sound { HoldSlots D.IsSlot D.IsScratch self.new }
-        ensures listed { (w : List ℕ) → D.IsStateOf self.old.dispatcher.now w self.old.current.value
-            → ListsBelow (D.shop self.old.dispatcher.now) w limit (D.IsCandidate self.old.dispatcher.now w)
-            (conflict (D.shop self.old.dispatcher.now) w) candidates.new.items result }
+        ensures sound { HoldSlots D.Dispatching self.new }
+        ensures listed { (w : List ℕ) → IsStateIn D.Dispatching self.old w
+            → Lists D.Dispatching self.old w limit candidates.new.items result }
         ensures room { vec_capacity candidates.old ≤ vec_capacity candidates.new }
         ensures current { self.new.current.value ≡ self.old.current.value }
         ensures dispatcher { self.new.dispatcher.now ≡ self.old.dispatcher.now }
@@ -79,13 +75,12 @@ impl<'l, D: Dispatching<S>, S: Drop> WalkStates<'l, D, S> {
 
     /// Dispatches, in the current state, the next operation of `job`, the only job in the conflict set.
     pub(crate) fn strike(&mut self, job: u16)
-        requires sound { HoldSlots D.IsSlot D.IsScratch self.old }
-        requires sole { HasSoleCandidate (D.shop self.old.dispatcher.now)
-            (λ w. D.IsStateOf self.old.dispatcher.now w self.old.current.value) job }
-        ensures sound { HoldSlots D.IsSlot D.IsScratch self.new }
-        ensures state { (w : List ℕ) → D.IsStateOf self.old.dispatcher.now w self.old.current.value
+        requires sound { HoldSlots D.Dispatching self.old }
+        requires sole { HasSoleCandidate (D.shop self.old.dispatcher.now) (IsStateIn D.Dispatching self.old) job }
+        ensures sound { HoldSlots D.Dispatching self.new }
+        ensures state { (w : List ℕ) → IsStateIn D.Dispatching self.old w
             → conflict (D.shop self.old.dispatcher.now) w ≡ job ∷ []
-            → D.IsStateOf self.old.dispatcher.now (w ++ job ∷ []) self.new.current.value }
+            → IsStateIn D.Dispatching self.new (w ++ job ∷ []) }
         ensures dispatcher { self.new.dispatcher.now ≡ self.old.dispatcher.now }
     {
         self.dispatcher.strike(&mut self.current, job);
@@ -95,27 +90,15 @@ impl<'l, D: Dispatching<S>, S: Drop> WalkStates<'l, D, S> {
     /// `None`, and the current state is no word's state any more. `bound` is the bound of the word before the dispatch.
     #[inline(always)]
     pub(crate) fn advance(&mut self, candidate: Candidate, bound: u64, limit: u64) -> Option<u64>
-        requires sound { HoldSlots D.IsSlot D.IsScratch self.old }
-        requires can { CanDispatch (D.shop self.old.dispatcher.now)
-            (λ w. D.IsStateOf self.old.dispatcher.now w self.old.current.value
-            × D.IsCandidate self.old.dispatcher.now w candidate) candidate.job bound }
-        ensures sound { HoldSlots D.IsSlot D.IsScratch self.new }
-        ensures told { (w : List ℕ) → D.IsStateOf self.old.dispatcher.now w self.old.current.value
-            → D.IsCandidate self.old.dispatcher.now w candidate → bound ≡ lb (D.shop self.old.dispatcher.now) w
-            → TellsBoundBelow limit (lb (D.shop self.old.dispatcher.now) (w ++ candidate.job ∷ [])) result }
-        ensures state { (w : List ℕ) → D.IsStateOf self.old.dispatcher.now w self.old.current.value
-            → D.IsCandidate self.old.dispatcher.now w candidate
-            → OnSome result (D.IsStateOf self.old.dispatcher.now (w ++ candidate.job ∷ [])
-            self.new.current.value) }
+        requires sound { HoldSlots D.Dispatching self.old }
+        requires can { CanTake D.Dispatching self.old candidate bound }
+        ensures sound { HoldSlots D.Dispatching self.new }
+        ensures taken { HasTaken D.Dispatching self.old candidate bound limit result self.new.current.value }
         ensures dispatcher { self.new.dispatcher.now ≡ self.old.dispatcher.now }
     {
-        self.dispatcher.dispatch_below(
-            &mut self.scratch,
-            &mut self.current,
-            candidate,
-            bound,
-            limit,
-        )
+        let (scratch, state) = (&mut self.scratch, &mut self.current);
+        self.dispatcher
+            .dispatch_below(scratch, state, candidate, bound, limit)
     }
 
     /// Answers how many states are spare or can still be allocated.
@@ -125,12 +108,10 @@ impl<'l, D: Dispatching<S>, S: Drop> WalkStates<'l, D, S> {
 
     /// Keeps `state`, if there is one, as a spare state. Fails with `NoMemory` if memory runs out.
     pub(crate) fn give_back(&mut self, state: Option<Box<S>>) -> Result<(), NoMemory>
-        requires sound { HoldSlots D.IsSlot D.IsScratch self.old }
+        requires sound { HoldSlots D.Dispatching self.old }
         requires slot { IsHeldOf (λ _ s. D.IsSlot self.old.dispatcher.now s) [] state }
-        ensures sound { OnOk result (HoldSlots D.IsSlot D.IsScratch self.new) }
-        ensures current { OnOk result (self.new.current.value ≡ self.old.current.value) }
-        ensures trial { OnOk result (self.new.trial.value ≡ self.old.trial.value) }
-        ensures scratch { OnOk result (self.new.scratch ≡ self.old.scratch) }
+        ensures sound { OnOk result (HoldSlots D.Dispatching self.new) }
+        ensures stayed { OnOk result (HaveStayed self.old self.new) }
         ensures dispatcher { self.new.dispatcher.now ≡ self.old.dispatcher.now }
     {
         let Some(state) = state else {
@@ -143,12 +124,11 @@ impl<'l, D: Dispatching<S>, S: Drop> WalkStates<'l, D, S> {
     /// Makes `state` the current state, and keeps the former one as a spare. If `state` is `None`, fills the current
     /// state from `word`. Fails with `NoMemory` if memory runs out.
     pub(crate) fn go_on_in(&mut self, state: Option<Box<S>>, word: &[u16]) -> Result<(), NoMemory>
-        requires sound { HoldSlots D.IsSlot D.IsScratch self.old }
+        requires sound { HoldSlots D.Dispatching self.old }
         requires word { IsWord (D.shop self.old.dispatcher.now) word.now }
         requires state { IsHeldOf (D.IsStateOf self.old.dispatcher.now) word.now state }
-        ensures sound { OnOk result (HoldSlots D.IsSlot D.IsScratch self.new) }
-        ensures state { OnOk result
-            (D.IsStateOf self.old.dispatcher.now word.now self.new.current.value) }
+        ensures sound { OnOk result (HoldSlots D.Dispatching self.new) }
+        ensures state { OnOk result (IsStateIn D.Dispatching self.new word.now) }
         ensures dispatcher { self.new.dispatcher.now ≡ self.old.dispatcher.now }
     {
         let Some(state) = state else {
@@ -164,12 +144,10 @@ impl<'l, D: Dispatching<S>, S: Drop> WalkStates<'l, D, S> {
     /// memory runs out.
     #[inline(always)]
     fn spare_state(&mut self, alloc: Global) -> Result<Option<Box<S>>, NoMemory>
-        requires sound { HoldSlots D.IsSlot D.IsScratch self.old }
-        ensures sound { OnOk result (HoldSlots D.IsSlot D.IsScratch self.new) }
+        requires sound { HoldSlots D.Dispatching self.old }
+        ensures sound { OnOk result (HoldSlots D.Dispatching self.new) }
         ensures slot { IfOk result (IsHeldOf (λ _ s. D.IsSlot self.old.dispatcher.now s) []) }
-        ensures current { self.new.current.value ≡ self.old.current.value }
-        ensures trial { self.new.trial.value ≡ self.old.trial.value }
-        ensures scratch { self.new.scratch ≡ self.old.scratch }
+        ensures stayed { HaveStayed self.old self.new }
         ensures dispatcher { self.new.dispatcher.now ≡ self.old.dispatcher.now }
     {
         if let Some(state) = self.spare.pop() {
@@ -181,12 +159,10 @@ impl<'l, D: Dispatching<S>, S: Drop> WalkStates<'l, D, S> {
     /// Allocates a state; answers `None` if the walk may allocate no more. Fails with `NoMemory` if memory runs out.
     #[inline(never)]
     fn new_state(&mut self, alloc: Global) -> Result<Option<Box<S>>, NoMemory>
-        requires sound { HoldSlots D.IsSlot D.IsScratch self.old }
-        ensures sound { OnOk result (HoldSlots D.IsSlot D.IsScratch self.new) }
+        requires sound { HoldSlots D.Dispatching self.old }
+        ensures sound { OnOk result (HoldSlots D.Dispatching self.new) }
         ensures slot { IfOk result (IsHeldOf (λ _ s. D.IsSlot self.old.dispatcher.now s) []) }
-        ensures current { self.new.current.value ≡ self.old.current.value }
-        ensures trial { self.new.trial.value ≡ self.old.trial.value }
-        ensures scratch { self.new.scratch ≡ self.old.scratch }
+        ensures stayed { HaveStayed self.old self.new }
         ensures dispatcher { self.new.dispatcher.now ≡ self.old.dispatcher.now }
     {
         if self.unmade == 0 {
@@ -199,8 +175,8 @@ impl<'l, D: Dispatching<S>, S: Drop> WalkStates<'l, D, S> {
     /// Takes out the trial's state, and puts a spare or new one in its place. Answers `None` if neither can be had.
     /// Fails with `NoMemory` if memory runs out.
     pub(crate) fn take_trial(&mut self, alloc: Global) -> Result<Option<Box<S>>, NoMemory>
-        requires sound { HoldSlots D.IsSlot D.IsScratch self.old }
-        ensures sound { OnOk result (HoldSlots D.IsSlot D.IsScratch self.new) }
+        requires sound { HoldSlots D.Dispatching self.old }
+        ensures sound { OnOk result (HoldSlots D.Dispatching self.new) }
         ensures taken { IfOk result (IsHeldOf (λ _ s. s ≡ self.old.trial.value) []) }
         ensures current { self.new.current.value ≡ self.old.current.value }
         ensures scratch { self.new.scratch ≡ self.old.scratch }
@@ -215,8 +191,8 @@ impl<'l, D: Dispatching<S>, S: Drop> WalkStates<'l, D, S> {
     /// Takes out the current state, and puts a spare or new one in its place. Answers `None` if neither can be had.
     /// Fails with `NoMemory` if memory runs out.
     pub(crate) fn take_current(&mut self, alloc: Global) -> Result<Option<Box<S>>, NoMemory>
-        requires sound { HoldSlots D.IsSlot D.IsScratch self.old }
-        ensures sound { OnOk result (HoldSlots D.IsSlot D.IsScratch self.new) }
+        requires sound { HoldSlots D.Dispatching self.old }
+        ensures sound { OnOk result (HoldSlots D.Dispatching self.new) }
         ensures taken { IfOk result (IsHeldOf (λ _ s. s ≡ self.old.current.value) []) }
         ensures dispatcher { self.new.dispatcher.now ≡ self.old.dispatcher.now }
     {

@@ -100,10 +100,8 @@ impl<'l, 'a, D: Dispatching<S>, S: Drop> Walker<'l, 'a, D, S> {
         }
         let count = count - self.progress.budget as u32;
         self.progress.budget = 0;
-        self.stack.push(Held {
-            waiting: Waiting::Rest { depth, count },
-            state: None,
-        })?;
+        let (waiting, state) = (Waiting::Rest { depth, count }, None);
+        self.stack.push(Held { waiting, state })?;
         Ok(())
     }
 

@@ -2,13 +2,12 @@
 --     IsNext shop p j n            n is the next operation of job j: its machine, its head, and when it can end
 --     IsNextIfAny shop w j result  the next operation of job j after w, or none where no step is left
 --     is_in_conflict n chosen      n is the chosen one, or is on its machine and can begin before that can end
---     open_below shop p n          the jobs below n with steps left, in order
 --     IsChoice shop p js chosen    the next operation of the chosen one of these jobs, or none where there is no job
 --     placing_of placed            the placing of the word
 --     IsChosen placed chosen       the choice among all jobs with steps left
 --     conflicting_with placed c    the jobs whose next operations conflict with that of job c
 use Rattle.std.specs.Prelude.{◌≡◌, ℕ, ◌≤◌, Bool, ◌==◌, ◌&&◌, ◌||◌, Option, Some, None, List, [], ◌∷◌, length, filter}
-use Rattle.std.specs.{Prelude.nat_lt, List.range_with_len}
+use Rattle.std.specs.Prelude.{nat_lt}
 use Rattle.shop_model.specs.{Shop.{Shop, route_of, IsOperation}, Word.{Placing, placing}}
 use Rattle.shop_nodes.specs.Branching.{open_jobs, next_machine, next_head, next_end, chosen_of, conflicts_with}
 use Rattle.shop_nodes.specs.declared.next_operations.NextOperation.{NextOperation}
@@ -27,9 +26,6 @@ IsNextIfAny shop w j (Some n) = IsNext shop (placing shop w) j n
 
 abbrev pub is_in_conflict : NextOperation → NextOperation → Bool
 is_in_conflict n chosen = n.job == chosen.job || (n.machine == chosen.machine && nat_lt n.head chosen.end)
-
-abbrev pub open_below : Shop → Placing → ℕ → List ℕ
-open_below shop p n = filter (λ j. nat_lt (p.steps j) (length (route_of shop j))) (range_with_len 0 n)
 
 abbrev pub IsChoice : Shop → Placing → List ℕ → Option NextOperation → Type 0
 IsChoice shop p [] None = Unit {0}

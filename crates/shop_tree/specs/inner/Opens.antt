@@ -1,7 +1,7 @@
 -- Entries of a stack, children put in order of their bounds, and all children of a word.
 --     open_words word opens                the words of open children, in order
 --     depth_of x                           with how many entries of the word it begins
---     IsUpTo n x, IsFrom n x, IsAt n x     with at most, at least, just n entries
+--     IsFrom n x, IsAt n x                 with at least, with just n entries
 --     IsRising stack                       no entry begins with less of the word than one below it
 --     AreWaiting shop best word stack      each entry waits, and they rise
 --     IsPlaceAbove bound opens i           from place i on all bounds are below this one, and the one before, if any,
@@ -21,9 +21,6 @@ open_words word opens = map (word_at word) opens
 abbrev pub depth_of : Waiting → ℕ
 depth_of (Child o) = o.depth
 depth_of (Rest depth count) = depth
-
-abbrev pub IsUpTo : ℕ → Waiting → Type 0
-IsUpTo n x = depth_of x ≤ n
 
 abbrev pub IsFrom : ℕ → Waiting → Type 0
 IsFrom n x = n ≤ depth_of x

@@ -6,20 +6,18 @@
 -- Of a walker:
 --     stage_of w          where it stands: what waits is told without states
 --     HasStates w         its states are kept so
---     IsAtState w         its current state is that of the word that it came to
---     HasCandidates w n   the candidates of that word whose bounds by their own machine are below the best are at hand,
---                         and there are n others
 --     StandsAs v w        w stands where v stood, with the same current state
---     StandsAt w b        its word has bound b, which is below the best, and all that waits and its states are in order
+--     StandsAt w b        its word has bound b, which is below the best; all that waits, and its states, are in order
+--     IsListedAt w b n    so, its word isn't full, and its candidates are at hand, but for n others
 --     HasReached v w b    the walk went on from v's word to one with bound b, and took it
 --     HasGoneOn v w told  the walk went on from v's word to a child with the bound that is told, or had nowhere to go
-use Rattle.std.specs.Prelude.{◌≡◌, ℕ, ◌<◌, Option, Some, None, List, All}
+use Rattle.std.specs.Prelude.{◌≡◌, ℕ, ◌<◌, Option, Some, None, List, All, length}
 use Rattle.shop_bound.specs.Bound.{lb}
-use Rattle.shop_states.specs.{States.ListsBelow, declared.dispatching.Dispatching.Ghosts}
-use Rattle.shop_nodes.specs.Branching.{conflict}
+use Rattle.shop_states.specs.declared.dispatching.Dispatching.{Ghosts}
 use Rattle.shop_tree.specs.{declared.held.Held.Held, declared.walk_states.WalkStates.WalkStates}
 use Rattle.shop_tree.specs.{declared.walkers.Walker.Walker, inner.Held.{IsHeld, waiting_in}, inner.Searching.walked}
-use Rattle.shop_tree.specs.{inner.Slots.HoldSlots, inner.Walkers.{Stage, HasExpanded, HasFollowed, IsInOrder}}
+use Rattle.shop_tree.specs.inner.{Slots.{HoldSlots, IsStateIn, Lists}, Walkers.{Stage, HasExpanded, HasFollowed}}
+use Rattle.shop_tree.specs.inner.Walkers.{IsInOrder}
 
 abbrev pub AreHeld : {S : Type 0} → (List ℕ → S → Type 0) → List ℕ → List (Held S) → Type 0
 AreHeld is word hs = All (IsHeld is word) hs
@@ -27,7 +25,7 @@ AreHeld is word hs = All (IsHeld is word) hs
 pub record KeepsStates {D S C : Type 0} (g : Ghosts D S C) (word : List ℕ) (hs : List (Held S))
     (s : WalkStates D S C) : Type 0 where
   pub held : AreHeld (g.IsStateOf s.dispatcher.now) word hs
-  pub states : HoldSlots g.IsSlot g.IsScratch s
+  pub states : HoldSlots g s
 
 module _ {D S C : Type 0} {g : Ghosts D S C} where
   abbrev pub stage_of : Walker D S C g → Stage
@@ -37,15 +35,6 @@ module _ {D S C : Type 0} {g : Ghosts D S C} where
     walk = walked w.progress;
     stack = waiting_in w.stack.items;
   }
-
-  abbrev pub HasCandidates : Walker D S C g → ℕ → Type 0
-  HasCandidates w n =
-      let d = w.states.dispatcher.now
-      in ListsBelow (g.shop d) w.path.items w.progress.best (g.IsCandidate d w.path.items)
-      (conflict (g.shop d) w.path.items) w.candidates.items n
-
-  abbrev pub IsAtState : Walker D S C g → Type 0
-  IsAtState w = g.IsStateOf w.states.dispatcher.now w.path.items w.states.current.value
 
   abbrev pub HasStates : Walker D S C g → Type 0
   HasStates w = KeepsStates g w.path.items w.stack.items w.states
@@ -62,7 +51,12 @@ pub record StandsAt {D S C : Type 0} {g : Ghosts D S C} (w : Walker D S C g) (b 
   pub below : b < w.progress.best
   pub in_order : IsInOrder (stage_of w)
   pub states : HasStates w
-  pub state : IsAtState w
+  pub state : IsStateIn g w.states w.path.items
+
+pub record IsListedAt {D S C : Type 0} {g : Ghosts D S C} (w : Walker D S C g) (b n : ℕ) : Type 0 where
+  pub at : StandsAt w b
+  pub short : length w.path.items < w.progress.operations
+  pub candidates : Lists g w.states w.path.items w.progress.best w.candidates.items n
 
 pub record HasReached {D S C : Type 0} {g : Ghosts D S C} (v w : Walker D S C g) (b : ℕ) : Type 0 where
   pub followed : HasFollowed (stage_of v) (stage_of w)

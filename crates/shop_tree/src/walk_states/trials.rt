@@ -1,11 +1,8 @@
 // Trials of a word's children: each in a copy of the state of the word, or in this state itself.
-ghost use Rattle.std.specs.Prelude.{◌≡◌, ℕ, ◌≤◌, false, IsTrue, List, [], ◌∷◌, ◌++◌, All, IfOk, IfSome, OnOk};
-ghost use Rattle.std.specs.Prelude.{OnSome, length};
-ghost use Rattle.shop_bound.specs.Bound.{lb};
-ghost use Rattle.shop_states.specs.States.{ListsBelow, CanDispatch, HasListed, Settles, TellsBoundBelow};
-ghost use Rattle.shop_nodes.specs.Branching.{conflict};
-ghost use Rattle.shop_tree.specs.inner.Slots.{HoldSlots};
-ghost use Rattle.shop_tree.specs.inner.Tried.{AreSlotsFrom, HasMadeRoom, HasPutChildren, HasPutTried};
+ghost use Rattle.std.specs.Prelude.{◌≡◌, ℕ, ◌≤◌, false, IsTrue, List, [], ◌∷◌, ◌++◌, All, IfOk, IfSome, OnOk, length};
+ghost use Rattle.shop_tree.specs.inner.Slots.{AreBounded, CanTake, CanTakeKnown, HasPutAll, HasTaken, HaveStayed};
+ghost use Rattle.shop_tree.specs.inner.Slots.{HoldSlots, IsBranchingOf, IsStateIn};
+ghost use Rattle.shop_tree.specs.inner.Tried.{AreSlotsFrom, HasMadeRoom, HasPutTried};
 
 use super::WalkStates;
 use crate::branchings::Branching;
@@ -27,18 +24,10 @@ impl<'l, D: Dispatching<S>, S: Drop> WalkStates<'l, D, S> {
         bound: u64,
         limit: u64,
     ) -> Option<u64>
-        requires sound { HoldSlots D.IsSlot D.IsScratch self.old }
-        requires can { CanDispatch (D.shop self.old.dispatcher.now)
-            (λ w. D.IsStateOf self.old.dispatcher.now w self.old.current.value
-            × D.IsCandidate self.old.dispatcher.now w candidate) candidate.job bound }
-        ensures sound { HoldSlots D.IsSlot D.IsScratch self.new }
-        ensures told { (w : List ℕ) → D.IsStateOf self.old.dispatcher.now w self.old.current.value
-            → D.IsCandidate self.old.dispatcher.now w candidate → bound ≡ lb (D.shop self.old.dispatcher.now) w
-            → TellsBoundBelow limit (lb (D.shop self.old.dispatcher.now) (w ++ candidate.job ∷ [])) result }
-        ensures state { (w : List ℕ) → D.IsStateOf self.old.dispatcher.now w self.old.current.value
-            → D.IsCandidate self.old.dispatcher.now w candidate
-            → OnSome result (D.IsStateOf self.old.dispatcher.now (w ++ candidate.job ∷ [])
-            self.new.trial.value) }
+        requires sound { HoldSlots D.Dispatching self.old }
+        requires can { CanTake D.Dispatching self.old candidate bound }
+        ensures sound { HoldSlots D.Dispatching self.new }
+        ensures taken { HasTaken D.Dispatching self.old candidate bound limit result self.new.trial.value }
         ensures current { is_last ≡ false → self.new.current.value ≡ self.old.current.value }
         ensures dispatcher { self.new.dispatcher.now ≡ self.old.dispatcher.now }
     {
@@ -49,107 +38,63 @@ impl<'l, D: Dispatching<S>, S: Drop> WalkStates<'l, D, S> {
                 .dispatcher
                 .dispatch_below(scratch, trial, candidate, bound, limit);
         }
-        self.dispatcher.dispatch_below_in_copy(
-            &mut self.scratch,
-            &self.current,
-            &mut self.trial,
-            candidate,
-            bound,
-            limit,
-        )
+        let (scratch, trial) = (&mut self.scratch, &mut self.trial);
+        self.dispatcher
+            .dispatch_below_in_copy(scratch, &self.current, trial, candidate, bound, limit)
     }
 
     /// Bounds the children of the current word, that of `branching`, as `Dispatching::bound_children` does, if they are
     /// best bounded together. Uses up the trial's state.
     #[inline(always)]
     fn bound_children(&mut self, branching: &Branching<'_>) -> Option<u64>
-        requires sound { HoldSlots D.IsSlot D.IsScratch self.old }
-        requires can { HasListed (D.shop self.old.dispatcher.now)
-            (λ w. D.IsStateOf self.old.dispatcher.now w self.old.current.value)
-            (D.IsCandidate self.old.dispatcher.now) branching.now.candidates.now branching.now.bound }
-        ensures sound { HoldSlots D.IsSlot D.IsScratch self.new }
-        ensures settled { IfSome result (λ top. (w : List ℕ) (limit others : ℕ)
-            → D.IsStateOf self.old.dispatcher.now w self.old.current.value
-            → branching.now.bound ≡ lb (D.shop self.old.dispatcher.now) w
-            → ListsBelow (D.shop self.old.dispatcher.now) w limit (D.IsCandidate self.old.dispatcher.now w)
-            (conflict (D.shop self.old.dispatcher.now) w) branching.now.candidates.now others
-            → Settles (D.shop self.old.dispatcher.now) w branching.now.bound top branching.now.candidates.now) }
-        ensures known { IfSome result (λ top. (w : List ℕ) (limit others : ℕ)
-            → D.IsStateOf self.old.dispatcher.now w self.old.current.value
-            → branching.now.bound ≡ lb (D.shop self.old.dispatcher.now) w
-            → ListsBelow (D.shop self.old.dispatcher.now) w limit (D.IsCandidate self.old.dispatcher.now w)
-            (conflict (D.shop self.old.dispatcher.now) w) branching.now.candidates.now others
-            → All (λ c. D.KnowsChild self.old.dispatcher.now self.new.scratch w c.job)
-            branching.now.candidates.now) }
-        ensures current { self.new.current.value ≡ self.old.current.value }
+        requires sound { HoldSlots D.Dispatching self.old }
+        requires branching { IsBranchingOf D.Dispatching self.old branching.now }
+        ensures sound { HoldSlots D.Dispatching self.new }
+        ensures branching { IsBranchingOf D.Dispatching self.new branching.now }
+        ensures bounded { IfSome result (AreBounded D.Dispatching self.new branching.now) }
         ensures dispatcher { self.new.dispatcher.now ≡ self.old.dispatcher.now }
     {
         if !branching.is_together {
             return None;
         }
-        self.dispatcher.bound_children(
-            &mut self.scratch,
-            &self.current,
-            &mut self.trial,
-            branching.candidates,
-            branching.bound,
-        )
+        let (candidates, bound) = (branching.candidates, branching.bound);
+        let (scratch, room) = (&mut self.scratch, &mut self.trial);
+        self.dispatcher
+            .bound_children(scratch, &self.current, room, candidates, bound)
     }
 
     /// Dispatches `candidate` in a copy of the current state, the trial's, after `bound_children`. Answers the child's
     /// bound if it is below `limit`. `bound` is the bound of the current word.
     pub(crate) fn try_child(&mut self, candidate: Candidate, bound: u64, limit: u64) -> Option<u64>
-        requires sound { HoldSlots D.IsSlot D.IsScratch self.old }
-        requires can { CanDispatch (D.shop self.old.dispatcher.now)
-            (λ w. D.IsStateOf self.old.dispatcher.now w self.old.current.value
-            × D.IsCandidate self.old.dispatcher.now w candidate
-            × D.KnowsChild self.old.dispatcher.now self.old.scratch w candidate.job) candidate.job bound }
-        ensures sound { HoldSlots D.IsSlot D.IsScratch self.new }
-        ensures told { (w : List ℕ) → D.IsStateOf self.old.dispatcher.now w self.old.current.value
-            → D.IsCandidate self.old.dispatcher.now w candidate → bound ≡ lb (D.shop self.old.dispatcher.now) w
-            → TellsBoundBelow limit (lb (D.shop self.old.dispatcher.now) (w ++ candidate.job ∷ [])) result }
-        ensures state { (w : List ℕ) → D.IsStateOf self.old.dispatcher.now w self.old.current.value
-            → D.IsCandidate self.old.dispatcher.now w candidate
-            → OnSome result (D.IsStateOf self.old.dispatcher.now (w ++ candidate.job ∷ [])
-            self.new.trial.value) }
+        requires sound { HoldSlots D.Dispatching self.old }
+        requires can { CanTakeKnown D.Dispatching self.old candidate bound }
+        ensures sound { HoldSlots D.Dispatching self.new }
+        ensures taken { HasTaken D.Dispatching self.old candidate bound limit result self.new.trial.value }
         ensures kept { (w : List ℕ) (j : ℕ)
             → D.KnowsChild self.old.dispatcher.now self.old.scratch w j
             → D.KnowsChild self.old.dispatcher.now self.new.scratch w j }
         ensures current { self.new.current.value ≡ self.old.current.value }
         ensures dispatcher { self.new.dispatcher.now ≡ self.old.dispatcher.now }
     {
-        self.dispatcher.dispatch_child_in_copy(
-            &mut self.scratch,
-            &self.current,
-            &mut self.trial,
-            candidate,
-            bound,
-            limit,
-        )
+        let (scratch, trial) = (&mut self.scratch, &mut self.trial);
+        self.dispatcher
+            .dispatch_child_in_copy(scratch, &self.current, trial, candidate, bound, limit)
     }
 
-    /// Dispatches the candidate with this `job` in the current state itself, after `bound_children`, where the bound of
-    /// its child is known already, and is below `limit`. Answers whether the current state is the child's now; else it
-    /// may be no word's state any more. `bound` is the bound of the word before the dispatch.
-    pub(crate) fn advance_to(
-        &mut self,
-        job: u16,
-        candidates: &[Candidate],
-        bound: u64,
-        limit: u64,
-    ) -> bool
-        requires sound { HoldSlots D.IsSlot D.IsScratch self.old }
-        requires can { All (λ c. CanDispatch (D.shop self.old.dispatcher.now)
-            (λ w. D.IsStateOf self.old.dispatcher.now w self.old.current.value
-            × D.IsCandidate self.old.dispatcher.now w c
-            × D.KnowsChild self.old.dispatcher.now self.old.scratch w c.job) c.job bound) candidates.now }
-        ensures sound { HoldSlots D.IsSlot D.IsScratch self.new }
-        ensures state { IsTrue result → (w : List ℕ)
-            → D.IsStateOf self.old.dispatcher.now w self.old.current.value
-            → All (D.IsCandidate self.old.dispatcher.now w) candidates.now
-            → D.IsStateOf self.old.dispatcher.now (w ++ job ∷ []) self.new.current.value }
+    /// Dispatches the candidate of `branching` with this `job` in the current state itself, after `bound_children`. The
+    /// bound of its child is known already, and is below the limit. Answers whether the current state is the child's
+    /// now; else it may be no word's state any more.
+    pub(crate) fn advance_to(&mut self, job: u16, branching: &Branching<'_>) -> bool
+        requires sound { HoldSlots D.Dispatching self.old }
+        requires can { All (λ c. CanTakeKnown D.Dispatching self.old c branching.now.bound)
+            branching.now.candidates.now }
+        ensures sound { HoldSlots D.Dispatching self.new }
+        ensures state { IsTrue result → (w : List ℕ) → IsStateIn D.Dispatching self.old w
+            → All (D.IsCandidate self.old.dispatcher.now w) branching.now.candidates.now
+            → IsStateIn D.Dispatching self.new (w ++ job ∷ []) }
         ensures dispatcher { self.new.dispatcher.now ≡ self.old.dispatcher.now }
     {
+        let (bound, limit, candidates) = (branching.bound, branching.limit, branching.candidates);
         for index in 0..candidates.len() {
             let candidate = candidates[index];
             if candidate.job == job {
@@ -172,13 +117,11 @@ impl<'l, D: Dispatching<S>, S: Drop> WalkStates<'l, D, S> {
         from: usize,
         bound: u64,
     ) -> Result<(), NoMemory>
-        requires sound { HoldSlots D.IsSlot D.IsScratch self.old }
+        requires sound { HoldSlots D.Dispatching self.old }
         requires slots { AreSlotsFrom (D.IsSlot self.old.dispatcher.now) from stack.old.items }
-        ensures sound { OnOk result (HoldSlots D.IsSlot D.IsScratch self.new) }
+        ensures sound { OnOk result (HoldSlots D.Dispatching self.new) }
         ensures stripped { HasMadeRoom from stack.old.items stack.new.items }
-        ensures current { OnOk result (self.new.current.value ≡ self.old.current.value) }
-        ensures trial { OnOk result (self.new.trial.value ≡ self.old.trial.value) }
-        ensures scratch { OnOk result (self.new.scratch ≡ self.old.scratch) }
+        ensures stayed { OnOk result (HaveStayed self.old self.new) }
         ensures dispatcher { self.new.dispatcher.now ≡ self.old.dispatcher.now }
     {
         if self.free() > 0 {
@@ -199,10 +142,10 @@ impl<'l, D: Dispatching<S>, S: Drop> WalkStates<'l, D, S> {
         from: usize,
         child: Open,
     ) -> Result<(), NoMemory>
-        requires sound { HoldSlots D.IsSlot D.IsScratch self.old }
+        requires sound { HoldSlots D.Dispatching self.old }
         requires slots { AreSlotsFrom (D.IsSlot self.old.dispatcher.now) from stack.old.items }
         requires from { from ≤ length stack.old.items }
-        ensures sound { OnOk result (HoldSlots D.IsSlot D.IsScratch self.new) }
+        ensures sound { OnOk result (HoldSlots D.Dispatching self.new) }
         ensures put { OnOk result
             (HasPutTried from child self.old.trial.value stack.old.items stack.new.items) }
         ensures current { OnOk result (self.new.current.value ≡ self.old.current.value) }
@@ -225,37 +168,21 @@ impl<'l, D: Dispatching<S>, S: Drop> WalkStates<'l, D, S> {
         stack: &mut Vec<Held<S>>,
         branching: &Branching<'_>,
     ) -> Result<usize, NoMemory>
-        requires sound { HoldSlots D.IsSlot D.IsScratch self.old }
-        requires state { D.IsStateOf self.old.dispatcher.now branching.now.word.now
-            self.old.current.value }
-        requires bound { branching.now.bound
-            ≡ lb (D.shop self.old.dispatcher.now) branching.now.word.now }
-        requires listed { ListsBelow (D.shop self.old.dispatcher.now) branching.now.word.now
-            branching.now.limit (D.IsCandidate self.old.dispatcher.now branching.now.word.now)
-            (conflict (D.shop self.old.dispatcher.now) branching.now.word.now)
-            branching.now.candidates.now branching.now.closed }
-        ensures sound { OnOk result (HoldSlots D.IsSlot D.IsScratch self.new) }
-        ensures children { IfOk result (λ n. HasPutChildren (D.IsStateOf self.old.dispatcher.now)
-            (D.shop self.old.dispatcher.now) branching.now.limit branching.now.word.now
-            stack.old.items stack.new.items n) }
-        ensures more { IfOk result (λ n. branching.now.closed ≤ n) }
+        requires sound { HoldSlots D.Dispatching self.old }
+        requires branching { IsBranchingOf D.Dispatching self.old branching.now }
+        ensures sound { OnOk result (HoldSlots D.Dispatching self.new) }
+        ensures children { IfOk result
+            (HasPutAll D.Dispatching self.old branching.now stack.old.items stack.new.items) }
         ensures dispatcher { self.new.dispatcher.now ≡ self.old.dispatcher.now }
     {
-        let Branching {
-            word,
-            bound,
-            limit,
-            candidates,
-            closed,
-            ..
-        } = *branching;
         if let Some(top) = self.bound_children(branching) {
             // A record of its own: the caller's is then never written to memory.
             let branching = *branching;
             return self.settle_candidates(alloc, stack, &branching, top);
         }
-        let (from, depth) = (stack.len(), word.len() as u32);
-        let mut others = closed;
+        let (bound, limit, candidates) = (branching.bound, branching.limit, branching.candidates);
+        let (from, depth) = (stack.len(), branching.word.len() as u32);
+        let mut others = branching.closed;
         // Tries the last job first, so that of equal bounds the lower job lies above.
         for index in (0..candidates.len()).rev() {
             let candidate = candidates[index];

@@ -1,21 +1,18 @@
-use Rattle.std.proofs.Common.{arith}
 use Rattle.shop_text.specs.Names.{shop_of_named}
 use Rattle.shop_engine.specs.Asking.{name_in}
 use Rattle.shop_engine.proofs.Picks.{is_asked}
 use Rattle.shop_engine.proofs.SolvedSchedules.{passes_check}
 use Rattle.shop_engine.proofs.solving.solve.Goals as goal
 
-pub returns-clause-right : goal.returns-clause-right
-returns-clause-right g c = grind (arith, is_asked)
-
-pub returns-clause-determined : goal.returns-clause-determined
-returns-clause-determined g c =
+pub returns-clause-solution : goal.returns-clause-solution
+returns-clause-solution g c =
     let args = c.args.args.now
+    in let asked = shop_of_named c.in_ok-asked.asked.now
+    in let picked = is_asked args.format (name_in args.name) c.in_ok-named.ensures.0 c.as_slice.ensures.value
+    c.in_ok-asked.ensures
     in record {
-      asked = shop_of_named c.in_ok-asked.asked.now;
-      is_asked = is_asked args.format (name_in args.name) c.in_ok-named.ensures.0 c.as_slice.ensures.value
-          c.in_ok-asked.ensures;
-      says = c.in_ok-solve_instance.ensures.determined;
+      right = record { asked = asked; is_asked = picked; says = c.in_ok-solve_instance.ensures.right };
+      determined = record { asked = asked; is_asked = picked; says = c.in_ok-solve_instance.ensures.determined };
     }
 
 pub returns-clause-schedule : goal.returns-clause-schedule

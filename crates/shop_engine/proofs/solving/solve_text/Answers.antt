@@ -11,10 +11,7 @@ returns-clause-solving g c =
     in let out = c.in_ok-written.written.items
     in transferred (IsSolution args) (IsAskFault args.format (name_in args.name))
     (g.K.Sink.device c.args.sink.now) (g.K.Sink.device c.write_all.new.sink) c.in_ok-text.ensures.read
-    (subst (λ (text : List ℕ). IsSolution args text out) c.as_slice.ensures.value (record {
-      right = c.in_ok-written.ensures.right;
-      determined = c.in_ok-written.ensures.determined;
-    }))
+    (subst (λ (text : List ℕ). IsSolution args text out) c.as_slice.ensures.value c.in_ok-written.ensures.solution)
     c.as_slice-2.ensures.value c.write_all.result c.write_all.ensures.written c.write_all.ensures.unwritten
 
 pub returns-clause-right : goal.returns-clause-right

@@ -1,7 +1,7 @@
 use Rattle.std.proofs.Common.{arith}
 use Rattle.std.proofs.Common.{Some, subst}
-use Rattle.shop_nodes.specs.inner.Choosing.{placing_of, open_below, IsChoice}
-use Rattle.shop_nodes.proofs.ChoosingLemmas.{open-skip, open-more, choice-first, choice-sooner, choice-kept}
+use Rattle.shop_nodes.specs.inner.Choosing.{placing_of, IsChoice}
+use Rattle.shop_nodes.proofs.ChoosingLemmas.{open_below, open-skip, open-more, choice-first, choice-sooner, choice-kept}
 use Rattle.shop_nodes.proofs.conflicts.choose.Goals.{in-Some-chosen+else-best-next, in_default-chosen}
 use Rattle.shop_nodes.proofs.conflicts.choose.Goals as goal
 

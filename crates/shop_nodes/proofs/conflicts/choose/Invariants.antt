@@ -1,4 +1,5 @@
-use Rattle.shop_nodes.specs.inner.Choosing.{placing_of, open_below, IsChoice}
+use Rattle.shop_nodes.specs.inner.Choosing.{placing_of, IsChoice}
+use Rattle.shop_nodes.proofs.ChoosingLemmas.{open_below}
 use Rattle.shop_nodes.proofs.conflicts.choose.Given as goal
 
 abbrev pub invariant-loop-job : goal.invariant-loop-job

@@ -6,17 +6,17 @@ use Rattle.shop_nodes.specs.Halts.{stack_words}
 use Rattle.shop_nodes.proofs.LeftLemmas.{all_more}
 use Rattle.shop_nodes.proofs.left.waiting_nodes.Goals as goal
 
-pub loop-left-preserved : goal.loop-left-preserved
-loop-left-preserved c =
+pub loop-index-preserved : goal.loop-index-preserved
+loop-index-preserved c =
     let shop = c.args.instance.now
     in let path = arc_slice_items c.args.halt.now.path
-    in let now = c.loop-left.invariant
+    in let now = c.loop-index.invariant
     in let waiting = c.as_slice-waiting.result.now
-    in let k = c.loop-left.left - 1
-    in let some = c.loop-left-test.true
+    in let k = c.loop-index.index - 1
+    in let some = c.loop-index-test.true
     in let within = now.within
-    in let nodes = c.loop-left.nodes.items
-    in let one : c.loop-left.left ≡ k + 1 = omega arith
+    in let nodes = c.loop-index.nodes.items
+    in let one : c.loop-index.index ≡ k + 1 = omega arith
     in let words : words_of nodes ≡ stack_words shop path (drop (k + 1) waiting) =
     now.words ∙ ap (λ i. stack_words shop path (drop i waiting)) one
     in record {

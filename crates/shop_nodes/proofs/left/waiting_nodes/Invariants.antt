@@ -4,13 +4,10 @@ use Rattle.shop_nodes.specs.Nodes.{words_of, AreNodes}
 use Rattle.shop_nodes.specs.Halts.{stack_words}
 use Rattle.shop_nodes.proofs.left.waiting_nodes.Given as goal
 
-abbrev pub invariant-loop-left : goal.invariant-loop-left
-invariant-loop-left l = record {
-  within : l.left ≤ length l.waiting;
+abbrev pub invariant-loop-index : goal.invariant-loop-index
+invariant-loop-index l = record {
+  within : l.index ≤ length l.waiting;
   words : words_of l.nodes.items
-      ≡ stack_words l.instance (arc_slice_items l.halt.path) (drop l.left l.waiting);
+      ≡ stack_words l.instance (arc_slice_items l.halt.path) (drop l.index l.waiting);
   made : AreNodes l.instance l.nodes.items;
 }
-
-abbrev pub decreases-loop-left : goal.decreases-loop-left
-decreases-loop-left l = l.left

@@ -1,14 +1,12 @@
-use Rattle.std.proofs.Common.{◌≡◌, ◌+◌, ◌<◌, ◌≤◌, ◌-◌, [], ◌∷◌, ◌++◌, None, get_or, sym, ◌∙◌, ap, subst}
+use Rattle.std.proofs.Common.{◌≡◌, ◌+◌, ◌<◌, ◌≤◌, ◌-◌, [], ◌∷◌, ◌++◌, None, get_or, sym, ◌∙◌, subst}
 use Rattle.std.proofs.Common.{append-nil, arith, length, refl}
 use Rattle.std.specs.List.{insert}
 use Rattle.shop_model.proofs.WordLengths.{word_length}
 use Rattle.shop_bound.specs.Bound.{lb}
-use Rattle.shop_nodes.specs.Branching.{conflict}
-use Rattle.shop_states.specs.States.{ListsBelow, Settles}
 use Rattle.shop_states.specs.declared.dispatching.Candidate.{Candidate}
 use Rattle.shop_tree.specs.inner.Tried.{AreSlotsFrom, HasPutChildren}
 use Rattle.shop_tree.proofs.AddLemmas.{conflict_few}
-use Rattle.shop_tree.proofs.SiblingLemmas.{can_each, own_each, put_given, settled_bound, settled_child}
+use Rattle.shop_tree.proofs.SiblingLemmas.{bounded_stays, branching_stays, put_given, settled_bound, settled_child}
 use Rattle.shop_tree.proofs.StripLemmas.{are_slots, many, tried_kept}
 use Rattle.shop_tree.proofs.TrialLemmas.{IsTrying, trying_begins, next_own, next_fits, turn_counted}
 use Rattle.shop_tree.proofs.TrialLemmas.{turn_kept, told_high, all_tried}
@@ -21,10 +19,9 @@ pub loop-index-init : goal.loop-index-init
 loop-index-init g c = record {
   kids = [];
   stack = sym (append-nil _);
-  trying = trying_begins c.requires.listed c.requires.state;
-  state = c.requires.state;
-  known = c.requires.known;
-  bound = c.requires.bound;
+  trying = trying_begins c.requires.branching.listed c.requires.branching.state;
+  branching = c.requires.branching;
+  bounded = c.requires.bounded;
   more = omega arith;
   sound = c.requires.sound;
   same = refl;
@@ -35,7 +32,7 @@ overflow_add-others g c =
     let d = c.loop-index.self.dispatcher.now
     in let now = c.loop-index.invariant
     in let a = now.trying.few
-    in let limits = g.met.D.Dispatching.state_is_within_limits d c.args.branching.now.word.now _ now.state
+    in let limits = g.met.D.Dispatching.state_is_within_limits d c.args.branching.now.word.now _ now.branching.state
     in let b = conflict_few (g.D.Dispatching.shop d) c.args.branching.now.word.now in let e = limits.jobs
     in let some = c.loop-index-test.true in omega arith
 
@@ -44,7 +41,7 @@ overflow_add-others-in_default g c =
     let d = c.loop-index.self.dispatcher.now
     in let now = c.loop-index.invariant
     in let a = now.trying.few
-    in let limits = g.met.D.Dispatching.state_is_within_limits d c.args.branching.now.word.now _ now.state
+    in let limits = g.met.D.Dispatching.state_is_within_limits d c.args.branching.now.word.now _ now.branching.state
     in let b = conflict_few (g.D.Dispatching.shop d) c.args.branching.now.word.now in let e = limits.jobs
     in let some = c.loop-index-test.true in omega arith
 
@@ -62,11 +59,9 @@ loop-index-preserved-in_ok-put g c =
     in let none : Candidate = record { job = 0; own = 0 }
     in let job = (get_or cs (i - 1) none).job
     in let b = c.max-settled.result
-    in let settles = subst (λ x. Settles (g.D.Dispatching.shop x) word at.bound c.args.top cs) (sym now.same)
-    c.requires.settled
     in let within : i - 1 < length cs = (let a = now.trying.within in omega arith)
-    in let told = settled_bound shop word at.bound c.args.top cs settles (i - 1) none within b c.max-settled.ensures
-    c.if-top-settled.true
+    in let told = settled_bound shop word at.bound c.args.top cs now.bounded.settled (i - 1) none within b
+    c.max-settled.ensures c.if-top-settled.true
     in let child = settled_child is shop word at.limit job b told c.if-settled-limit.true
     in let e : c.len-from.result ≡ length c.args.stack.now.items =
     (let a = c.len-from.ensures in let k = c.args.stack.now.ok.0 in omega arith)
@@ -76,10 +71,9 @@ loop-index-preserved-in_ok-put g c =
           (record { «open» = record { depth = length word; job = job; bound = b }; state = None });
       stack = put.put;
       trying = turn_kept some now.trying c.loop-index.self.current.value
-          (g.met.D.Dispatching.state_is_of_word d word _ now.state) child put (λ more. now.state);
-      state = now.state;
-      known = now.known;
-      bound = now.bound;
+          (g.met.D.Dispatching.state_is_of_word d word _ now.branching.state) child put (λ more. now.branching.state);
+      branching = now.branching;
+      bounded = now.bounded;
       more = now.more;
       sound = now.sound;
       same = now.same;
@@ -98,19 +92,16 @@ loop-index-preserved-else-settled-limit g c =
     in let none : Candidate = record { job = 0; own = 0 }
     in let job = (get_or cs (i - 1) none).job
     in let b = c.max-settled.result
-    in let settles = subst (λ x. Settles (g.D.Dispatching.shop x) word at.bound c.args.top cs) (sym now.same)
-    c.requires.settled
     in let within : i - 1 < length cs = (let a = now.trying.within in omega arith)
-    in let told = settled_bound shop word at.bound c.args.top cs settles (i - 1) none within b c.max-settled.ensures
-    c.if-top-settled.true
+    in let told = settled_bound shop word at.bound c.args.top cs now.bounded.settled (i - 1) none within b
+    c.max-settled.ensures c.if-top-settled.true
     in let high : at.limit ≤ lb shop (word ++ job ∷ []) = (let a = c.if-settled-limit.false in omega arith)
     in record {
       kids = now.kids;
       stack = now.stack;
-      trying = turn_counted some now.trying c.loop-index.self.current.value high (λ more. now.state);
-      state = now.state;
-      known = now.known;
-      bound = now.bound;
+      trying = turn_counted some now.trying c.loop-index.self.current.value high (λ more. now.branching.state);
+      branching = now.branching;
+      bounded = now.bounded;
       more = (let a = now.more in omega arith);
       sound = now.sound;
       same = now.same;
@@ -126,10 +117,10 @@ try_child-requires-clause-can g c =
     in let within : i - 1 < length c.args.branching.now.candidates.now = (let a = now.trying.within in omega arith)
     in record {
       word = word;
-      is = (now.state, next_own some now.trying, now.known (i - 1) none within);
+      is = (now.branching.state, next_own some now.trying, now.bounded.known (i - 1) none within);
       fits = next_fits some now.trying
-          (g.met.D.Dispatching.state_is_of_word c.loop-index.self.dispatcher.now word _ now.state);
-      bound_is = now.bound;
+          (g.met.D.Dispatching.state_is_of_word c.loop-index.self.dispatcher.now word _ now.branching.state);
+      bound_is = now.branching.bound;
     }
 
 pub loop-index-preserved-in_default : goal.loop-index-preserved-in_default
@@ -143,20 +134,19 @@ loop-index-preserved-in_default g c =
     in let some : 0 < i = (let a = c.loop-index-test.true in omega arith)
     in let job = (get_or cs (i - 1) (record { job = 0; own = 0 })).job
     in let high = told_high at.limit (lb (g.D.Dispatching.shop d) (word ++ job ∷ [])) c.try_child.result
-    c.in_default.is (c.try_child.ensures.told word now.state (next_own some now.trying) now.bound)
+    c.in_default.is (c.try_child.ensures.taken.told word now.branching.state (next_own some now.trying)
+    now.branching.bound)
     in let left = c.try_child.new.self.current.value
     in let same = c.try_child.ensures.dispatcher
-    in let state = subst (λ s. g.D.Dispatching.IsStateOf d word s) (sym c.try_child.ensures.current) now.state
+    in let state = subst (λ s. g.D.Dispatching.IsStateOf d word s) (sym c.try_child.ensures.current) now.branching.state
     in record {
       kids = now.kids;
       stack = now.stack;
       trying = subst (λ x. IsTrying (g.D.Dispatching.IsStateOf x) (g.D.Dispatching.IsCandidate x word)
           (g.D.Dispatching.shop x) at.limit word cs (i - 1) now.kids (c.loop-index.others + 1) left) (sym same)
           (turn_counted some now.trying left high (λ more. state));
-      state = subst (λ x. g.D.Dispatching.IsStateOf x word left) (sym same) state;
-      known = λ k e h. subst (λ x. g.D.Dispatching.KnowsChild x c.try_child.new.self.scratch word (get_or cs k e).job)
-          (sym same) (c.try_child.ensures.kept word (get_or cs k e).job (now.known k e h));
-      bound = now.bound ∙ ap (λ x. lb (g.D.Dispatching.shop x) word) (sym same);
+      branching = branching_stays same c.try_child.ensures.current now.branching;
+      bounded = bounded_stays same c.try_child.ensures.kept now.bounded;
       more = (let a = now.more in omega arith);
       sound = c.try_child.ensures.sound;
       same = same ∙ now.same;
@@ -195,41 +185,24 @@ loop-index-preserved g c =
     in let left = c.put_tried.new.self.current.value
     in let same = c.put_tried.ensures.dispatcher ∙ c.try_child.ensures.dispatcher
     in let current = c.in_ok-put_tried.ensures.current ∙ c.try_child.ensures.current
-    in let state = subst (g.D.Dispatching.IsStateOf d word) (sym current) now.state
+    in let state = subst (g.D.Dispatching.IsStateOf d word) (sym current) now.branching.state
     in let kept = tried_kept some now.trying e now.stack c.in_ok-put_tried.ensures.put c.in-Some.is
-    (c.try_child.ensures.told word now.state (next_own some now.trying) now.bound)
-    (c.try_child.ensures.state word now.state (next_own some now.trying))
-    (g.met.D.Dispatching.state_is_of_word d word _ now.state) left (λ more. state)
+    (c.try_child.ensures.taken.told word now.branching.state (next_own some now.trying) now.branching.bound)
+    (c.try_child.ensures.taken.state word now.branching.state (next_own some now.trying))
+    (g.met.D.Dispatching.state_is_of_word d word _ now.branching.state) left (λ more. state)
     in record {
       kids = kept.kids;
       stack = kept.stack;
       trying = subst (λ x. IsTrying (g.D.Dispatching.IsStateOf x) (g.D.Dispatching.IsCandidate x word)
           (g.D.Dispatching.shop x) at.limit word cs (i - 1) kept.kids c.loop-index.others left)
           (sym same) kept.trying;
-      state = subst (λ x. g.D.Dispatching.IsStateOf x word left) (sym same) state;
-      known = λ k f h. subst (λ x. g.D.Dispatching.KnowsChild x c.put_tried.new.self.scratch word (get_or cs k f).job)
-          (sym same) (subst (λ s. g.D.Dispatching.KnowsChild d s word (get_or cs k f).job)
-          (sym c.in_ok-put_tried.ensures.scratch)
-          (c.try_child.ensures.kept word (get_or cs k f).job (now.known k f h)));
-      bound = now.bound ∙ ap (λ x. lb (g.D.Dispatching.shop x) word) (sym same);
+      branching = branching_stays same current now.branching;
+      bounded = bounded_stays same (λ w j known. subst (λ x. g.D.Dispatching.KnowsChild d x w j)
+          (sym c.in_ok-put_tried.ensures.scratch) (c.try_child.ensures.kept w j known)) now.bounded;
       more = now.more;
       sound = c.in_ok-put_tried.ensures.sound;
       same = same ∙ now.same;
     }
-
-pub give_current-requires-clause-can : goal.give_current-requires-clause-can
-give_current-requires-clause-can g c =
-    let now = c.loop-index.invariant
-    in let d = c.loop-index.self.dispatcher.now
-    in let at = c.args.branching.now
-    in let word = at.word.now
-    in let cs = at.candidates.now
-    in let lists = subst (λ x. ListsBelow (g.D.Dispatching.shop x) word at.limit (g.D.Dispatching.IsCandidate x word)
-    (conflict (g.D.Dispatching.shop x) word) cs at.closed) (sym now.same) c.requires.listed
-    in can_each (λ x w. g.D.Dispatching.IsStateOf d w c.loop-index.self.current.value
-    × g.D.Dispatching.IsCandidate d w x × g.D.Dispatching.KnowsChild d c.loop-index.self.scratch w x.job) lists
-    (g.met.D.Dispatching.state_is_of_word d word _ now.state) now.bound
-    (λ k e h own. (now.state, own, now.known k e h))
 
 pub returns-clause-children : goal.returns-clause-children
 returns-clause-children g c =
@@ -241,14 +214,13 @@ returns-clause-children g c =
     in let now = c.loop-index.invariant
     in let d = c.loop-index.self.dispatcher.now
     in let is = g.D.Dispatching.IsStateOf d
-    in let cs = at.candidates.now
-    in let lists = subst (λ x. ListsBelow (g.D.Dispatching.shop x) word at.limit (g.D.Dispatching.IsCandidate x word)
-    (conflict (g.D.Dispatching.shop x) word) cs at.closed) (sym now.same) c.requires.listed
     in let e : c.len-from.result ≡ length old =
     (let a = c.len-from.ensures in let b = c.args.stack.now.ok.0 in omega arith)
     in let put = all_tried c.loop-index.index now.kids c.loop-index.others c.loop-index.self.current.value old mid
     (let a = c.loop-index-test.false in omega arith) now.stack now.trying
-    in subst (λ x. HasPutChildren (g.D.Dispatching.IsStateOf x) (g.D.Dispatching.shop x) at.limit word old new
-    c.loop-index.others) now.same
-    (put_given is (g.D.Dispatching.shop d) at.limit word old mid new c.loop-index.others c.len-from.result e put
-    (c.in_ok-give_current.ensures.given word now.state (own_each lists)))
+    in record {
+      put = subst (λ x. HasPutChildren (g.D.Dispatching.IsStateOf x) (g.D.Dispatching.shop x) at.limit word old new
+          c.loop-index.others) now.same (put_given is (g.D.Dispatching.shop d) at.limit word old mid new
+          c.loop-index.others c.len-from.result e put c.in_ok-give_current.ensures.given);
+      more = now.more;
+    }

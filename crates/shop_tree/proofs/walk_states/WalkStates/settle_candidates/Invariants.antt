@@ -1,6 +1,6 @@
-use Rattle.std.proofs.Common.{◌≡◌, ◌≤◌, ◌++◌, All, List, map}
-use Rattle.shop_bound.specs.Bound.{lb}
-use Rattle.shop_tree.specs.inner.Held.{AreStates, Kept, held}
+use Rattle.std.proofs.Common.{◌≡◌, ◌≤◌, ◌++◌, List, map}
+use Rattle.shop_tree.specs.inner.Held.{Kept, held}
+use Rattle.shop_tree.specs.inner.Slots.{AreBounded, HoldSlots, IsBranchingOf}
 use Rattle.shop_tree.proofs.TrialLemmas.{IsTrying}
 use Rattle.shop_tree.proofs.walk_states.WalkStates.settle_candidates.Given as goal
 
@@ -12,12 +12,9 @@ invariant-loop-index g l = record {
       (g.D.Dispatching.IsCandidate l.self.dispatcher.now l.branching.word.now)
       (g.D.Dispatching.shop l.self.dispatcher.now) l.branching.limit l.branching.word.now
       l.branching.candidates.now l.index kids l.others l.self.current.value;
-  state : g.D.Dispatching.IsStateOf l.self.dispatcher.now l.branching.word.now l.self.current.value;
-  known : All (λ c. g.D.Dispatching.KnowsChild l.self.dispatcher.now l.self.scratch l.branching.word.now c.job)
-      l.branching.candidates.now;
-  bound : l.branching.bound ≡ lb (g.D.Dispatching.shop l.self.dispatcher.now) l.branching.word.now;
+  branching : IsBranchingOf g.D.Dispatching l.self l.branching;
+  bounded : AreBounded g.D.Dispatching l.self l.branching l.top;
   more : l.branching.closed ≤ l.others;
-  sound : AreStates (g.D.Dispatching.IsSlot l.self.dispatcher.now) (g.D.Dispatching.IsScratch l.self.dispatcher.now)
-      l.self.scratch l.self.current.value l.self.trial.value l.self.spare.items;
+  sound : HoldSlots g.D.Dispatching l.self;
   same : l.self.dispatcher.now ≡ l.fn.self.dispatcher.now;
 }

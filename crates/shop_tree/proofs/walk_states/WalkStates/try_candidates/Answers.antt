@@ -12,30 +12,20 @@ use Rattle.shop_tree.proofs.walk_states.WalkStates.try_candidates.Goals as goal
 pub overflow_cast-depth : goal.overflow_cast-depth
 overflow_cast-depth g c = grind (arith, word_length)
 
-pub settle_candidates-requires-clause-settled : goal.settle_candidates-requires-clause-settled
-settle_candidates-requires-clause-settled g c = grind arith
-
-pub settle_candidates-requires-clause-known : goal.settle_candidates-requires-clause-known
-settle_candidates-requires-clause-known g c = grind arith
+pub settle_candidates-requires-clause-bounded : goal.settle_candidates-requires-clause-bounded
+settle_candidates-requires-clause-bounded g c = grind arith
 
 pub loop-index-init : goal.loop-index-init
 loop-index-init g c =
-    let at = c.args.branching.now
-    in let word = at.word.now
-    in let same = c.bound_children.ensures.dispatcher
+    let branching = c.bound_children.ensures.branching
     in record {
       kids = [];
       stack = sym (append-nil _);
-      trying = subst (λ x. IsTrying (g.D.Dispatching.IsStateOf x) (g.D.Dispatching.IsCandidate x word)
-          (g.D.Dispatching.shop x) at.limit word at.candidates.now (length at.candidates.now) []
-          at.closed c.bound_children.new.self.current.value) (sym same)
-          (trying_begins c.requires.listed
-          (subst (λ s. g.D.Dispatching.IsStateOf c.args.self.now.dispatcher.now word s)
-          (sym c.bound_children.ensures.current) c.requires.state));
-      bound = c.requires.bound ∙ ap (λ x. lb (g.D.Dispatching.shop x) word) (sym same);
+      trying = trying_begins branching.listed branching.state;
+      bound = branching.bound;
       more = omega arith;
       sound = c.bound_children.ensures.sound;
-      same = same;
+      same = c.bound_children.ensures.dispatcher;
     }
 
 pub overflow_add-others : goal.overflow_add-others
@@ -74,7 +64,7 @@ loop-index-preserved-in_default-try_candidate g c =
     in let job = (get_or cs (i - 1) (record { job = 0; own = 0 })).job
     in let state = now.trying.wanted some
     in let high = told_high at.limit (lb (g.D.Dispatching.shop d) (word ++ job ∷ [])) c.try_candidate.result
-    c.in_default-try_candidate.is (c.try_candidate.ensures.told word state (next_own some now.trying) now.bound)
+    c.in_default-try_candidate.is (c.try_candidate.ensures.taken.told word state (next_own some now.trying) now.bound)
     in let left = c.try_candidate.new.self.current.value
     in let same = c.try_candidate.ensures.dispatcher
     in record {
@@ -123,8 +113,8 @@ loop-index-preserved g c =
     (let a = c.len-from.ensures in let b = c.args.stack.now.ok.0 in omega arith)
     in let left = c.put_tried.new.self.current.value
     in let kept = tried_kept some now.trying e now.stack c.in_ok-put_tried.ensures.put c.in-Some-try_candidate.is
-    (c.try_candidate.ensures.told word state (next_own some now.trying) now.bound)
-    (c.try_candidate.ensures.state word state (next_own some now.trying))
+    (c.try_candidate.ensures.taken.told word state (next_own some now.trying) now.bound)
+    (c.try_candidate.ensures.taken.state word state (next_own some now.trying))
     (g.met.D.Dispatching.state_is_of_word d word _ state) left
     (still_wanted (is word) i (λ f. c.in_ok-put_tried.ensures.current ∙ c.try_candidate.ensures.current f) state)
     in let same = c.put_tried.ensures.dispatcher ∙ c.try_candidate.ensures.dispatcher
@@ -147,7 +137,10 @@ returns-clause-children g c =
     in let old = c.args.stack.now.items
     in let new = c.loop-index.stack.items
     in let now = c.loop-index.invariant
-    in subst (λ x. HasPutChildren (g.D.Dispatching.IsStateOf x) (g.D.Dispatching.shop x) at.limit word old new
-    c.loop-index.others) now.same
-    (all_tried c.loop-index.index now.kids c.loop-index.others c.loop-index.self.current.value old new
-    (let a = c.loop-index-test.false in omega arith) now.stack now.trying)
+    in record {
+      put = subst (λ x. HasPutChildren (g.D.Dispatching.IsStateOf x) (g.D.Dispatching.shop x) at.limit word old new
+          c.loop-index.others) now.same (all_tried c.loop-index.index now.kids c.loop-index.others
+          c.loop-index.self.current.value old new (let a = c.loop-index-test.false in omega arith) now.stack
+          now.trying);
+      more = now.more;
+    }

@@ -1,6 +1,7 @@
 use Rattle.std.proofs.Common.{◌≡◌, ◌≤◌, ◌++◌, List, map}
 use Rattle.shop_bound.specs.Bound.{lb}
-use Rattle.shop_tree.specs.inner.Held.{AreStates, Kept, held}
+use Rattle.shop_tree.specs.inner.Held.{Kept, held}
+use Rattle.shop_tree.specs.inner.Slots.{HoldSlots}
 use Rattle.shop_tree.proofs.TrialLemmas.{IsTrying}
 use Rattle.shop_tree.proofs.walk_states.WalkStates.try_candidates.Given as goal
 
@@ -14,7 +15,6 @@ invariant-loop-index g l = record {
       l.branching.candidates.now l.index kids l.others l.self.current.value;
   bound : l.branching.bound ≡ lb (g.D.Dispatching.shop l.self.dispatcher.now) l.branching.word.now;
   more : l.branching.closed ≤ l.others;
-  sound : AreStates (g.D.Dispatching.IsSlot l.self.dispatcher.now) (g.D.Dispatching.IsScratch l.self.dispatcher.now)
-      l.self.scratch l.self.current.value l.self.trial.value l.self.spare.items;
+  sound : HoldSlots g.D.Dispatching l.self;
   same : l.self.dispatcher.now ≡ l.fn.self.dispatcher.now;
 }

@@ -6,7 +6,7 @@ use Rattle.shop_tree.specs.inner.Walkers.{Stage, HasBranched, HasExpanded}
 use Rattle.shop_tree.proofs.ListLemmas.{on_ok}
 use Rattle.shop_tree.proofs.ExpandLemmas.{expands_branched}
 use Rattle.shop_tree.proofs.ListedLemmas.{no_items, none_kept}
-use Rattle.shop_tree.proofs.StateSteps.{candidates_stand, state_stands}
+use Rattle.shop_tree.proofs.StateSteps.{listed_stand}
 use Rattle.shop_tree.proofs.walkers.Walker.branch.Goals as goal
 
 pub close-requires-clause-word : goal.close-requires-clause-word
@@ -22,27 +22,18 @@ close-requires-clause-closed g c =
     in let none : self.candidates.items ≡ [] = no_items self.candidates.items (let a = c.is_empty.ensures
     in let b = self.candidates.ok.0 in search rules)
     in subst (λ (x : Shop). AreChildren x self.progress.best word [] c.args.closed) self.same_shop
-    (none_kept self.candidates.items c.args.closed none c.requires.candidates)
+    (none_kept self.candidates.items c.args.closed none c.requires.listed.candidates)
 
-pub push_children-requires-clause-bound : goal.push_children-requires-clause-bound
-push_children-requires-clause-bound g c = grind arith
-
-pub push_children-requires-clause-short : goal.push_children-requires-clause-short
-push_children-requires-clause-short g c = grind arith
-
-pub push_children-requires-clause-candidates : goal.push_children-requires-clause-candidates
-push_children-requires-clause-candidates g c = grind (arith, candidates_stand)
-
-pub push_children-requires-clause-state : goal.push_children-requires-clause-state
-push_children-requires-clause-state g c = grind (arith, state_stands)
+pub push_children-requires : goal.push_children-requires
+push_children-requires g c = record { listed = listed_stand c.in_ok-reclaim.ensures.stands c.requires.listed }
 
 pub returns-clause-expanded : goal.returns-clause-expanded
 returns-clause-expanded g c =
     let self = c.args.self.now
     in let new = stage_of c.push_children.new.self
-    in let short : length self.path.items < operation_count self.progress.instance.now = (let a = c.requires.short
-    in let b = self.progress.counted in omega arith)
+    in let short : length self.path.items < operation_count self.progress.instance.now =
+    (let a = c.requires.listed.short in let b = self.progress.counted in omega arith)
     in on_ok _ (HasExpanded (stage_of self) new)
-    (λ b. expands_branched (stage_of self) new short c.requires.at.in_order
+    (λ b. expands_branched (stage_of self) new short c.requires.listed.at.in_order
     (subst (λ (t : Stage). HasBranched t new) c.in_ok-reclaim.ensures.stands.stage b))
     c.push_children.result c.push_children.ensures.branched

@@ -1,26 +1,37 @@
-use Rattle.std.proofs.Common.{arith}
+use Rattle.std.proofs.Common.{◌<◌, length, refl, arith}
+use Rattle.shop_tree.specs.inner.StateWalkers.{stage_of}
+use Rattle.shop_tree.specs.inner.Walkers.{HasExpanded}
 use Rattle.shop_tree.proofs.ListLemmas.{on_ok}
 use Rattle.shop_tree.proofs.ExpandLemmas.{expands_followed, followed_same, followed_then}
-use Rattle.shop_tree.proofs.StateSteps.{ended, gone, still_at}
+use Rattle.shop_tree.proofs.StateSteps.{ended, gone, listed_at}
 use Rattle.shop_tree.proofs.walkers.Walker.expand.Goals as goal
 
 pub loop-self-init : goal.loop-self-init
 loop-self-init g c = grind (arith, followed_same)
 
-pub branch-self-requires-clause-short : goal.branch-self-requires-clause-short
-branch-self-requires-clause-short g c = grind arith
+pub branch-self-requires : goal.branch-self-requires
+branch-self-requires g c =
+    let self = c.loop-self.self
+    in let at = c.loop-self.invariant.at
+    in let short : length self.path.items < self.progress.operations = grind arith
+    in record {
+      listed = listed_at at refl refl c.list_candidates-closed.ensures.dispatcher
+          c.list_candidates-closed.ensures.current c.list_candidates-closed.ensures.sound short
+          (c.list_candidates-closed.ensures.listed self.path.items at.state);
+    }
 
-pub branch-self-requires-clause-at : goal.branch-self-requires-clause-at
-branch-self-requires-clause-at g c = grind (arith, still_at)
+pub returns-then-len-ne1-clause-expanded : goal.returns-then-len-ne1-clause-expanded
+returns-then-len-ne1-clause-expanded g c =
+    on_ok _ (HasExpanded (stage_of c.args.self.now) (stage_of c.branch-self.new.self))
+    (λ e. expands_followed c.loop-self.invariant.followed e) c.branch-self.result c.branch-self.ensures.expanded
 
-pub returns-then-not-can_go_on-clause-expanded : goal.returns-then-not-can_go_on-clause-expanded
-returns-then-not-can_go_on-clause-expanded g c = grind (arith, on_ok, followed_then, followed_same)
-
-pub go_on-requires-clause-short : goal.go_on-requires-clause-short
-go_on-requires-clause-short g c = grind arith
-
-pub go_on-requires-clause-at : goal.go_on-requires-clause-at
-go_on-requires-clause-at g c = grind (arith, still_at)
+pub go_on-requires-clause-listed : goal.go_on-requires-clause-listed
+go_on-requires-clause-listed g c =
+    let self = c.loop-self.self
+    in let at = c.loop-self.invariant.at
+    in let short : length self.path.items < self.progress.operations = grind arith
+    in listed_at at refl refl c.list_candidates-closed.ensures.dispatcher c.list_candidates-closed.ensures.current
+    c.list_candidates-closed.ensures.sound short (c.list_candidates-closed.ensures.listed self.path.items at.state)
 
 pub returns-in_default-clause-expanded : goal.returns-in_default-clause-expanded
 returns-in_default-clause-expanded g c = grind (arith, expands_followed, followed_then, followed_same, ended)

@@ -1,5 +1,188 @@
-use Rattle.std.proofs.Common.{arith}
+use Rattle.std.proofs.Common.{◌≡◌, ℕ, ◌+◌, ◌<◌, ◌++◌, ◌∷◌, ◌∙◌, [], length, refl, sym, ap, subst, arith}
+use Rattle.shop_model.specs.Limits.{IsWithinLimits}
+use Rattle.shop_model.specs.Shop.{Shop, operation_count}
+use Rattle.shop_model.specs.Word.{IsWord}
+use Rattle.shop_model.proofs.WordLengths.{word_length}
+use Rattle.shop_bound.specs.Bound.{lb}
+use Rattle.shop_bound.specs.Conflicts.{SoleCandidateKeepsBound}
+use Rattle.shop_nodes.specs.Branching.{conflict}
+use Rattle.shop_nodes.specs.declared.halts.Open.{Open}
+use Rattle.shop_tree.specs.inner.Held.{waiting_in}
+use Rattle.shop_tree.specs.inner.Opens.{AreChildren}
+use Rattle.shop_tree.specs.inner.StateWalkers.{stage_of, AreHeld}
+use Rattle.shop_tree.specs.inner.Walkers.{Stage, gone_on}
+use Rattle.shop_tree.proofs.ExpandLemmas.{HasGone, follows_kept, follows_one}
+use Rattle.shop_tree.proofs.HeldLemmas.{rest_waits, states_rest}
+use Rattle.shop_tree.proofs.ListedLemmas.{alone_closed, alone_fits, alone_kept, alone_own, few_closed, one_listed}
+use Rattle.shop_tree.proofs.ListedLemmas.{sole_listed}
+use Rattle.shop_tree.proofs.StateLemmas.{held_on}
+use Rattle.shop_tree.proofs.StateSteps.{reached}
+use Rattle.shop_tree.proofs.TrialLemmas.{told_high, told_low, told_state}
 use Rattle.shop_tree.proofs.walkers.Walker.go_on.Goals as goal
 
-pub follow_sole-requires-clause-candidates : goal.follow_sole-requires-clause-candidates
-follow_sole-requires-clause-candidates g c = grind arith
+pub strike-requires-clause-sole : goal.strike-requires-clause-sole
+strike-requires-clause-sole g c = record {
+  word = c.args.self.now.path.items;
+  is = c.requires.listed.at.state;
+  sole = sole_listed c.args.self.now.candidates.items c.index-candidate.result.now _ c.requires.one
+      c.index-candidate.ensures c.if-closed-eq0.true c.requires.listed.candidates;
+}
+
+pub take_job-requires-clause-held : goal.take_job-requires-clause-held
+take_job-requires-clause-held g c =
+    let self = c.args.self.now
+    in let e = c.strike.new.self.dispatcher.now
+    in held_on (g.D.Dispatching.IsStateOf e) self.progress.instance.now self.progress.best self.path.items
+    c.index-candidate.result.now.job self.stack.items c.requires.listed.at.in_order
+    (subst (λ x. AreHeld (g.D.Dispatching.IsStateOf x) self.path.items self.stack.items)
+    (sym c.strike.ensures.dispatcher) c.requires.listed.at.states.held)
+
+pub take_job-requires-clause-state : goal.take_job-requires-clause-state
+take_job-requires-clause-state g c = c.strike.ensures.state c.args.self.now.path.items c.requires.listed.at.state
+    (sole_listed c.args.self.now.candidates.items c.index-candidate.result.now _ c.requires.one
+    c.index-candidate.ensures c.if-closed-eq0.true c.requires.listed.candidates)
+
+pub returns-then-closed-eq0 : goal.returns-then-closed-eq0
+returns-then-closed-eq0 g c =
+    let self = c.args.self.now
+    in let d = self.states.dispatcher.now
+    in let shop = self.progress.instance.now
+    in let word = self.path.items
+    in let job = c.index-candidate.result.now.job
+    in let at = c.requires.listed.at
+    in let alone = sole_listed self.candidates.items c.index-candidate.result.now _ c.requires.one
+    c.index-candidate.ensures c.if-closed-eq0.true c.requires.listed.candidates
+    in let short : length word < operation_count shop =
+    (let a = c.requires.listed.short in let b = self.progress.counted in omega arith)
+    in let keeps : SoleCandidateKeepsBound shop word = subst (λ (x : Shop). SoleCandidateKeepsBound x word)
+    self.same_shop (g.met.D.Dispatching.sole_keeps_bound d word self.states.current.value at.state)
+    in let gone = follows_one (stage_of self) job short
+    (ap (λ (x : Shop). conflict x word) (sym self.same_shop) ∙ alone) keeps c.requires.some (let a = at.bound in let b =
+    at.below in omega arith) at.in_order
+    in reached self c.take_job.new.self c.args.bound
+    (subst (λ (t : Stage). HasGone (stage_of self) t c.args.bound) (sym c.take_job.ensures.stage)
+    (subst (λ (b : ℕ). HasGone (stage_of self) (gone_on (stage_of self) job) b) (sym at.bound) gone))
+    c.take_job.ensures.states c.take_job.ensures.state
+
+pub advance-requires-clause-can : goal.advance-requires-clause-can
+advance-requires-clause-can g c =
+    let self = c.args.self.now
+    in let d = self.states.dispatcher.now
+    in let word = self.path.items
+    in let cand = c.index-candidate.result.now
+    in let one = one_listed self.candidates.items cand _ c.requires.one c.index-candidate.ensures
+    in let at = c.requires.listed.at
+    in record {
+      word = word;
+      is = (
+        at.state,
+        alone_own one c.requires.listed.candidates,
+      );
+      fits = alone_fits one c.requires.listed.candidates
+          (g.met.D.Dispatching.state_is_of_word d word self.states.current.value at.state);
+      bound_is = at.bound ∙ ap (λ (x : Shop). lb x word) (sym self.same_shop);
+    }
+
+pub overflow_add-closed : goal.overflow_add-closed
+overflow_add-closed g c =
+    let self = c.args.self.now
+    in let few = few_closed c.requires.listed.candidates
+    in let limits = (g.met.D.Dispatching.state_is_within_limits self.states.dispatcher.now self.path.items _
+    c.requires.listed.at.state).jobs
+    in omega arith
+
+pub close-requires : goal.close-requires
+close-requires g c =
+    let self = c.args.self.now
+    in let d = self.states.dispatcher.now
+    in let shop = g.D.Dispatching.shop d
+    in let word = self.path.items
+    in let cand = c.index-candidate.result.now
+    in let one = one_listed self.candidates.items cand _ c.requires.one c.index-candidate.ensures
+    in let at = c.requires.listed.at
+    in let bound = at.bound ∙ ap (λ (x : Shop). lb x word) (sym self.same_shop)
+    in let high = told_high self.progress.best (lb shop (word ++ cand.job ∷ [])) c.advance.result c.in_default.is
+    (c.advance.ensures.taken.told word at.state (alone_own one c.requires.listed.candidates) bound)
+    in record {
+      word = subst (λ (x : Shop). IsWord x word) self.same_shop
+          (g.met.D.Dispatching.state_is_of_word d word self.states.current.value at.state);
+      limits = subst IsWithinLimits self.same_shop
+          (g.met.D.Dispatching.state_is_within_limits d word self.states.current.value at.state);
+      short = c.requires.listed.short;
+      closed = subst (λ (x : Shop). AreChildren x self.progress.best word [] (c.args.closed + 1)) self.same_shop
+          (alone_closed one c.requires.listed.candidates high);
+      in_order = at.in_order;
+      states = record {
+        held = subst (λ x. AreHeld (g.D.Dispatching.IsStateOf x) word self.stack.items)
+            (sym c.advance.ensures.dispatcher) at.states.held;
+        states = c.advance.ensures.sound;
+      };
+    }
+
+pub put_rest-requires : goal.put_rest-requires
+put_rest-requires g c =
+    let self = c.args.self.now
+    in let d = self.states.dispatcher.now
+    in let word = self.path.items
+    in let state = c.requires.listed.at.state
+    in let limits = g.met.D.Dispatching.state_is_within_limits d word self.states.current.value state
+    in let most = word_length (g.D.Dispatching.shop d) word limits
+    (g.met.D.Dispatching.state_is_of_word d word self.states.current.value state)
+    in let few = few_closed c.requires.listed.candidates
+    in let jobs = limits.jobs in let b = c.len.ensures in let e = self.path.ok.0
+    in record { depth = omega arith; count = omega arith }
+
+pub take_job-requires-2 : goal.take_job-requires-2
+take_job-requires-2 g c =
+    let self = c.args.self.now
+    in let d = self.states.dispatcher.now
+    in let is = g.D.Dispatching.IsStateOf d
+    in let word = self.path.items
+    in let cand = c.index-candidate.result.now
+    in let one = one_listed self.candidates.items cand _ c.requires.one c.index-candidate.ensures
+    in let at = c.requires.listed.at
+    in let longer = held_on is self.progress.instance.now self.progress.best word cand.job self.stack.items at.in_order
+    at.states.held
+    in let after = c.advance.new.self.current.value
+    in record {
+      some = c.requires.some;
+      short = c.requires.listed.short;
+      held = subst (λ x. AreHeld (g.D.Dispatching.IsStateOf x) (word ++ cand.job ∷ []) c.put_rest.new.stack.items)
+          (sym c.advance.ensures.dispatcher)
+          (subst (λ hs. AreHeld is (word ++ cand.job ∷ []) hs) (sym c.in_ok-put_rest.ensures)
+          (states_rest self.stack.items is (word ++ cand.job ∷ []) c.len.result c.args.closed longer));
+      slots = c.advance.ensures.sound;
+      state = subst (λ x. g.D.Dispatching.IsStateOf x (word ++ cand.job ∷ []) after) (sym c.advance.ensures.dispatcher)
+          (told_state (is (word ++ cand.job ∷ []) after) c.in-Some.bound c.advance.result c.in-Some.is
+          (c.advance.ensures.taken.state word at.state (alone_own one c.requires.listed.candidates)));
+    }
+
+pub returns : goal.returns
+returns g c =
+    let self = c.args.self.now
+    in let d = self.states.dispatcher.now
+    in let shop = g.D.Dispatching.shop d
+    in let word = self.path.items
+    in let cand = c.index-candidate.result.now
+    in let one = one_listed self.candidates.items cand _ c.requires.one c.index-candidate.ensures
+    in let at = c.requires.listed.at
+    in let bound = at.bound ∙ ap (λ (x : Shop). lb x word) (sym self.same_shop)
+    in let own = alone_own one c.requires.listed.candidates
+    in let is_word = g.met.D.Dispatching.state_is_of_word d word self.states.current.value at.state
+    in let low = told_low self.progress.best (lb shop (word ++ cand.job ∷ [])) c.in-Some.bound c.advance.result
+    c.in-Some.is (c.advance.ensures.taken.told word at.state own bound)
+    in let o : Open = record { depth = length word; job = cand.job; bound = c.in-Some.bound }
+    in let kids : AreChildren self.progress.instance.now self.progress.best word (o ∷ []) c.args.closed =
+    subst (λ (x : Shop). AreChildren x self.progress.best word (o ∷ []) c.args.closed) self.same_shop
+    (alone_kept one c.requires.listed.candidates o is_word refl refl low.0 low.1)
+    in let short : length word < operation_count self.progress.instance.now = (let a = c.requires.listed.short
+    in let b = self.progress.counted in omega arith)
+    in let new = c.put_rest.new.stack.items
+    in let depth : c.len.result ≡ length word = (let a = c.len.ensures in let b = self.path.ok.0 in omega arith)
+    in let gone = follows_kept (stage_of self) o c.args.closed (waiting_in new)
+    (subst (λ (x : Shop). IsWord x word) self.same_shop is_word) short kids refl
+    (low.0 ∙ ap (λ (x : Shop). lb x (word ++ cand.job ∷ [])) self.same_shop) low.1 c.requires.some at.in_order
+    (rest_waits self.stack.items word c.args.closed depth c.in_ok-put_rest.ensures)
+    in reached self c.take_job-2.new.self c.in-Some.bound
+    (subst (λ (t : Stage). HasGone (stage_of self) t c.in-Some.bound) (sym c.take_job-2.ensures.stage) gone)
+    c.take_job-2.ensures.states c.take_job-2.ensures.state

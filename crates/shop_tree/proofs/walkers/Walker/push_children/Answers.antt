@@ -21,10 +21,11 @@ put_rest-requires g c =
     let self = c.args.self.now
     in let d = self.states.dispatcher.now
     in let word = self.path.items
-    in let limits = g.met.D.Dispatching.state_is_within_limits d word self.states.current.value c.requires.state
+    in let limits = g.met.D.Dispatching.state_is_within_limits d word self.states.current.value
+    c.requires.listed.at.state
     in let most = word_length (g.D.Dispatching.shop d) word limits
-    (g.met.D.Dispatching.state_is_of_word d word self.states.current.value c.requires.state)
-    in let few = few_closed c.requires.candidates
+    (g.met.D.Dispatching.state_is_of_word d word self.states.current.value c.requires.listed.at.state)
+    in let few = few_closed c.requires.listed.candidates
     in let jobs = limits.jobs in let b = c.len-depth.ensures in let e = self.path.ok.0
     in record { depth = omega arith; count = omega arith }
 
@@ -34,21 +35,22 @@ set_rest_below-requires g c =
     in let d = self.states.dispatcher.now
     in let word = self.path.items
     in let old = self.stack.items
-    in let put = c.in_ok-all.ensures.children
+    in let put = c.in_ok-all.ensures.children.put
     in let a = ap (λ (hs : List (Held g.row.S.Denot)). length hs) put.stack
     in let b = length-append c.put_rest.new.stack.items (map held put.kids)
     in let e = ap (λ (hs : List (Held g.row.S.Denot)). length hs) c.in_ok-put_rest.ensures
     in let f = rest_long old c.len-depth.result c.args.closed
     in let h = c.len-below.ensures in let i = self.stack.ok.0
-    in let limits = g.met.D.Dispatching.state_is_within_limits d word self.states.current.value c.requires.state
+    in let limits = g.met.D.Dispatching.state_is_within_limits d word self.states.current.value
+    c.requires.listed.at.state
     in let most = word_length (g.D.Dispatching.shop d) word limits
-    (g.met.D.Dispatching.state_is_of_word d word self.states.current.value c.requires.state)
+    (g.met.D.Dispatching.state_is_of_word d word self.states.current.value c.requires.listed.at.state)
     in let few = few_open put.children
     in let jobs = limits.jobs in let k = c.len-depth.ensures in let n = self.path.ok.0
     in record {
       place = omega arith;
       depth = omega arith;
-      more = c.in_ok-all.ensures.more;
+      more = c.in_ok-all.ensures.children.more;
       count = omega arith;
     }
 
@@ -58,7 +60,7 @@ returns-clause-branched g c =
     in let d = self.states.dispatcher.now
     in let word = self.path.items
     in let best = self.progress.best
-    in let put = c.in_ok-all.ensures.children
+    in let put = c.in_ok-all.ensures.children.put
     in let opens = opens_in put.kids
     in let n = c.in_ok-all.all
     in let kids : AreChildren self.progress.instance.now best word opens n =
@@ -66,8 +68,8 @@ returns-clause-branched g c =
     (subst (λ (w : List ℕ). AreChildren (g.D.Dispatching.shop d) best w opens n) c.as_slice.ensures.value
     put.children)
     in let is : IsWord self.progress.instance.now word = subst (λ (x : Shop). IsWord x word) self.same_shop
-    (g.met.D.Dispatching.state_is_of_word d word self.states.current.value c.requires.state)
-    in let short : length word < operation_count self.progress.instance.now = (let a = c.requires.short
+    (g.met.D.Dispatching.state_is_of_word d word self.states.current.value c.requires.listed.at.state)
+    in let short : length word < operation_count self.progress.instance.now = (let a = c.requires.listed.short
     in let b = self.progress.counted in omega arith)
     in let depth : c.len-depth.result ≡ length word = (let a = c.len-depth.ensures in let b = self.path.ok.0
     in omega arith)

@@ -8,6 +8,7 @@ use Rattle.shop_bound.proofs.WordLengths.{room_left}
 use Rattle.shop_tree.specs.inner.Held.{waiting_in}
 use Rattle.shop_nodes.specs.Halts.{word_at}
 use Rattle.shop_tree.specs.inner.Searching.{walked}
+use Rattle.shop_tree.specs.inner.Slots.{IsStateIn}
 use Rattle.shop_tree.specs.inner.StateWalkers.{stage_of, AreHeld}
 use Rattle.shop_tree.specs.inner.Walkers.{HasExpanded, IsInOrder, IsTurn, spent_one}
 use Rattle.shop_nodes.specs.declared.halts.Waiting.TheVariants.{Child}
@@ -22,7 +23,7 @@ returns-then-child-self-clause-turn g c =
     let s = stage_of c.args.self.now
     in on_ok _ (IsTurn s (Child c.args.child) (record s { walk = spent_one s.walk }))
     (λ e. turn_cut s c.args.child c.requires.on c.requires.some c.if-child-self.true)
-    c.give_back.result c.give_back.ensures.current
+    c.give_back.result c.give_back.ensures.stayed
 
 pub unwrap-requires : goal.unwrap-requires
 unwrap-requires g c =
@@ -46,44 +47,37 @@ go_on_in-requires-clause-word g c =
     in subst (λ (w : List ℕ). IsWord (g.D.Dispatching.shop self.states.dispatcher.now) w) (sym went)
     (subst (λ (x : Shop). IsWord x (word_at word o)) (sym self.same_shop) own.is_word)
 
-pub expand-requires-clause-bound : goal.expand-requires-clause-bound
-expand-requires-clause-bound g c =
-    let self = c.args.self.now
-    in let o = c.args.child
-    in let word = self.path.items
-    in let own = (popped (waiting_in self.stack.items) (Child o) c.requires.on).own
-    in let went : c.push.new.self.items ≡ word_at word o =
-    rw (c.unwrap.ensures, c.truncate.ensures.items) at c.push.ensures.items
-    in subst (λ (w : List ℕ). o.bound ≡ lb self.progress.instance.now w) (sym went) own.bound
-
-pub expand-requires-clause-in_order : goal.expand-requires-clause-in_order
-expand-requires-clause-in_order g c =
-    let self = c.args.self.now
-    in let o = c.args.child
-    in let went : c.push.new.self.items ≡ word_at self.path.items o =
-    rw (c.unwrap.ensures, c.truncate.ensures.items) at c.push.ensures.items
-    in subst (λ (w : List ℕ). IsInOrder (record {
-      shop = self.progress.instance.now;
-      word = w;
-      walk = spent_one (walked self.progress);
-      stack = waiting_in self.stack.items;
-    })) (sym went) (went_in_order (stage_of self) o c.requires.on)
-
-pub expand-requires-clause-states : goal.expand-requires-clause-states
-expand-requires-clause-states g c =
+pub expand-requires : goal.expand-requires
+expand-requires g c =
     let self = c.args.self.now
     in let o = c.args.child
     in let d = self.states.dispatcher.now
+    in let word = self.path.items
     in let hs = self.stack.items
-    in let went : c.push.new.self.items ≡ word_at self.path.items o =
+    in let own = (popped (waiting_in hs) (Child o) c.requires.on).own
+    in let went : c.push.new.self.items ≡ word_at word o =
     rw (c.unwrap.ensures, c.truncate.ensures.items) at c.push.ensures.items
     in record {
-      held = subst (λ x. AreHeld (g.D.Dispatching.IsStateOf x) c.push.new.self.items hs)
-          (sym c.in_ok-go_on_in.ensures.dispatcher)
-          (subst (λ (w : List ℕ). AreHeld (g.D.Dispatching.IsStateOf d) w hs) (sym went)
-          (held_below (g.D.Dispatching.IsStateOf d) self.progress.instance.now self.progress.best self.path.items hs o
-          c.requires.on c.requires.states.held));
-      states = c.in_ok-go_on_in.ensures.sound;
+      at = record {
+        bound = subst (λ (w : List ℕ). o.bound ≡ lb self.progress.instance.now w) (sym went) own.bound;
+        below = (let a = c.if-child-self.false in omega arith);
+        in_order = subst (λ (w : List ℕ). IsInOrder (record {
+          shop = self.progress.instance.now;
+          word = w;
+          walk = spent_one (walked self.progress);
+          stack = waiting_in hs;
+        })) (sym went) (went_in_order (stage_of self) o c.requires.on);
+        states = record {
+          held = subst (λ x. AreHeld (g.D.Dispatching.IsStateOf x) c.push.new.self.items hs)
+              (sym c.in_ok-go_on_in.ensures.dispatcher)
+              (subst (λ (w : List ℕ). AreHeld (g.D.Dispatching.IsStateOf d) w hs) (sym went)
+              (held_below (g.D.Dispatching.IsStateOf d) self.progress.instance.now self.progress.best word hs o
+              c.requires.on c.requires.states.held));
+          states = c.in_ok-go_on_in.ensures.sound;
+        };
+        state = subst (IsStateIn g.D.Dispatching c.go_on_in.new.self) c.as_slice.ensures.value
+            c.in_ok-go_on_in.ensures.state;
+      };
     }
 
 pub returns-clause-turn : goal.returns-clause-turn

@@ -1,0 +1,20 @@
+use Rattle.std.proofs.Common.{rules}
+use Rattle.shop_tree.proofs.SiblingLemmas.{can_each, own_each}
+use Rattle.shop_tree.proofs.walk_states.WalkStates.give_current.Goals as goal
+
+pub advance_to-requires-clause-can : goal.advance_to-requires-clause-can
+advance_to-requires-clause-can g c =
+    let d = c.args.self.now.dispatcher.now
+    in let at = c.requires.branching
+    in can_each (λ x w. g.D.Dispatching.IsStateOf d w c.args.self.now.current.value
+    × g.D.Dispatching.IsCandidate d w x × g.D.Dispatching.KnowsChild d c.args.self.now.scratch w x.job) at.listed
+    (g.met.D.Dispatching.state_is_of_word d c.args.branching.now.word.now _ at.state) at.bound
+    (λ k e h own. (at.state, own, c.requires.known k e h))
+
+pub returns-clause-given : goal.returns-clause-given
+returns-clause-given g c =
+    let at = c.requires.branching
+    in let is = at.state
+    in let own = own_each at.listed
+    in let state = c.advance_to.ensures.state
+    in search rules
