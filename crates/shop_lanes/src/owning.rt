@@ -150,7 +150,10 @@ fn own_spans_of_longer<B: Block>(rows: &LaneRows<B::Number>, owns: &mut [B::Numb
 /// Writes into `owns` the own span of each waiting operation: how late the operation, and the others with their tails,
 /// end if it starts first, at its head, and they follow by rank. `EACH` is as for `bits_up_to`.
 #[inline(always)]
-pub(crate) fn own_spans<B: Block, const EACH: usize>(rows: &LaneRows<B::Number>, owns: &mut [B::Number])
+pub(crate) fn own_spans<B: Block, const EACH: usize>(
+    rows: &LaneRows<B::Number>,
+    owns: &mut [B::Number],
+)
     requires { CanOwn B.value B.GREATEST rows.now owns.old }
     ensures { WritesOwnSpans B.value rows.now owns.old owns.new }
 {
