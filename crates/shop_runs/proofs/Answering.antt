@@ -22,10 +22,10 @@ use Rattle.shop_runs.specs.declared.rounds.Round.{Round}
 use Rattle.shop_runs.specs.declared.runs.OpenRun.{OpenRun}
 use Rattle.shop_nodes.specs.inner.HeldNodes.{nodes_below}
 use Rattle.shop_runs.specs.inner.NodeLists.{least_of_bounds}
-use Rattle.shop_runs.specs.inner.Searches.{IsSearchAt, IsSearchOf, IsFront, IsJoined, front_of, stand_of}
+use Rattle.shop_runs.specs.inner.Searches.{IsSearchAt, IsSearchOf, IsFront, front_of, stand_of}
 use Rattle.shop_runs.specs.inner.Stores.{open_list, order_of}
-use Rattle.shop_runs.proofs.FrontLemmas.{IsInOrder, in_order_is, order_drop, ordered_twice, gathered_front, rejoined}
-use Rattle.shop_runs.proofs.FrontLemmas.{joined_at, search_of, least_order, length_order}
+use Rattle.shop_runs.proofs.FrontLemmas.{IsInOrder, IsJoined, in_order_is, order_drop, ordered_twice, gathered_front}
+use Rattle.shop_runs.proofs.FrontLemmas.{rejoined, joined_at, search_of, least_order, length_order}
 use Rattle.shop_runs.proofs.NodeLemmas.{least_is, below_is}
 use Rattle.shop_runs.specs.declared.runs.Answer.{Answer}
 use Rattle.shop_model.specs.Word.{placed, rows_of}

@@ -22,7 +22,7 @@ use Rattle.shop_runs.specs.Round.{Stand, Told, in_order, words_below, sheets_of,
 use Rattle.shop_runs.specs.Round.{after_round, gathered, makespan_of, least_bound}
 use Rattle.shop_runs.specs.Laws.{IsRound, IsStanding}
 use Rattle.shop_nodes.specs.inner.HeldNodes.{nodes_below}
-use Rattle.shop_runs.specs.inner.Searches.{IsSearchAt, IsSearchOf, IsJoined, front_of, stand_of}
+use Rattle.shop_runs.specs.inner.Searches.{IsSearchAt, IsSearchOf, front_of, stand_of}
 use Rattle.shop_runs.specs.inner.Stacks.{put_before, put_all_before}
 use Rattle.shop_runs.specs.inner.Stores.{open_list, order_of}
 use Rattle.shop_runs.proofs.Cutting.{all_front}
@@ -31,6 +31,11 @@ use Rattle.shop_runs.proofs.OpenLemmas.{ordered_all}
 use Rattle.shop_runs.proofs.SheetLemmas.{hit_in, found_is}
 use Rattle.shop_runs.proofs.SortLemmas.{Rises, sort_rises, sort_fixed, rises_drop, rises_filter}
 use Rattle.shop_runs.proofs.StandingLemmas.{known, rest_closed}
+
+-- the open nodes of a run are those left, put before the others whose bounds are below the makespan
+pub record IsJoined (left : List Node) (others : OpenNodes) (t : OpenRun) : Type 0 where
+  pub kept : order_of t.open ≡ order_of others
+  pub open_nodes : open_list t.open ≡ put_all_before (order_of others) left (nodes_below t.makespan (open_list others))
 
 module _ (shop : Shop) where
   -- words in the plan's order

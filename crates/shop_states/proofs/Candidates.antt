@@ -13,13 +13,12 @@ use Rattle.shop_bound.proofs.SmallSums.{sums_small}
 use Rattle.shop_bound.specs.Conflicts.{conflict, conflict_among, open_jobs}
 use Rattle.shop_bound.proofs.Entries.{IsWord-snoc}
 use Rattle.shop_states.specs.inner.Advances.{IsAdvancing, IsLeastAt, foreseen}
-use Rattle.shop_states.specs.inner.LaneChoices.{AreChoosable}
 use Rattle.shop_states.specs.inner.LaneStates.{IsKeptInLanes}
 use Rattle.shop_layout.specs.Lanes.{rows_of}
 use Rattle.shop_layout.specs.Positions.{LayoutState, place}
 use Rattle.shop_states.specs.inner.RisingLists.{IsIn}
 use Rattle.shop_states.proofs.ChildReads.{after_look, end_here, head_here, machine_here, time_here}
-use Rattle.shop_states.proofs.LaneConflicts.{in_filter, open_is}
+use Rattle.shop_states.proofs.LaneConflicts.{AreChoosable, in_filter, open_is}
 use Rattle.shop_states.proofs.StateSteps.{next_at}
 
 -- a conflict set is a part of the open jobs

@@ -4,9 +4,12 @@ use Rattle.std.proofs.lemmas.Bool.{cases_lt}
 use Rattle.shop_lanes.specs.Rows.{Lane}
 use Rattle.shop_lanes.specs.Spans.{span, spans_between}
 use Rattle.shop_lanes.proofs.LeapTurns.{least_among, least_head, least_head_le, same_span, span_falls}
-use Rattle.shop_states.specs.inner.Ceilings.{IsCeiling}
 use Rattle.shop_states.proofs.RisenLanes.{AreBeside, IsLaneBeside, beside, nothing}
 use Rattle.shop_states.proofs.SpanTurns.{span_left}
+
+-- no span of these lanes, from whatever moment on, is above c
+abbrev pub IsCeiling : ℕ → List Lane → Type 0
+IsCeiling c xs = (g : ℕ) → 0 < g → span g g xs ≤ c
 
 -- no head is above a number
 abbrev pub IsBelow : ℕ → ℕ → ℕ → Type 0

@@ -7,7 +7,7 @@ use Rattle.shop_model.specs.Limits.{IsWithinLimits}
 use Rattle.shop_model.specs.Shop.{Shop, machine_of, IsOperation}
 use Rattle.shop_model.specs.Word.{IsWord, placing, place_next}
 use Rattle.shop_bound.specs.Bound.{lb}
-use Rattle.shop_states.specs.inner.BoundsUpTo.{IsBoundUpTo}
+use Rattle.shop_states.proofs.BoundsUpTo.{IsBoundUpTo}
 use Rattle.shop_bound.specs.Heads.{head_of}
 use Rattle.shop_bound.specs.OneMachine.{one}
 use Rattle.shop_layout.specs.HeadLimits.{latest_end}

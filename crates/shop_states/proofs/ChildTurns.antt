@@ -9,7 +9,7 @@ use Rattle.shop_model.specs.Word.{Placing, IsWord, placing, place_next}
 use Rattle.shop_model.proofs.Ends.{IsOperation-job}
 use Rattle.shop_model.proofs.Unders.{next_operation, placing-snoc}
 use Rattle.shop_bound.specs.Bound.{lb}
-use Rattle.shop_states.specs.inner.BoundsUpTo.{IsBoundUpTo}
+use Rattle.shop_states.proofs.BoundsUpTo.{IsBoundUpTo}
 use Rattle.shop_bound.specs.OneMachine.{one}
 use Rattle.shop_states.specs.inner.ChildBounds.{IsLeastAfter}
 use Rattle.shop_layout.specs.HeadLimits.{latest_end}

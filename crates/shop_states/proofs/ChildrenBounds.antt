@@ -9,10 +9,11 @@ use Rattle.shop_bound.proofs.SmallSums.{sums_small}
 use Rattle.shop_layout.specs.HeadLimits.{latest_end}
 use Rattle.shop_layout.specs.Lanes.{lanes_on, rows_of}
 use Rattle.shop_layout.specs.Positions.{LayoutState}
+use Rattle.shop_states.proofs.CeilingLemmas.{IsCeiling}
 use Rattle.shop_states.specs.declared.dispatching.Candidate.{Candidate}
 use Rattle.shop_states.specs.declared.siblings.Latest.{Latest}
 use Rattle.shop_states.specs.inner.Advances.{IsAdvancing}
-use Rattle.shop_states.specs.inner.Ceilings.{AreChildCeilings, IsCeiling}
+use Rattle.shop_states.specs.inner.Ceilings.{AreChildCeilings}
 use Rattle.shop_states.specs.inner.HeadRaises.{Raise, raise_of}
 use Rattle.shop_states.specs.inner.LaneStates.{IsKeptInLanes}
 use Rattle.shop_states.specs.inner.MachineRaises.{AreEmpty, AreRaisesFit}

@@ -6,7 +6,7 @@ use Rattle.shop_lanes.specs.Rows.{Lane}
 use Rattle.shop_lanes.specs.Spans.{spans_from}
 use Rattle.shop_states.proofs.SpanTurns.{spans_low, spans_high}
 use Rattle.shop_states.specs.inner.HeadRaises.{Raise, raise_of, widened}
-use Rattle.shop_states.specs.inner.LaneBounds.{AreRaisesUpTo}
+use Rattle.shop_states.specs.inner.HeadRaises.{AreRaisesUpTo}
 
 -- nothing begins between where nothing is between
 pub spans-none : (above upto : ℕ) (all xs : List Lane) → upto ≤ above → spans_from above upto all xs ≡ 0

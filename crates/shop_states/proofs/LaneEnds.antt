@@ -10,7 +10,7 @@ use Rattle.shop_model.proofs.Ends.{IsOperation-job}
 use Rattle.shop_bound.specs.Conflicts.{next_end}
 use Rattle.shop_layout.specs.HeadLimits.{FitsLanes}
 use Rattle.shop_states.specs.inner.LaneChoices.{AreEndsAt, AreNextsAt, AreNextsOf}
-use Rattle.shop_states.specs.inner.LaneEnds.{end_at, AreEndsOf, CanKeepEnds, HasEnds, IsEndOf}
+use Rattle.shop_states.specs.inner.LaneEnds.{end_at, CanKeepEnds, IsEndOf}
 use Rattle.shop_states.specs.inner.LaneStates.{AreHeadsInLanes}
 use Rattle.shop_layout.specs.Positions.{LayoutState}
 use Rattle.shop_states.specs.inner.Raises.{AreFirst}
@@ -18,6 +18,17 @@ use Rattle.shop_layout.proofs.LatestEnds.{latest_end_is}
 use Rattle.shop_states.proofs.RaisedHeads.{indexed}
 use Rattle.shop_states.proofs.RaiseWalks.{apart, place_within}
 use Rattle.shop_states.proofs.NextOperations.{head_first, next_is, next_placed, next_there, next_within, stored_end}
+
+-- the ends of all jobs are as they are to be
+abbrev pub AreEndsOf : ℕ → List ℕ → Rows → Type 0
+AreEndsOf greatest nexts rows = (j : ℕ) → j < length nexts → IsEndOf greatest nexts rows j
+
+-- the ends alone differ
+pub record HasEnds (old new : Rows) : Type 0 where
+  pub heads : new.heads ≡ old.heads
+  pub times : new.times ≡ old.times
+  pub tails : new.tails ≡ old.tails
+  pub ends : length new.ends ≡ length old.ends
 
 -- one more end is set
 module _ {greatest : ℕ} {l : LayoutState} {nexts : List ℕ} {old : Rows} (keep : CanKeepEnds greatest l nexts old)

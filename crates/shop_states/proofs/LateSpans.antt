@@ -15,14 +15,14 @@ use Rattle.shop_layout.proofs.LaneLimits.{blocks_within}
 use Rattle.shop_states.specs.declared.dispatching.Candidate.{Candidate}
 use Rattle.shop_states.specs.declared.siblings.Latest.{Latest}
 use Rattle.shop_states.specs.inner.Advances.{IsAdvancing}
-use Rattle.shop_states.specs.inner.Ceilings.{AreChildCeilings, IsCeiling}
+use Rattle.shop_states.specs.inner.Ceilings.{AreChildCeilings}
 use Rattle.shop_states.specs.inner.HeadRaises.{Raise}
 use Rattle.shop_states.specs.inner.LaneHeads.{AreHeadsAt}
 use Rattle.shop_states.specs.inner.LaneStates.{AreHeadsInLanes, IsKeptInLanes}
 use Rattle.shop_states.specs.inner.Raises.{IsInBlocks}
 use Rattle.shop_states.specs.inner.Siblings.{AreLatest, AreSiblings, IsAmong, IsLateAt, RaisesBehind, end_by}
 use Rattle.shop_states.specs.inner.Watchers.{floor_on}
-use Rattle.shop_states.proofs.CeilingLemmas.{IsBelow, ceiling_of_spans}
+use Rattle.shop_states.proofs.CeilingLemmas.{IsCeiling, IsBelow, ceiling_of_spans}
 use Rattle.shop_states.proofs.ChildBounds.{child-le}
 use Rattle.shop_states.proofs.ChildRaises.{bounded_by_raise, covered_all}
 use Rattle.shop_states.proofs.ChildTargets.{child_heads, child_heads_are}

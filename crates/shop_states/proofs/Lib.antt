@@ -16,6 +16,7 @@ pub mod Watching
 pub mod AdvanceSteps
 pub mod BehindRaises
 pub mod BoundsAfter
+pub mod BoundsUpTo
 pub mod CeilingLemmas
 pub mod CandidateDispatches
 pub mod Candidates

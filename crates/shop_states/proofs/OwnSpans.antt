@@ -19,7 +19,6 @@ use Rattle.shop_states.specs.States.{ListsBelow, none, listed, closed}
 use Rattle.shop_states.specs.inner.Candidates.{AreCandidatesOf, IsCandidateOf, IsTold, ListsOwn, own_at}
 use Rattle.shop_states.specs.inner.Candidates.{empty, left_out, taken, told_at}
 use Rattle.shop_layout.specs.HeadLimits.{latest_end}
-use Rattle.shop_states.specs.inner.LaneBounds.{AreSpansFit}
 use Rattle.shop_layout.specs.Lanes.{lanes_on, rows_of}
 use Rattle.shop_states.specs.inner.LaneHeads.{AreHeadsAt}
 use Rattle.shop_states.specs.inner.LaneStates.{IsKeptInLanes}
@@ -31,7 +30,7 @@ use Rattle.shop_states.proofs.ChildRaises.{heads_small}
 use Rattle.shop_states.proofs.ChildReads.{head_here, is_operation, machine_here}
 use Rattle.shop_layout.proofs.LaidPlaces.{each_position, place_of}
 use Rattle.shop_states.proofs.LaneConflicts.{in_filter}
-use Rattle.shop_states.proofs.LaneFits.{spans_fit}
+use Rattle.shop_states.proofs.LaneFits.{AreSpansFit, spans_fit}
 use Rattle.shop_states.proofs.StateSteps.{next_at, next_known}
 
 -- heads of one placing are one list

@@ -10,13 +10,13 @@ use Rattle.shop_model.specs.Word.{Placing, IsWord, placing, place_next}
 use Rattle.shop_model.proofs.Placings.{place_next-is}
 use Rattle.shop_model.proofs.Unders.{placing-snoc}
 use Rattle.shop_states.specs.inner.LaneChoices.{AreNextsAt, AreNextsOf}
-use Rattle.shop_states.specs.inner.LaneEnds.{AreEndsOf, CanKeepEnds, HasEnds, IsEndOf, end_at}
+use Rattle.shop_states.specs.inner.LaneEnds.{CanKeepEnds, IsEndOf, end_at}
 use Rattle.shop_states.specs.inner.LaneStates.{AreHeadsInLanes, IsKeptInLanes}
 use Rattle.shop_layout.specs.Positions.{place_or, LayoutState, first_position, place}
 use Rattle.shop_states.specs.inner.Raises.{AreFirst}
 use Rattle.shop_states.proofs.ChildReads.{is_operation}
 use Rattle.shop_states.proofs.ChildTurns.{its_job}
-use Rattle.shop_states.proofs.LaneEnds.{beside_more, can_keep, end_here, end_other, ends_at, ends_of}
+use Rattle.shop_states.proofs.LaneEnds.{AreEndsOf, HasEnds, beside_more, can_keep, end_here, end_other, ends_at, ends_of}
 use Rattle.shop_states.proofs.LaneEnds.{next_first, nexts_at, with_ends}
 use Rattle.shop_states.proofs.NextOperations.{next_there, next_within}
 use Rattle.shop_states.proofs.RaisedHeads.{followed}

@@ -13,11 +13,10 @@ use Rattle.shop_states.specs.declared.dispatches.Dispatch.{Dispatch}
 use Rattle.shop_states.specs.inner.Advances.{IsAdvancing, IsLeastAt}
 use Rattle.shop_states.specs.inner.Ceilings.{AreChildCeilings, AreUnder}
 use Rattle.shop_states.specs.inner.ChildBounds.{IsLeastAfter}
-use Rattle.shop_states.specs.inner.BoundsUpTo.{IsBoundUpTo}
+use Rattle.shop_states.proofs.BoundsUpTo.{IsBoundUpTo}
 use Rattle.shop_layout.specs.HeadLimits.{latest_end}
 use Rattle.shop_states.specs.inner.Dispatches.{IsDispatchOf}
 use Rattle.shop_states.specs.inner.HeadRaises.{Raise, raise_of}
-use Rattle.shop_states.specs.inner.LaneBounds.{AreSpansFit}
 use Rattle.shop_layout.specs.Lanes.{lanes_on, rows_of}
 use Rattle.shop_states.specs.inner.LaneEnds.{CanKeepEnds, IsEndOf, end_at}
 use Rattle.shop_states.specs.inner.LaneStates.{AreHeadsInLanes, IsKeptInLanes}
@@ -31,7 +30,7 @@ use Rattle.shop_states.proofs.AdvanceSteps.{advanced, advanced_long, advanced_ot
 use Rattle.shop_states.proofs.AdvanceSteps.{lifted_raisable, machine_here}
 use Rattle.shop_states.proofs.ChildTurns.{its_ahead, next_heads, next_small, raised_is}
 use Rattle.shop_states.proofs.FittingSpans.{span_within, spans_each}
-use Rattle.shop_states.proofs.LaneFits.{spans_fit}
+use Rattle.shop_states.proofs.LaneFits.{AreSpansFit, spans_fit}
 use Rattle.shop_states.proofs.RaisedHeads.{has_blocks}
 use Rattle.shop_states.proofs.StateSteps.{ends_more, firsts, kept_more, next_at, next_known, within}
 

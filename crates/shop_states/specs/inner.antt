@@ -1,7 +1,6 @@
 pub mod HeadRaises
 pub mod JobSets
 pub mod LaidLanes
-pub mod LaneBounds
 pub mod LaneChoices
 pub mod LaneEnds
 pub mod LaneHeads
@@ -13,7 +12,6 @@ pub mod Watchers
 pub mod Advances
 pub mod Dispatches
 pub mod Beginnings
-pub mod BoundsUpTo
 pub mod Candidates
 pub mod Ceilings
 pub mod ChildBounds

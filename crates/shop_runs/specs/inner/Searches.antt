@@ -2,15 +2,13 @@
 --     stand_of t                    where run t stands, its open words in the order of the next cut
 --     IsSearchAt shop order s t     run t stands at s, its open words in this order
 --     IsSearchOf shop order t       run t is at a standing of the instance, in this order
---     IsJoined left others t        the open nodes of run t are those left, put before the others whose bounds are
---                                   below the makespan
 --     front_of r                    the round without its rest
 --     IsFront shop plan t r others  r is the front of what is cut, the others its rest
-use Rattle.std.specs.Prelude.{◌≡◌, List, []}
+use Rattle.std.specs.Prelude.{◌≡◌, []}
 use Rattle.shop_model.specs.Shop.{Shop}
-use Rattle.shop_nodes.specs.{Nodes.{words_of, AreNodes}, declared.nodes.Node.Node, inner.HeldNodes.nodes_below}
+use Rattle.shop_nodes.specs.Nodes.{words_of, AreNodes}
 use Rattle.shop_runs.specs.{Round.{Stand, Told, in_order, makespan_of, cut_of}, Laws.IsStanding, Entries.told}
-use Rattle.shop_runs.specs.{Plans.planned, inner.OpenNodes.AreBelow, inner.Stacks.put_all_before}
+use Rattle.shop_runs.specs.{Plans.planned, inner.OpenNodes.AreBelow}
 use Rattle.shop_runs.specs.{inner.Stores.{open_list, order_of}, declared.open_nodes.OpenNodes.OpenNodes}
 use Rattle.shop_runs.specs.{declared.plans.Order.Order, declared.plans.Plan.Plan, declared.rounds.Round.Round}
 use Rattle.shop_runs.specs.declared.runs.OpenRun.{OpenRun}
@@ -30,10 +28,6 @@ pub record IsSearchOf (shop : Shop) (order : Order) (t : OpenRun) : Type 0 where
   pub bounds : AreNodes shop (open_list t.open)
   pub kept : order_of t.open ≡ order
   pub ordered : in_order shop order (words_of (open_list t.open)) ≡ words_of (open_list t.open)
-
-pub record IsJoined (left : List Node) (others : OpenNodes) (t : OpenRun) : Type 0 where
-  pub kept : order_of t.open ≡ order_of others
-  pub open_nodes : open_list t.open ≡ put_all_before (order_of others) left (nodes_below t.makespan (open_list others))
 
 abbrev pub front_of : Told → Told
 front_of r = record r { rest = [] }

@@ -1,17 +1,13 @@
 -- Numbers that no span of a machine exceeds.
---     IsCeiling c xs                no span of these lanes, from whatever moment on, is above c
 --     AreChildCeilings .. j cs      with job j next, no span of a machine from whatever moment on is above its number;
 --                                   on the job's own machine, from the end of its operation on
 --     AreUnder cs raises l rows ..  what begins within the raise of a machine with a number is no more than that, or
 --                                   than `least`
 use Rattle.std.specs.Prelude.{◌≡◌, ℕ, ◌+◌, ◌≤◌, ◌<◌, max, List, length, slice_index}
-use Rattle.shop_lanes.specs.{Rows.{Lane, Rows}, Spans.{span, spans_between}}
+use Rattle.shop_lanes.specs.{Rows.Rows, Spans.{span, spans_between}}
 use Rattle.shop_layout.specs.{Lanes.lanes_on, Positions.LayoutState}
 use Rattle.shop_model.specs.{Shop.{Shop, machine_of}, Word.{place_next, placing}}
 use Rattle.shop_states.specs.{inner.HeadRaises.{Raise, raise_of}, inner.LaneHeads.AreHeadsAt, inner.Watchers.floor_on}
-
-abbrev pub IsCeiling : ℕ → List Lane → Type 0
-IsCeiling c xs = (g : ℕ) → 0 < g → span g g xs ≤ c
 
 -- a moment is one higher, as heads in lanes are
 abbrev pub AreChildCeilings : Shop → List ℕ → LayoutState → ℕ → List ℕ → Type 0

@@ -4,7 +4,7 @@
 --     raise_of raises m              that of machine m
 --     nothing_raised greatest        the raise where no head rose
 --     widened raise a b              with one more head, which was a and is b
-use Rattle.std.specs.Prelude.{ℕ, min, max, List, map, slice_index_or}
+use Rattle.std.specs.Prelude.{ℕ, ◌≤◌, ◌<◌, min, max, List, length, map, slice_index_or}
 use Rattle.shop_states.specs.declared.head_raises.LaneRaise.{LaneRaise}
 
 pub record Raise : Type 0 where
@@ -30,3 +30,7 @@ nothing_raised greatest = record { from = greatest; to = 0 }
 
 abbrev pub widened : Raise → ℕ → ℕ → Raise
 widened r a b = record { from = min r.from a; to = max r.to b }
+
+-- no raise goes beyond
+abbrev pub AreRaisesUpTo : ℕ → List Raise → Type 0
+AreRaisesUpTo top raises = (m : ℕ) → m < length raises → (raise_of raises m).to ≤ top

@@ -7,7 +7,6 @@
 --     HaveJobs l positions most      each position has a job, all jobs being below a number
 --     AreNextPlaced l heads nexts    each position has a job, and the next operations have theirs
 --     AreNextsAt shop p l nexts ..   heads and next operations are those of placing p
---     AreChoosable greatest ..       all that the choice by lanes stands on
 use Rattle.std.specs.Prelude.{◌≡◌, ℕ, ◌+◌, ◌*◌, ◌≤◌, ◌<◌, ◌^◌, List, length, slice_index}
 use Rattle.shop_lanes.specs.{Marks.positions_below, Rows.Rows}
 use Rattle.shop_model.specs.{Limits.IsWithinLimits, Shop.{Shop, route_of, IsOperation}, Word.Placing}
@@ -62,9 +61,3 @@ pub record AreNextsAt (shop : Shop) (p : Placing) (l : LayoutState) (nexts : Lis
   pub are : AreNextsOf shop p l nexts
   pub heads : AreHeadsAt shop p l rows.heads
   pub times : rows.times ≡ l.times
-
-pub record AreChoosable (greatest : ℕ) (shop : Shop) (p : Placing) (l : LayoutState) (nexts : List ℕ)
-    (rows : Rows) : Type 0 where
-  pub at : AreNextsAt shop p l nexts rows
-  pub ends : AreEndsAt greatest shop p rows.ends
-  pub computable : greatest < 2 ^ 64

@@ -1,9 +1,8 @@
 -- The ends of next operations in lanes.
 --     end_at greatest nexts rows j       one more than when the next operation of job j can end from its head on, or
 --                                        the greatest number where it has no step left
---     AreEndsOf greatest nexts rows      the ends of all jobs in lanes are `end_at`
+--     IsEndOf greatest nexts rows j      the end of job j in lanes is `end_at`
 --     CanKeepEnds greatest l nexts rows  the end of each job can be set
---     HasEnds old new                    the ends alone differ
 use Rattle.std.specs.Prelude.{◌≡◌, ℕ, ◌+◌, ◌≤◌, ◌<◌, ◌^◌, List, length, slice_index, if◌then◌else◌, nat_lt}
 use Rattle.shop_lanes.specs.Rows.{Rows}
 use Rattle.shop_states.specs.inner.LaneChoices.{AreNextPlaced}
@@ -13,12 +12,8 @@ abbrev pub end_at : ℕ → List ℕ → Rows → ℕ → ℕ
 end_at greatest nexts rows j = if nat_lt (slice_index nexts j) (length rows.heads)
     then slice_index rows.heads (slice_index nexts j) + slice_index rows.times (slice_index nexts j) else greatest
 
--- one end, and all
 abbrev pub IsEndOf : ℕ → List ℕ → Rows → ℕ → Type 0
 IsEndOf greatest nexts rows j = slice_index rows.ends j ≡ end_at greatest nexts rows j
-
-abbrev pub AreEndsOf : ℕ → List ℕ → Rows → Type 0
-AreEndsOf greatest nexts rows = (j : ℕ) → j < length nexts → IsEndOf greatest nexts rows j
 
 pub record CanKeepEnds (greatest : ℕ) (l : LayoutState) (nexts : List ℕ) (rows : Rows) : Type 0 where
   pub placed : AreNextPlaced l rows.heads nexts
@@ -26,9 +21,3 @@ pub record CanKeepEnds (greatest : ℕ) (l : LayoutState) (nexts : List ℕ) (ro
   pub ends : length rows.ends ≡ length nexts
   pub fits : (j : ℕ) → j < length nexts → end_at greatest nexts rows j ≤ greatest
   pub computable : greatest < 2 ^ 64
-
-pub record HasEnds (old new : Rows) : Type 0 where
-  pub heads : new.heads ≡ old.heads
-  pub times : new.times ≡ old.times
-  pub tails : new.tails ≡ old.tails
-  pub ends : length new.ends ≡ length old.ends
