@@ -55,10 +55,41 @@ fn is_under(ceilings: &[u64], machine: usize, most: u64) -> bool
     machine < ceilings.len() && ceilings[machine] <= most
 }
 
-/// Does what `take_spans` does, for machines that all have `EACH` blocks, or any numbers of blocks if `EACH` is 0. A
+/// Does what `take_spans` does, for machines that all have `each` blocks, or any numbers of blocks if `each` is 0. A
 /// number that is known lets the compiler unroll the passes over the blocks.
 #[inline(always)]
-fn take_spans_of<L: StateLanes, const EACH: usize>(
+fn take_spans_of<L: StateLanes>(
+    each: usize,
+    raises: &mut [LaneRaise<L::Number>],
+    raised: MachineSet,
+    ceilings: &[u64],
+    laid: &LaidLanes<L>,
+    least: u64,
+    limit: u64,
+) -> u64
+    requires even { AreEven laid.now.grid.now.blocks each }
+    requires can { CanTakeSpansUnder L.GREATEST ceilings.now (raises_in L.value raises.old) raised
+        laid.now.grid.now (laid_rows L.heads L.ends laid.now) least }
+    ensures { TakesSpans laid.now.grid.now (laid_rows L.heads L.ends laid.now)
+        (raises_in L.value raises.old) (raises_in L.value raises.new) least limit result }
+{
+    // looked up once: an emptied raise is a write, behind which the rows would be looked up anew
+    let rows = laid.grid.rows(laid.lanes);
+    let mut most = least;
+    let mut left = raised;
+    while let Some(machine) = left.pop_first() {
+        let raise = take_raise::<L>(raises, machine);
+        if !is_under(ceilings, machine, most) {
+            let (from, to) = laid.grid.blocks_of(each, machine);
+            most = span_of_rows::<L>(each, &rows.blocks(from, to), raise, most, limit);
+        }
+    }
+    most
+}
+
+/// Calls `take_spans_of` for a number of blocks that is a literal.
+#[inline(always)]
+fn take_spans_by<L: StateLanes, const EACH: usize>(
     raises: &mut [LaneRaise<L::Number>],
     raised: MachineSet,
     ceilings: &[u64],
@@ -72,18 +103,7 @@ fn take_spans_of<L: StateLanes, const EACH: usize>(
     ensures { TakesSpans laid.now.grid.now (laid_rows L.heads L.ends laid.now)
         (raises_in L.value raises.old) (raises_in L.value raises.new) least limit result }
 {
-    // looked up once: an emptied raise is a write, behind which the rows would be looked up anew
-    let rows = laid.grid.rows(laid.lanes);
-    let mut most = least;
-    let mut left = raised;
-    while let Some(machine) = left.pop_first() {
-        let raise = take_raise::<L>(raises, machine);
-        if !is_under(ceilings, machine, most) {
-            let (from, to) = laid.grid.blocks_of(EACH, machine);
-            most = span_of_rows::<L>(EACH, &rows.blocks(from, to), raise, most, limit);
-        }
-    }
-    most
+    take_spans_of(EACH, raises, raised, ceilings, laid, least, limit)
 }
 
 /// Does what `take_spans` does, in lanes for any number of blocks a machine: with code for each number up to eight, in
@@ -103,18 +123,18 @@ fn take_any_spans<L: StateLanes>(
         (raises_in L.value raises.old) (raises_in L.value raises.new) least limit result }
 {
     if are_wide(L::GREATEST) {
-        return take_spans_of::<L, 0>(raises, raised, ceilings, laid, least, limit);
+        return take_spans_by::<L, 0>(raises, raised, ceilings, laid, least, limit);
     }
     match laid.grid.blocks_each() {
-        1 => take_spans_of::<L, 1>(raises, raised, ceilings, laid, least, limit),
-        2 => take_spans_of::<L, 2>(raises, raised, ceilings, laid, least, limit),
-        3 => take_spans_of::<L, 3>(raises, raised, ceilings, laid, least, limit),
-        4 => take_spans_of::<L, 4>(raises, raised, ceilings, laid, least, limit),
-        5 => take_spans_of::<L, 5>(raises, raised, ceilings, laid, least, limit),
-        6 => take_spans_of::<L, 6>(raises, raised, ceilings, laid, least, limit),
-        7 => take_spans_of::<L, 7>(raises, raised, ceilings, laid, least, limit),
-        8 => take_spans_of::<L, 8>(raises, raised, ceilings, laid, least, limit),
-        _ => take_spans_of::<L, 0>(raises, raised, ceilings, laid, least, limit),
+        1 => take_spans_by::<L, 1>(raises, raised, ceilings, laid, least, limit),
+        2 => take_spans_by::<L, 2>(raises, raised, ceilings, laid, least, limit),
+        3 => take_spans_by::<L, 3>(raises, raised, ceilings, laid, least, limit),
+        4 => take_spans_by::<L, 4>(raises, raised, ceilings, laid, least, limit),
+        5 => take_spans_by::<L, 5>(raises, raised, ceilings, laid, least, limit),
+        6 => take_spans_by::<L, 6>(raises, raised, ceilings, laid, least, limit),
+        7 => take_spans_by::<L, 7>(raises, raised, ceilings, laid, least, limit),
+        8 => take_spans_by::<L, 8>(raises, raised, ceilings, laid, least, limit),
+        _ => take_spans_by::<L, 0>(raises, raised, ceilings, laid, least, limit),
     }
 }
 
@@ -136,12 +156,11 @@ pub(crate) fn take_spans<L: StateLanes>(
     ensures { TakesSpans laid.now.grid.now (laid_rows L.heads L.ends laid.now)
         (raises_in L.value raises.old) (raises_in L.value raises.new) least limit result }
 {
-    match laid.grid.fixed_blocks_each() {
-        2 => take_spans_of::<L, 2>(raises, raised, ceilings, laid, least, limit),
-        3 => take_spans_of::<L, 3>(raises, raised, ceilings, laid, least, limit),
-        4 => take_spans_of::<L, 4>(raises, raised, ceilings, laid, least, limit),
-        _ => take_any_spans(raises, raised, ceilings, laid, least, limit),
+    let each = laid.grid.fixed_blocks_each();
+    if each == 0 {
+        return take_any_spans(raises, raised, ceilings, laid, least, limit);
     }
+    take_spans_of(each, raises, raised, ceilings, laid, least, limit)
 }
 
 /// Answers `span`, or `u64::MAX` if `span` reaches `limit`, since the pass may then have stopped early.

@@ -31,7 +31,7 @@ span_of_rows-most-requires g c =
     let left = c.loop-machine.invariant.left in let rows = c.rows-rows.ensures in let blocks = c.blocks_of-from.ensures
     in can_bound c.requires.can.can left c.in-Some.ensures blocks.first blocks.behind g.L.StateLanes.value
     c.rows-rows.result rows.heads rows.times rows.tails c.blocks-then-not-is_under.ensures
-    c.take_raise-raise.ensures.raise g.row.EACH blocks.count
+    c.take_raise-raise.ensures.raise c.args.each blocks.count
 
 pub loop-machine-preserved-then-not-is_under : goal.loop-machine-preserved-then-not-is_under
 loop-machine-preserved-then-not-is_under g c =
