@@ -1,9 +1,7 @@
 -- Instances of which one can end whenever the other can.
-use Rattle.std.proofs.lemmas.Grind.{common_steps}
-use Rattle.std.proofs.Common.{ℕ, ◌≤◌, arith}
+use Rattle.std.proofs.{lemmas.Grind.common_steps, Common.{ℕ, ◌≤◌, arith}}
 use Rattle.shop_model.specs.Shop.{Shop, end_of, IsLeast}
-use Rattle.shop_engine.specs.Headline.{IsBound}
-use Rattle.shop_engine.specs.Easier.{EndsBy, AsksNoMore, AskTheSame, EasierInstancesEndNoLater}
+use Rattle.shop_engine.specs.{Headline.IsBound, Easier.{EndsBy, AsksNoMore, AskTheSame, EasierInstancesEndNoLater}}
 
 by_least : (shop : Shop) (c : ℕ) → IsLeast shop c → EndsBy shop c
 by_least shop c least = grind (arith, common_steps, least, least.table, least.feasible, least.ends)

@@ -1,29 +1,20 @@
 -- What waits at the beginning of a search, counted by hand.
-use Rattle.std.proofs.Common.{◌≡◌, ℕ, zero, suc, ◌+◌, ◌≤◌, ◌<◌, max, inl, inr, List, [], ◌∷◌, ◌++◌, length}
-use Rattle.std.proofs.Common.{get_or, take, drop, refl, sym, ap, subst, arith, add-one, eqb, ltb}
+use Rattle.std.proofs.Common.{◌≡◌, ℕ, zero, suc, ◌+◌, ◌≤◌, ◌<◌, max, inl, inr, List, [], ◌∷◌, ◌++◌, length, get_or}
+use Rattle.std.proofs.Common.{take, drop, refl, sym, ap, subst, arith, add-one, eqb, ltb}
+use Rattle.std.proofs.{lemmas.Bool.{cases_Bool, eq-eqb, eqb-true}, lemmas.List.{map-append, length-append}}
+use Rattle.std.proofs.{lemmas.List.Elements.filter-append, lemmas.List.Sums.{sum_by-append, sum_by-cons}}
 use Rattle.std.specs.List.{AllByRecursion, filter, flat_map, sum_by, range_with_len}
-use Rattle.std.proofs.lemmas.Bool.{cases_Bool, eq-eqb, eqb-true}
-use Rattle.std.proofs.lemmas.List.{map-append, length-append}
-use Rattle.std.proofs.lemmas.List.Elements.{filter-append}
-use Rattle.std.proofs.lemmas.List.Sums.{sum_by-append, sum_by-cons}
-use Rattle.shop_model.specs.declared.ops.Op.{Op}
-use Rattle.shop_model.specs.Limits.{IsWithinLimits}
+use Rattle.shop_model.specs.{declared.ops.Op.Op, Limits.IsWithinLimits, Word.{none_placed, start_jobs, IsWord}}
 use Rattle.shop_model.specs.Shop.{Shop, no_op, release_of, route_of, machine_of, IsOperation}
-use Rattle.shop_model.specs.Word.{none_placed, start_jobs, IsWord}
-use Rattle.shop_model.proofs.Ends.{IsOperation-job}
-use Rattle.shop_model.proofs.Greatest.{le-greatest_below}
+use Rattle.shop_model.proofs.{Ends.IsOperation-job, Greatest.le-greatest_below}
 use Rattle.shop_bound.specs.Bound.{Waiting, waiting_from, waiting_of, waiting, triples_on, lb}
-use Rattle.shop_bound.specs.OneMachine.{span_of, one}
-use Rattle.shop_bound.specs.declared.triples.Triple.{Triple}
-use Rattle.shop_bound.proofs.BoundsRise.{bounds_rise}
+use Rattle.shop_bound.specs.{OneMachine.{span_of, one}, declared.triples.Triple.Triple}
+use Rattle.shop_bound.proofs.{BoundsRise.bounds_rise, ThresholdLemmas.{le-greatest_sublist, le-least_of}}
 use Rattle.shop_bound.proofs.Lists.{IsSublist, none, skip, keep, all_append, all_filter, all_map}
-use Rattle.shop_bound.proofs.ThresholdLemmas.{le-greatest_sublist, le-least_of}
 use Rattle.shop_nodes.proofs.Members.{In, in_map, in_filter, in_flat_map, in_range}
-use Rattle.shop_runs.specs.Round.{Planned, opening}
-use Rattle.shop_runs.specs.Answers.{answer, bound_of}
+use Rattle.shop_runs.specs.{Round.{Planned, opening}, Answers.{answer, bound_of}}
 use Rattle.shop_runs.proofs.Covering.{opens_covering}
-use Rattle.shop_engine.proofs.WalksAbove.{IsAbove}
-use Rattle.shop_engine.proofs.LaterBounds.{least_above, rounds_above}
+use Rattle.shop_engine.proofs.{WalksAbove.IsAbove, LaterBounds.{least_above, rounds_above}}
 use Rattle.shop_engine.specs.Floors.{times_of, work_in, work_of, AreLeastOn, BoundsReachTheFloor}
 
 -- ---- sublists

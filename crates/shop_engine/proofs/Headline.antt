@@ -1,12 +1,10 @@
 -- What was read, made and written is a transfer, also where the bytes of source and sink are known.
-use Rattle.std.proofs.Common.{◌≡◌, ℕ, List, ◌++◌, Option, Some, None, Result, Ok, Err, OnOk, IfErr}
-use Rattle.std.proofs.Common.{rules, arith}
+use Rattle.std.proofs.Common.{◌≡◌, ℕ, List, ◌++◌, Option, Some, None, Result, Ok, Err, OnOk, IfErr, rules, arith}
 use Rattle.std.proofs.lemmas.Grind.{common_steps}
 use Rattle.std.specs.Io.KnownBytes.{Consumes, Appends, IsAtEnd}
 use Rattle.shop_text.specs.declared.faults.ReadFault.{ReadFault}
-use Rattle.shop_engine.specs.declared.faults.Fault.{Fault}
+use Rattle.shop_engine.specs.{declared.faults.Fault.Fault, Headline.WhereKnown}
 use Rattle.shop_engine.specs.Devices.{Device, IsReadToEnd, IsWritten, IsUnwritten, Passes, IsTransfer}
-use Rattle.shop_engine.specs.Headline.{WhereKnown}
 
 -- what was made of a text goes out
 passes : {s s' : Device} {text out written : List ℕ} (Gives : List ℕ → List ℕ → Type 0) (Goes : List ℕ → Type 0)

@@ -1,10 +1,7 @@
 -- The search ends, so there is a least makespan; and no other.
-use Rattle.std.proofs.lemmas.Grind.{common_steps}
-use Rattle.std.proofs.Common.{◌≡◌, ℕ, arith}
+use Rattle.std.proofs.{lemmas.Grind.common_steps, Common.{◌≡◌, ℕ, arith}}
 use Rattle.shop_model.specs.Shop.{Shop, IsLeast}
-use Rattle.shop_runs.specs.Round.{Planned, makespan_of}
-use Rattle.shop_runs.specs.Answers.{answer}
-use Rattle.shop_runs.specs.Exact.{with_rounds}
+use Rattle.shop_runs.specs.{Round.{Planned, makespan_of}, Answers.answer, Exact.with_rounds}
 use Rattle.shop_runs.specs.declared.plans.Order.TheVariants.{Kept}
 use Rattle.shop_runs.proofs.Ending.{searches_end}
 use Rattle.shop_engine.specs.Easier.{EachHasOneLeast}

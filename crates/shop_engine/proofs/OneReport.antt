@@ -1,16 +1,11 @@
 -- A written text is read as the one report that it is.
-use Rattle.std.proofs.Common.{◌≡◌, ℕ, suc, ◌+◌, true, List, [], ◌∷◌, ◌++◌, length, get_or, drop, map}
-use Rattle.std.proofs.Common.{refl, sym, ◌∙◌, ap, arith}
-use Rattle.std.specs.List.{list_all, join_with_byte}
-use Rattle.shop_text.specs.Formats.{is_visible}
-use Rattle.std.specs.Fmt.{decimal}
-use Rattle.std.proofs.lemmas.Fmt.{decimal_injective}
-use Rattle.shop_text.specs.Lines.{lines_of, tokens_of, value_of}
-use Rattle.shop_text.specs.Writing.{Reported, text_of, answer_lines, job_line, job_lines}
-use Rattle.shop_text.specs.Writing.{report_lines}
-use Rattle.shop_text.proofs.PrintedLines.{lines_of_front, are_lines_append}
+use Rattle.std.proofs.Common.{◌≡◌, ℕ, suc, ◌+◌, true, List, [], ◌∷◌, ◌++◌, length, get_or, drop, map, refl, sym, ◌∙◌}
+use Rattle.std.proofs.{Common.{ap, arith}, lemmas.Fmt.decimal_injective}
+use Rattle.std.specs.{List.{list_all, join_with_byte}, Fmt.decimal}
+use Rattle.shop_text.specs.{Formats.is_visible, Lines.{lines_of, tokens_of, value_of}}
+use Rattle.shop_text.specs.Writing.{Reported, text_of, answer_lines, job_line, job_lines, report_lines}
+use Rattle.shop_text.proofs.{PrintedLines.{lines_of_front, are_lines_append}, PrintedJobLines.values_read}
 use Rattle.shop_text.proofs.PrintedJobLines.{AreSmallStarts, jobs_from, job_lines_are_lines, line_is_tokens}
-use Rattle.shop_text.proofs.PrintedJobLines.{values_read}
 use Rattle.shop_text.proofs.ReportReading.{answer_is_lines}
 use Rattle.shop_engine.specs.OneReport.{OneReport}
 use Rattle.shop_engine.proofs.Reported.{same_report, chart_of}

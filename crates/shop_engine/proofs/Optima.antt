@@ -1,14 +1,10 @@
 -- An open node of an answer has a bound below the makespan.
-use Rattle.std.proofs.lemmas.Grind.{common_steps}
-use Rattle.std.proofs.Common.{◌≡◌, ℕ, ◌<◌, List, [], ◌∷◌, length, refl, ap, arith}
+use Rattle.std.proofs.{lemmas.Grind.common_steps, Common.{◌≡◌, ℕ, ◌<◌, List, [], ◌∷◌, length, refl, ap, arith}}
 use Rattle.shop_model.specs.Shop.{Shop}
 use Rattle.shop_bound.specs.Bound.{lb}
 use Rattle.shop_nodes.proofs.Members.{In, contains_in}
-use Rattle.shop_runs.specs.Round.{least_bound, opening, makespan_of}
-use Rattle.shop_runs.specs.Answers.{answer}
-use Rattle.shop_runs.proofs.Covering.{opens_covering}
-use Rattle.shop_runs.proofs.OpenLemmas.{least_bound-le}
-use Rattle.shop_runs.proofs.Trusting.{rounds_cover, none_from}
+use Rattle.shop_runs.specs.{Round.{least_bound, opening, makespan_of}, Answers.answer}
+use Rattle.shop_runs.proofs.{Covering.opens_covering, OpenLemmas.least_bound-le, Trusting.{rounds_cover, none_from}}
 use Rattle.shop_engine.specs.AnswerLaws.{OptimalWhereBoundIsMakespan}
 
 none_open : (shop : Shop) (c : ℕ) (ws : List (List ℕ)) → ((w : List ℕ) → In w ws → lb shop w < c)

@@ -1,12 +1,7 @@
 -- The instance that was picked is the one that is asked for.
-use Rattle.std.proofs.Common.{arith}
-use Rattle.std.proofs.lemmas.Grind.{common_steps}
-use Rattle.std.proofs.Common.{◌≡◌, ℕ, List, Option, Some}
-use Rattle.shop_text.specs.Texts.{NamedShop, IsText}
-use Rattle.shop_text.specs.Names.{first_named, shops_of}
-use Rattle.shop_text.specs.declared.names.Named.{Named}
-use Rattle.shop_text.specs.declared.formats.Format.{Format}
-use Rattle.shop_text.specs.Formats.{grammar_of}
+use Rattle.std.proofs.{Common.{arith, ◌≡◌, ℕ, List, Option, Some}, lemmas.Grind.common_steps}
+use Rattle.shop_text.specs.{Texts.{NamedShop, IsText}, Names.{first_named, shops_of}, declared.names.Named.Named}
+use Rattle.shop_text.specs.{declared.formats.Format.Format, Formats.grammar_of}
 use Rattle.shop_engine.specs.Asking.{IsAsked}
 
 pub is_asked : {text : List ℕ} {named slice : List Named} {asked : NamedShop} (format : Format) (name : Option (List ℕ))

@@ -1,24 +1,15 @@
 -- A source of known bytes that are refused is answered by that refusal.
-use Rattle.std.proofs.Common.{◌≡◌, ℕ, ◌<◌, inl, inr, List, length, length-append, Bool, Option}
-use Rattle.std.proofs.Common.{Some, None, Ok, Err, refl, sym, ◌∙◌, subst, rules, arith}
-use Rattle.std.proofs.lemmas.Grind.{common_steps}
+use Rattle.std.proofs.Common.{◌≡◌, ℕ, ◌<◌, inl, inr, List, length, length-append, Bool, Option, Some, None, Ok, Err}
+use Rattle.std.proofs.{Common.{refl, sym, ◌∙◌, subst, rules, arith}, lemmas.Grind.common_steps}
 use Rattle.std.specs.Io.KnownBytes.{Consumes}
 use Rattle.shop_model.specs.Shop.{Shop}
-use Rattle.shop_text.specs.Formats.{grammar_of}
-use Rattle.shop_text.specs.Texts.{NamedShop, IsTextFault}
-use Rattle.shop_text.specs.Names.{first_named}
-use Rattle.shop_text.proofs.ReaderTurns.{one_reading}
-use Rattle.shop_text.specs.declared.faults.ReadFault.{ReadFault}
-use Rattle.shop_text.specs.declared.faults.ReadFault.TheVariants.{TooLong}
+use Rattle.shop_text.specs.{Formats.grammar_of, Texts.{NamedShop, IsTextFault}, Names.first_named}
+use Rattle.shop_text.specs.{declared.faults.ReadFault.ReadFault, declared.faults.ReadFault.TheVariants.TooLong}
 use Rattle.shop_text.specs.declared.formats.Format.{Format}
-use Rattle.shop_engine.specs.declared.args.CheckArgs.{CheckArgs}
-use Rattle.shop_engine.specs.declared.args.SolveArgs.{SolveArgs}
-use Rattle.shop_engine.specs.declared.faults.Fault.{Fault}
-use Rattle.shop_engine.specs.Devices.{Device, IsReadToEnd, IsSourceRefused, Passes}
-use Rattle.shop_engine.specs.Asking.{name_in, IsAsked, IsAskFault}
-use Rattle.shop_engine.specs.Listing.{IsListOf}
-use Rattle.shop_engine.specs.Solving.{IsSolution}
-use Rattle.shop_engine.specs.Checking.{IsPicked}
+use Rattle.shop_text.proofs.ReaderTurns.{one_reading}
+use Rattle.shop_engine.specs.{declared.args.CheckArgs.CheckArgs, declared.args.SolveArgs.SolveArgs, Listing.IsListOf}
+use Rattle.shop_engine.specs.{declared.faults.Fault.Fault, Devices.{Device, IsReadToEnd, IsSourceRefused, Passes}}
+use Rattle.shop_engine.specs.{Asking.{name_in, IsAsked, IsAskFault}, Solving.IsSolution, Checking.IsPicked}
 use Rattle.shop_engine.specs.Refusing.{IsRefusal, ListingRefuses, CheckingRefuses, SolvingRefuses}
 use Rattle.shop_engine.proofs.Headline.{known_read}
 

@@ -1,12 +1,10 @@
 -- Tables of an instance give tables of its relaxations.
 use Rattle.std.proofs.Common.{◌≡◌, ℕ, zero, suc, ◌≤◌, ◌<◌, ◌+◌, inl, inr, List, [], ◌∷◌, ◌++◌, length, get_or, refl}
 use Rattle.std.proofs.Common.{sym, ap, ◌∙◌, subst, arith}
-use Rattle.shop_model.specs.declared.ops.Op.{Op}
-use Rattle.shop_model.specs.Shop.{Shop, ShopJob, Starts, no_job, no_op, release_of, machine_of}
-use Rattle.shop_model.specs.Shop.{IsOperation, IsFeasible, end_of}
+use Rattle.shop_model.specs.{declared.ops.Op.Op, Shop.end_of}
+use Rattle.shop_model.specs.Shop.{Shop, ShopJob, Starts, no_job, no_op, release_of, machine_of, IsOperation, IsFeasible}
 use Rattle.shop_model.proofs.Ends.{le-end_of, end_of-le, feasible-in_time, in_time-later}
-use Rattle.shop_engine.specs.Easier.{AsksNoMore}
-use Rattle.shop_engine.specs.Relaxations.{IsRelaxation, shop_with, job_with, RelaxationsAskNoMore}
+use Rattle.shop_engine.specs.{Easier.AsksNoMore, Relaxations.{IsRelaxation, shop_with, job_with, RelaxationsAskNoMore}}
 
 module _ (easy hard : Shop) (r : IsRelaxation easy hard) where
   -- the starts of what the operations stand for

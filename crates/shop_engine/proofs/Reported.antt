@@ -1,18 +1,10 @@
 -- What is printed of an answer that can be trusted is right, and is the report of the plan's answer.
-use Rattle.std.proofs.Common.{arith}
-use Rattle.std.proofs.lemmas.Grind.{common_steps}
-use Rattle.std.proofs.Common.{◌≡◌, ℕ, List, [], Bool}
+use Rattle.std.proofs.{Common.{arith, ◌≡◌, ℕ, List, [], Bool}, lemmas.Grind.common_steps}
 use Rattle.std.specs.Prelude.{if◌then◌else◌}
 use Rattle.shop_model.specs.Checking.{starts_of}
-use Rattle.shop_text.specs.Texts.{NamedShop}
-use Rattle.shop_text.specs.Writing.{Reported, gantt_text, text_with_gantt}
-use Rattle.shop_runs.specs.Round.{Planned}
-use Rattle.shop_runs.specs.Answers.{answer}
-use Rattle.shop_runs.specs.Runs.{Says, IsTrusted}
-use Rattle.shop_runs.specs.declared.runs.Answer.{Answer}
-use Rattle.shop_engine.specs.inner.Told.{told_by}
-use Rattle.shop_engine.specs.Answers.{answer_of}
-use Rattle.shop_engine.specs.Headline.{IsPrintable, IsRight, IsDetermined}
+use Rattle.shop_text.specs.{Texts.NamedShop, Writing.{Reported, gantt_text, text_with_gantt}}
+use Rattle.shop_runs.specs.{Round.Planned, Answers.answer, Runs.{Says, IsTrusted}, declared.runs.Answer.Answer}
+use Rattle.shop_engine.specs.{inner.Told.told_by, Answers.answer_of, Headline.{IsPrintable, IsRight, IsDetermined}}
 
 unfoldable pub chart_of : Reported → Bool → List ℕ
 chart_of r gantt = if gantt then gantt_text r.shop (starts_of r.table) else []

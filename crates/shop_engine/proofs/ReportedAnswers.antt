@@ -1,32 +1,17 @@
 -- A report that is right, and determined by a plan's answer, has the numbers of that answer.
-use Rattle.std.proofs.lemmas.Grind.{common_steps}
-use Rattle.std.proofs.Common.{◌≡◌, ℕ, zero, suc, ◌≤◌, Bool, List, [], ◌++◌, get_or, drop, map}
-use Rattle.std.proofs.Common.{refl, sym, ◌∙◌, ap, subst, arith}
-use Rattle.std.specs.Prelude.{IsTrue}
-use Rattle.std.specs.List.{list_all, join_with_byte}
-use Rattle.std.proofs.lemmas.Fmt.{decimal_injective}
-use Rattle.shop_model.specs.Shop.{Shop, machine_of, end_of}
-use Rattle.shop_model.specs.Limits.{IsWithinLimits}
-use Rattle.shop_model.specs.Word.{placed, IsFull}
-use Rattle.shop_model.proofs.Ends.{end_of-le}
-use Rattle.shop_model.proofs.Unders.{after_word}
-use Rattle.shop_model.proofs.WordLemmas.{full_is_word}
+use Rattle.std.proofs.{lemmas.Grind.common_steps, Common.{subst, arith}, lemmas.Fmt.decimal_injective}
+use Rattle.std.proofs.Common.{◌≡◌, ℕ, zero, suc, ◌≤◌, Bool, List, [], ◌++◌, get_or, drop, map, refl, sym, ◌∙◌, ap}
+use Rattle.std.specs.{Prelude.IsTrue, List.{list_all, join_with_byte}}
+use Rattle.shop_model.specs.{Shop.{Shop, machine_of, end_of}, Limits.IsWithinLimits, Word.{placed, IsFull}}
+use Rattle.shop_model.proofs.{Ends.end_of-le, Unders.after_word, WordLemmas.full_is_word}
 use Rattle.shop_model.proofs.WordLengths.{word_length, ready_word}
-use Rattle.shop_text.specs.Formats.{is_visible}
-use Rattle.shop_text.specs.Lines.{lines_of}
-use Rattle.shop_text.specs.Texts.{NamedShop}
-use Rattle.shop_text.specs.Writing.{status_word, report_lines}
+use Rattle.shop_text.specs.{Formats.is_visible, Lines.lines_of, Texts.NamedShop, Writing.{status_word, report_lines}}
 use Rattle.shop_text.proofs.VisibleNames.{asked_visible}
-use Rattle.shop_runs.specs.Round.{Planned}
-use Rattle.shop_runs.specs.Runs.{planned}
-use Rattle.shop_runs.specs.Answers.{answer}
+use Rattle.shop_runs.specs.{Round.Planned, Runs.planned, Answers.answer}
 use Rattle.shop_runs.proofs.Trusting.{trustworthy}
-use Rattle.shop_engine.specs.Answers.{answer_of}
-use Rattle.shop_engine.specs.Headline.{IsRight, IsDetermined}
+use Rattle.shop_engine.specs.{Answers.answer_of, Headline.{IsRight, IsDetermined}}
 use Rattle.shop_engine.specs.AnswerLaws.{TellsTheAnswer, ReportsTellTheAnswer}
-use Rattle.shop_engine.proofs.OneReport.{lines_are}
-use Rattle.shop_engine.proofs.Reported.{chart_of}
-use Rattle.shop_engine.proofs.SolvedSchedules.{one_asked}
+use Rattle.shop_engine.proofs.{OneReport.lines_are, Reported.chart_of, SolvedSchedules.one_asked}
 use Rattle.shop_engine.proofs.TextLimits.{asked_within}
 
 -- the table of a full word ends within the limit of starts

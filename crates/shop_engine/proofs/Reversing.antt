@@ -1,15 +1,11 @@
 -- A table of an instance, from its end to its beginning.
-use Rattle.std.proofs.Common.{rules}
-use Rattle.std.proofs.lemmas.Grind.{common_steps}
-use Rattle.std.proofs.Common.{◌≡◌, ℕ, zero, suc, ◌+◌, ◌-◌, ◌≤◌, ◌<◌, List, [], ◌∷◌, length, get_or, map, refl}
-use Rattle.std.proofs.Common.{ap, ◌∙◌, subst, arith, reverse}
+use Rattle.std.proofs.Common.{rules, ◌≡◌, ℕ, zero, suc, ◌+◌, ◌-◌, ◌≤◌, ◌<◌, List, [], ◌∷◌, length, get_or, map, refl}
+use Rattle.std.proofs.{Common.{ap, ◌∙◌, subst, arith, reverse}, lemmas.Grind.common_steps}
 use Rattle.std.proofs.lemmas.List.{get_or-reverse, length-reverse, reverse-reverse}
-use Rattle.shop_model.specs.declared.ops.Op.{Op}
-use Rattle.shop_model.specs.Shop.{Shop, ShopJob, Starts, no_job, release_of, route_of, op_of, machine_of}
-use Rattle.shop_model.specs.Shop.{time_of, IsOperation, IsFeasible, finish_of}
+use Rattle.shop_model.specs.{declared.ops.Op.Op, Shop.{IsOperation, IsFeasible, finish_of}}
+use Rattle.shop_model.specs.Shop.{Shop, ShopJob, Starts, no_job, release_of, route_of, op_of, machine_of, time_of}
 use Rattle.shop_model.proofs.Ends.{AreDifferent, le-end_of, end_of-le}
-use Rattle.shop_engine.specs.Easier.{EndsBy}
-use Rattle.shop_engine.specs.Reversing.{reversed_job, reversed, ReversingAsksTheSame}
+use Rattle.shop_engine.specs.{Easier.EndsBy, Reversing.{reversed_job, reversed, ReversingAsksTheSame}}
 
 route_at : (js : List ShopJob) (j : ℕ)
     → (get_or (map reversed_job js) j no_job).route ≡ reverse (get_or js j no_job).route

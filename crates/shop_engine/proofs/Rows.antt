@@ -1,33 +1,19 @@
 -- Worked rows of the laws, computed from the definitions.
 use Rattle.std.proofs.Common.{◌≡◌, ℕ, zero, suc, ◌+◌, ◌≤◌, List, [], ◌∷◌, refl, arith, lit<}
 use Rattle.std.specs.Prelude.{true, false, None, codes}
-use Rattle.shop_model.specs.Checking.{HasShape, starts_of}
-use Rattle.shop_model.specs.declared.checking.Verdict.TheVariants.{Feasible}
+use Rattle.shop_model.specs.{Checking.{HasShape, starts_of}, declared.checking.Verdict.TheVariants.Feasible}
 use Rattle.shop_model.specs.Shop.{Shop, release_of, IsFeasible, IsLeast}
-use Rattle.shop_model.proofs.Deciding.{shape_by_test, feasible_by_test}
-use Rattle.shop_model.proofs.Rows.{op, job, shop_a}
-use Rattle.shop_text.specs.Schedules.{IsTable}
-use Rattle.shop_text.specs.Writing.{Reported, verdict_text, text_with_gantt}
+use Rattle.shop_model.proofs.{Deciding.{shape_by_test, feasible_by_test}, Rows.{op, job, shop_a}}
+use Rattle.shop_text.specs.{Schedules.IsTable, Writing.{Reported, verdict_text, text_with_gantt}}
 use Rattle.shop_text.specs.declared.formats.Format.TheVariants.{Orlib}
 use Rattle.shop_text.proofs.TableRows.{table_within}
-use Rattle.shop_runs.proofs.Trusting.{trustworthy}
-use Rattle.shop_runs.proofs.Rows.{plan}
-use Rattle.shop_runs.proofs.CoverRows.{least_7}
-use Rattle.shop_engine.specs.Answers.{answer_of}
-use Rattle.shop_engine.specs.Easier.{AskTheSame}
-use Rattle.shop_engine.specs.Reversing.{reversed}
-use Rattle.shop_engine.specs.Scaling.{scaled}
-use Rattle.shop_engine.specs.Checking.{IsCheckOf}
-use Rattle.shop_engine.specs.Headline.{IsRightOf}
-use Rattle.shop_engine.specs.WholeRun.{crossing_text}
-use Rattle.shop_engine.proofs.Comparing.{easier_instances_end_no_later}
-use Rattle.shop_engine.proofs.Relaxing.{relaxations_ask_no_more}
-use Rattle.shop_engine.proofs.Renaming.{renaming_asks_the_same}
-use Rattle.shop_engine.proofs.Reversing.{reversing_asks_the_same}
-use Rattle.shop_engine.proofs.Scaling.{scaling_keeps_the_least}
-use Rattle.shop_engine.proofs.MetBounds.{met_bounds_are_least}
-use Rattle.shop_engine.proofs.Optima.{optimal_where_bound_is_makespan}
-use Rattle.shop_engine.proofs.WholeRun.{crossing, asked}
+use Rattle.shop_runs.proofs.{Trusting.trustworthy, Rows.plan, CoverRows.least_7}
+use Rattle.shop_engine.specs.{Answers.answer_of, Easier.AskTheSame, Reversing.reversed, Scaling.scaled}
+use Rattle.shop_engine.specs.{Checking.IsCheckOf, Headline.IsRightOf, WholeRun.crossing_text}
+use Rattle.shop_engine.proofs.{Comparing.easier_instances_end_no_later, Relaxing.relaxations_ask_no_more}
+use Rattle.shop_engine.proofs.{Renaming.renaming_asks_the_same, Reversing.reversing_asks_the_same}
+use Rattle.shop_engine.proofs.{Scaling.scaling_keeps_the_least, MetBounds.met_bounds_are_least}
+use Rattle.shop_engine.proofs.{Optima.optimal_where_bound_is_makespan, WholeRun.{crossing, asked}}
 
 -- makespan, bound, open nodes
 abbrev summary : Reported → List ℕ

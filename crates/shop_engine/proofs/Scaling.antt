@@ -1,16 +1,11 @@
 -- Tables of an instance and of the scaled one.
-use Rattle.std.proofs.Common.{◌≡◌, ℕ, zero, suc, ◌+◌, ◌*◌, ◌/◌, ◌≤◌, ◌<◌, inl, inr, List, [], ◌∷◌, length}
-use Rattle.std.proofs.Common.{get_or, map, refl, sym, ap, ◌∙◌, arith}
-use Rattle.std.proofs.lemmas.Bool.{cases_lt}
-use Rattle.std.proofs.lemmas.Nat.{le-div}
-use Rattle.std.proofs.lemmas.List.{length-map}
-use Rattle.std.proofs.Math.Nat.{mul-le-mul_left, mul-lt-mul_of_pos_left}
-use Rattle.shop_model.specs.declared.ops.Op.{Op}
+use Rattle.std.proofs.Common.{◌≡◌, ℕ, zero, suc, ◌+◌, ◌*◌, ◌/◌, ◌≤◌, ◌<◌, inl, inr, List, [], ◌∷◌, length, get_or, map}
+use Rattle.std.proofs.{Common.{refl, sym, ap, ◌∙◌, arith}, lemmas.Bool.cases_lt, lemmas.Nat.le-div}
+use Rattle.std.proofs.{lemmas.List.length-map, Math.Nat.{mul-le-mul_left, mul-lt-mul_of_pos_left}}
+use Rattle.shop_model.specs.{declared.ops.Op.Op, Shop.{IsOperation, IsFeasible, end_of, IsLeast}}
 use Rattle.shop_model.specs.Shop.{Shop, ShopJob, Starts, no_job, no_op, release_of, route_of, machine_of, time_of}
-use Rattle.shop_model.specs.Shop.{IsOperation, IsFeasible, end_of, IsLeast}
 use Rattle.shop_model.proofs.Ends.{le-end_of, end_of-le}
-use Rattle.shop_engine.specs.Headline.{IsBound}
-use Rattle.shop_engine.specs.Scaling.{scaled_op, scaled_job, scaled, ScalingKeepsTheLeast}
+use Rattle.shop_engine.specs.{Headline.IsBound, Scaling.{scaled_op, scaled_job, scaled, ScalingKeepsTheLeast}}
 
 module _ (k : ℕ) where
   route_at : (js : List ShopJob) (j : ℕ)

@@ -1,27 +1,17 @@
 -- The instances of a good text are within the limits.
-use Rattle.std.proofs.lemmas.Grind.{common_steps}
-use Rattle.std.proofs.Common.{◌≡◌, ℕ, zero, suc, ◌+◌, ◌*◌, ◌≤◌, ◌<◌, List, [], ◌∷◌, length}
-use Rattle.std.proofs.Common.{get_or, map, Option, refl, sym, subst, arith}
+use Rattle.std.proofs.{lemmas.Grind.common_steps, Common.{sym, subst, arith}, lemmas.List.{length-map, map-append}}
+use Rattle.std.proofs.Common.{◌≡◌, ℕ, zero, suc, ◌+◌, ◌*◌, ◌≤◌, ◌<◌, List, [], ◌∷◌, length, get_or, map, Option, refl}
+use Rattle.std.proofs.{lemmas.Slice.Zip.length-zip, Math.Seq.{take-append_seam, drop-append_seam}}
 use Rattle.std.specs.List.{AllByRecursion, zip}
-use Rattle.std.proofs.lemmas.List.{length-map, map-append}
-use Rattle.std.proofs.lemmas.Slice.Zip.{length-zip}
-use Rattle.std.proofs.Math.Seq.{take-append_seam, drop-append_seam}
-use Rattle.shop_model.specs.declared.ops.Op.{Op}
-use Rattle.shop_model.specs.Shop.{ShopJob, no_job}
-use Rattle.shop_model.specs.Limits.{IsWithinLimits}
-use Rattle.shop_text.specs.Grammar.{Row, Entry, Part, entry_rows, IsPart}
-use Rattle.shop_text.specs.Formats.{pairs_of, orlib_job, routes_job, shop_by_rows, taillard_op}
-use Rattle.shop_text.specs.Formats.{taillard_job, taillard_shop, grammar_of}
+use Rattle.shop_model.specs.{declared.ops.Op.Op, Shop.{ShopJob, no_job}, Limits.IsWithinLimits}
+use Rattle.shop_text.specs.{Grammar.{Row, Entry, Part, entry_rows, IsPart}, Formats.{taillard_shop, grammar_of}}
+use Rattle.shop_text.specs.Formats.{pairs_of, orlib_job, routes_job, shop_by_rows, taillard_op, taillard_job}
 use Rattle.shop_text.specs.Shapes.{IsSize, ArePairs, IsOrlibRow, IsRoutesRow, IsRowLine, IsPartOfRows, IsRowOf, IsTime}
-use Rattle.shop_text.specs.Shapes.{IsMachineNumber, IsMatrix, IsTaillardPart}
-use Rattle.shop_text.specs.Texts.{NamedShop, named_from}
+use Rattle.shop_text.specs.{Shapes.{IsMachineNumber, IsMatrix, IsTaillardPart}, Texts.{NamedShop, named_from}}
 use Rattle.shop_text.specs.declared.formats.Format.{Format}
 use Rattle.shop_text.specs.declared.formats.Format.TheVariants.{Orlib, Taillard, Routes}
-use Rattle.shop_text.proofs.ShapeLaw.{orlib_shape, routes_shape}
-use Rattle.shop_text.proofs.MatrixShape.{taillard_shape}
-use Rattle.shop_text.proofs.VisibleNames.{picked_has}
-use Rattle.shop_engine.specs.Asking.{IsAsked}
-use Rattle.shop_engine.specs.Limits.{TextsKeepTheLimits}
+use Rattle.shop_text.proofs.{ShapeLaw.{orlib_shape, routes_shape}, MatrixShape.taillard_shape, VisibleNames.picked_has}
+use Rattle.shop_engine.specs.{Asking.IsAsked, Limits.TextsKeepTheLimits}
 
 -- ---- an instance whose jobs are within the limits
 

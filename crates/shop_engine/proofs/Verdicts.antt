@@ -1,19 +1,13 @@
 -- What the steps of `check_text` and `check_bytes` say of their answers.
-use Rattle.std.proofs.Common.{arith}
+use Rattle.std.proofs.Common.{arith, ◌≡◌, ℕ, ◌≤◌, length, inl, inr, List, Option, Some, None, Err, Bool}
 use Rattle.std.proofs.lemmas.Grind.{common_steps}
-use Rattle.std.proofs.Common.{◌≡◌, ℕ, ◌≤◌, length, inl, inr, List, Option, Some, None, Err, Bool}
-use Rattle.shop_text.specs.Schedules.{IsTableFault}
-use Rattle.shop_text.specs.Texts.{NamedShop, OrNoMemory}
-use Rattle.shop_text.specs.declared.faults.ReadFault.{ReadFault}
-use Rattle.shop_model.specs.Shop.{Shop}
+use Rattle.shop_text.specs.{Schedules.IsTableFault, Texts.{NamedShop, OrNoMemory}, declared.faults.ReadFault.ReadFault}
 use Rattle.shop_text.specs.declared.formats.Format.{Format}
-use Rattle.shop_engine.specs.declared.args.CheckArgs.{CheckArgs}
-use Rattle.shop_engine.specs.declared.faults.Fault.{Fault}
-use Rattle.shop_engine.specs.Faults.{fault_of}
-use Rattle.shop_engine.specs.Devices.{Device, IsReadToEnd}
-use Rattle.shop_engine.specs.Asking.{name_in, IsAsked}
-use Rattle.shop_engine.specs.Checking.{Second, IsScheduleRead, IsSecondUnread, IsScheduleRefused, IsVerdictOn}
-use Rattle.shop_engine.specs.Checking.{Checks, IsChecking, schedule_in, IsCheckOf, IsCheckFault}
+use Rattle.shop_model.specs.Shop.{Shop}
+use Rattle.shop_engine.specs.{declared.args.CheckArgs.CheckArgs, declared.faults.Fault.Fault, Faults.fault_of}
+use Rattle.shop_engine.specs.{Devices.{Device, IsReadToEnd}, Asking.{name_in, IsAsked}}
+use Rattle.shop_engine.specs.Checking.{Second, IsScheduleRead, IsSecondUnread, IsScheduleRefused, IsVerdictOn, Checks}
+use Rattle.shop_engine.specs.Checking.{IsChecking, schedule_in, IsCheckOf, IsCheckFault}
 use Rattle.shop_engine.proofs.Sources.{unread, bad_text}
 
 -- ---- the schedule is refused

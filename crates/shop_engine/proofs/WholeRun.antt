@@ -1,20 +1,11 @@
 -- One whole run, computed from the definitions.
 use Rattle.std.proofs.Common.{◌≡◌, ℕ, Bool, true, List, [], ◌∷◌, Option, None, refl, sym, ◌∙◌, ap, subst}
-use Rattle.std.specs.Prelude.{codes}
-use Rattle.std.specs.Fmt.{digits}
-use Rattle.std.specs.declared.string.String.{String}
-use Rattle.std.specs.declared.alloc.Global.{Global}
-use Rattle.shop_text.specs.Formats.{grammar_of}
-use Rattle.shop_text.specs.Texts.{NamedShop, IsText}
-use Rattle.shop_text.specs.declared.formats.Format.{Format}
-use Rattle.shop_text.specs.declared.formats.Format.TheVariants.{Orlib}
+use Rattle.std.specs.{Prelude.codes, Fmt.digits, declared.string.String.String, declared.alloc.Global.Global}
+use Rattle.shop_text.specs.{Formats.grammar_of, Texts.{NamedShop, IsText}, declared.formats.Format.Format}
+use Rattle.shop_text.specs.{declared.formats.Format.TheVariants.Orlib, Writing.text_with_gantt}
 use Rattle.shop_text.proofs.Computing.{is_read_as}
-use Rattle.shop_runs.specs.Round.{Planned}
-use Rattle.shop_runs.specs.Runs.{planned}
-use Rattle.shop_text.specs.Writing.{text_with_gantt}
-use Rattle.shop_engine.specs.Answers.{answer_of}
-use Rattle.shop_engine.specs.Asking.{name_in, IsAsked, OfAsked}
-use Rattle.shop_engine.specs.Headline.{IsDetermined}
+use Rattle.shop_runs.specs.{Round.Planned, Runs.planned}
+use Rattle.shop_engine.specs.{Answers.answer_of, Asking.{name_in, IsAsked, OfAsked}, Headline.IsDetermined}
 use Rattle.shop_engine.specs.WholeRun.{crossing_text, crossing_report, usual_plan, OneWholeRun}
 use Rattle.shop_engine.proofs.SolvedSchedules.{one_asked}
 

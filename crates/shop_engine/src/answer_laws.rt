@@ -1,7 +1,6 @@
 // Laws of answers: when a makespan is least, how high each bound is at least, and what more rounds do to it.
-ghost use Rattle.shop_engine.specs.Floors.{BoundsReachTheFloor};
-ghost use Rattle.shop_engine.specs.AnswerLaws.{MoreRoundsLowerNoBound, MetBoundsAreLeast};
-ghost use Rattle.shop_engine.specs.AnswerLaws.{OptimalWhereBoundIsMakespan, ReportsTellTheAnswer};
+ghost use Rattle.shop_engine.specs.{Floors.BoundsReachTheFloor, AnswerLaws.ReportsTellTheAnswer};
+ghost use Rattle.shop_engine.specs.AnswerLaws.{MoreRoundsLowerNoBound, MetBoundsAreLeast, OptimalWhereBoundIsMakespan};
 
 /// A report that `solve_bytes` writes has the makespan, the bound and the status of the plan's answer, and its instance
 /// is within the limits. So the laws of answers hold for the report.

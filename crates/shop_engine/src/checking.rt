@@ -1,12 +1,8 @@
 // The verdict on a schedule.
-ghost use Rattle.std.specs.Prelude.{◌≡◌, ◌≤◌, length, IfOk, IfErr};
-ghost use Rattle.std.specs.Option.{option_map, option_copied};
-ghost use Rattle.shop_text.specs.declared.limits.TheConstants.{MAX_TEXT};
-ghost use Rattle.shop_text.specs.Schedules.{IsTableFault};
-ghost use Rattle.shop_text.specs.Texts.{OrNoMemory};
-ghost use Rattle.shop_engine.specs.Asking.{name_in};
-ghost use Rattle.shop_engine.specs.Checking.{schedule_in, IsVerdictOn, IsCheckOf, IsCheckFault};
-ghost use Rattle.shop_engine.specs.Checking.{IsScheduleRead, IsSecondUnread, IsChecking};
+ghost use Rattle.std.specs.{Prelude.{◌≡◌, ◌≤◌, length, IfOk, IfErr}, Option.{option_map, option_copied}};
+ghost use Rattle.shop_text.specs.{declared.limits.TheConstants.MAX_TEXT, Schedules.IsTableFault, Texts.OrNoMemory};
+ghost use Rattle.shop_engine.specs.{Asking.name_in, Checking.{IsSecondUnread, IsChecking}};
+ghost use Rattle.shop_engine.specs.Checking.{schedule_in, IsVerdictOn, IsCheckOf, IsCheckFault, IsScheduleRead};
 
 use crate::args::CheckArgs;
 use crate::asking::ask;

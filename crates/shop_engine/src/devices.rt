@@ -1,6 +1,5 @@
 // What the program reads from and writes to.
-ghost use Rattle.std.specs.Prelude.{◌<◌, ◌≤◌, length, IfOk, IfErr};
-ghost use Rattle.std.specs.Io.KnownBytes.{ReadConsumes, WriteAppends};
+ghost use Rattle.std.specs.{Prelude.{◌<◌, ◌≤◌, length, IfOk, IfErr}, Io.KnownBytes.{ReadConsumes, WriteAppends}};
 ghost use Rattle.shop_engine.specs.Devices.{Device, Counts, TellsEnd, GoesOn};
 
 /// The failure of a source or a sink.

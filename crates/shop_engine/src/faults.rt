@@ -1,7 +1,6 @@
 // Why an engine refuses.
 ghost use Rattle.std.specs.Prelude.{◌≡◌};
-ghost use Rattle.shop_engine.specs.Faults.{fault_of};
-ghost use Rattle.shop_engine.specs.declared.faults.Fault.TheVariants.{NoMemory};
+ghost use Rattle.shop_engine.specs.{Faults.fault_of, declared.faults.Fault.TheVariants.NoMemory};
 
 use shop_text::ReadFault;
 use std::alloc::{AllocError, AllocFailed};

@@ -1,10 +1,7 @@
 // Laws of instances: limits kept by texts, the least makespan, and how it changes with the instance.
-ghost use Rattle.shop_engine.specs.Easier.{EasierInstancesEndNoLater, EachHasOneLeast};
-ghost use Rattle.shop_engine.specs.Relaxations.{RelaxationsAskNoMore};
-ghost use Rattle.shop_engine.specs.Renaming.{RenamingAsksTheSame};
-ghost use Rattle.shop_engine.specs.Reversing.{ReversingAsksTheSame};
-ghost use Rattle.shop_engine.specs.Scaling.{ScalingKeepsTheLeast};
-ghost use Rattle.shop_engine.specs.Limits.{TextsKeepTheLimits};
+ghost use Rattle.shop_engine.specs.{Easier.{EasierInstancesEndNoLater, EachHasOneLeast}, Renaming.RenamingAsksTheSame};
+ghost use Rattle.shop_engine.specs.{Relaxations.RelaxationsAskNoMore, Reversing.ReversingAsksTheSame};
+ghost use Rattle.shop_engine.specs.{Scaling.ScalingKeepsTheLeast, Limits.TextsKeepTheLimits};
 
 /// Every instance of an accepted text is within the limits.
 pub fn texts_keep_the_limits()

@@ -1,8 +1,6 @@
 // Laws of the engines, stated on what their contracts say.
-ghost use Rattle.shop_engine.specs.Limits.{AreLimits};
-ghost use Rattle.shop_engine.specs.OneReport.{OneReport};
+ghost use Rattle.shop_engine.specs.{Limits.AreLimits, OneReport.OneReport, WholeRun.OneWholeRun};
 ghost use Rattle.shop_engine.specs.Refusing.{ListingRefuses, CheckingRefuses, SolvingRefuses};
-ghost use Rattle.shop_engine.specs.WholeRun.{OneWholeRun};
 
 /// Where the bytes of a source are known and their text is refused, the engines answer that refusal: the one fault of
 /// the text, or that it has no instance of the name; or else that memory ran out or a read failed.

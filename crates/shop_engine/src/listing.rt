@@ -1,7 +1,6 @@
 // The list of the instances of a text.
 ghost use Rattle.std.specs.Prelude.{IfOk, IfErr};
-ghost use Rattle.shop_text.specs.Texts.{IsTextFault, OrNoMemory};
-ghost use Rattle.shop_text.specs.Formats.{grammar_of};
+ghost use Rattle.shop_text.specs.{Texts.{IsTextFault, OrNoMemory}, Formats.grammar_of};
 ghost use Rattle.shop_engine.specs.Listing.{IsListOf, IsListing};
 
 use crate::args::ListArgs;

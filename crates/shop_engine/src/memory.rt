@@ -37,8 +37,7 @@ impl Memory {
 }
 
 impl Sink for Memory {
-    ghost use Rattle.std.specs.Prelude.{◌<◌, IfErr, length, min};
-    ghost use Rattle.std.specs.Io.KnownBytes.{WriteAppends};
+    ghost use Rattle.std.specs.{Prelude.{◌<◌, IfErr, length, min}, Io.KnownBytes.WriteAppends};
     ghost use Rattle.shop_engine.specs.Devices.{Counts, device_of};
 
     ghost device = { device_of };

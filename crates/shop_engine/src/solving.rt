@@ -1,16 +1,11 @@
 // The report of the best schedule that a plan finds.
 ghost use Rattle.std.specs.Prelude.{◌≡◌, ◌<◌, ◌^◌, IfOk, IfErr};
-ghost use Rattle.shop_model.specs.Shop.{IsFeasible};
-ghost use Rattle.shop_model.specs.Checking.{HasShape, starts_of};
-ghost use Rattle.shop_text.specs.Texts.{OrNoMemory};
-ghost use Rattle.shop_text.specs.Writing.{text_with_gantt};
-ghost use Rattle.shop_text.specs.Names.{shop_of_named};
+ghost use Rattle.shop_model.specs.{Shop.IsFeasible, Checking.{HasShape, starts_of}};
+ghost use Rattle.shop_text.specs.{Texts.OrNoMemory, Writing.text_with_gantt, Names.shop_of_named};
 ghost use Rattle.shop_runs.specs.Runs.{planned, SaysAnswer};
-ghost use Rattle.shop_engine.specs.Asking.{name_in, IsAskFault};
+ghost use Rattle.shop_engine.specs.{Asking.{name_in, IsAskFault}, Solving.{IsSolution, IsSolving}};
 ghost use Rattle.shop_engine.specs.Headline.{IsRight, IsDetermined, IsRightOf, IsDeterminedOf, WhereKnown};
-ghost use Rattle.shop_engine.specs.Solving.{IsSolution, IsSolving};
-ghost use Rattle.shop_engine.specs.SolvedSchedules.{GivesSchedule, PassesCheck};
-ghost use Rattle.shop_engine.specs.inner.Told.{told_by, HasWords};
+ghost use Rattle.shop_engine.specs.{SolvedSchedules.{GivesSchedule, PassesCheck}, inner.Told.{told_by, HasWords}};
 
 use crate::args::SolveArgs;
 use crate::asking::ask;

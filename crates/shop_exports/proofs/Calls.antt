@@ -1,17 +1,11 @@
 -- What the steps of a call say of its outcome.
 use Rattle.std.proofs.Common.{◌≡◌, inl, inr, ℕ, Bool, false, List, Option, refl}
-use Rattle.shop_text.specs.Formats.{grammar_of}
-use Rattle.shop_text.specs.Texts.{IsTextFault, OrNoMemory}
-use Rattle.shop_text.specs.declared.formats.Format.{Format}
+use Rattle.shop_text.specs.{Formats.grammar_of, Texts.{IsTextFault, OrNoMemory}, declared.formats.Format.Format}
 use Rattle.shop_text.specs.declared.faults.ReadFault.{ReadFault}
-use Rattle.shop_engine.specs.Asking.{name_in, IsAskFault}
-use Rattle.shop_engine.specs.Checking.{schedule_in, IsCheckOf, IsCheckFault}
-use Rattle.shop_engine.specs.Headline.{IsRightOf, IsDeterminedOf}
-use Rattle.shop_engine.specs.SolvedSchedules.{PassesCheck}
-use Rattle.shop_engine.specs.declared.args.CheckArgs.{CheckArgs}
-use Rattle.shop_engine.specs.declared.args.SolveArgs.{SolveArgs}
-use Rattle.shop_exports.specs.Outcomes.{is_refused, IsGiven}
-use Rattle.shop_exports.specs.Requests.{format_code}
+use Rattle.shop_engine.specs.{Asking.{name_in, IsAskFault}, Checking.{schedule_in, IsCheckOf, IsCheckFault}}
+use Rattle.shop_engine.specs.{Headline.{IsRightOf, IsDeterminedOf}, SolvedSchedules.PassesCheck}
+use Rattle.shop_engine.specs.{declared.args.CheckArgs.CheckArgs, declared.args.SolveArgs.SolveArgs}
+use Rattle.shop_exports.specs.{Outcomes.{is_refused, IsGiven}, Requests.format_code}
 use Rattle.shop_exports.specs.Exports.{Serves, ListsFor, ChecksWith, IsReport, SolvesWith}
 use Rattle.shop_exports.specs.declared.outcomes.CallResult.{CallResult}
 

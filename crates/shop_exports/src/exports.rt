@@ -2,14 +2,11 @@
 // into the caller's room. Formats are 0 for `orlib`, 1 for `taillard` and 2 for `routes`; without a name a call takes
 // the first instance. A call that doesn't end with `DONE` leaves the room as it was. Failures are told by the status of
 // the result.
-ghost use Rattle.std.specs.Option.{option_copied};
-ghost use Rattle.shop_exports.specs.Exports.{ListsFor, ChecksWith, ChecksFor, SolvesWith};
-ghost use Rattle.shop_exports.specs.Exports.{SolvesFor};
-ghost use Rattle.shop_exports.specs.Requests.{bytes_given};
+ghost use Rattle.shop_exports.specs.{Exports.{ListsFor, ChecksFor, SolvesFor}, Requests.bytes_given};
 
 use crate::outcomes::{CallResult, faulty, give, refused};
 use crate::requests::{Options, check_args, format_of, given, solve_args};
-use shop_engine::{CheckArgs, ListArgs, SolveArgs, check_bytes, list_bytes, solve_bytes};
+use shop_engine::{ListArgs, check_bytes, list_bytes, solve_bytes};
 use shop_round::Alone;
 use std::alloc::Global;
 
@@ -32,23 +29,6 @@ pub extern "C" fn shop_exports_list(
     }
 }
 
-/// Writes the line of the verdict on a schedule into `room`; without `schedule` the schedule stands in `text`.
-fn give_verdict(
-    alloc: Global,
-    args: &CheckArgs,
-    text: &[u8],
-    schedule: Option<&[u8]>,
-    room: &mut [u8],
-) -> CallResult
-    ensures { ChecksWith args.now text.now room.old room.new (option_copied schedule.entry)
-        result }
-{
-    match check_bytes(alloc, text, schedule, args) {
-        Ok((feasible, line)) => give(room, line.as_slice(), feasible),
-        Err(fault) => refused(fault),
-    }
-}
-
 /// Judges a schedule, as `check` does; unless `is_apart`, the schedule stands in `text`.
 #[unsafe(no_mangle)]
 pub extern "C" fn shop_exports_check(
@@ -64,18 +44,12 @@ pub extern "C" fn shop_exports_check(
     ensures { ChecksFor format is_named name.now text.now (bytes_given is_apart schedule.now)
         room.old room.new result }
 {
-    match check_args(alloc, format, is_named, name) {
-        Ok(args) => give_verdict(alloc, &args, text, given(is_apart, schedule), room),
-        Err(outcome) => outcome,
-    }
-}
-
-/// Writes the report of the best schedule that a plan finds into `room`.
-fn give_report(alloc: Global, args: &SolveArgs, text: &[u8], room: &mut [u8]) -> CallResult
-    ensures { SolvesWith args.now text.now room.old room.new result }
-{
-    match solve_bytes(&(), alloc, text, args, &mut Alone) {
-        Ok(report) => give(room, report.as_slice(), false),
+    let args = match check_args(alloc, format, is_named, name) {
+        Ok(args) => args,
+        Err(outcome) => return outcome,
+    };
+    match check_bytes(alloc, text, given(is_apart, schedule), &args) {
+        Ok((feasible, line)) => give(room, line.as_slice(), feasible),
         Err(fault) => refused(fault),
     }
 }
@@ -93,8 +67,12 @@ pub extern "C" fn shop_exports_solve(
 ) -> CallResult
     ensures { SolvesFor format is_named name.now options.now text.now room.old room.new result }
 {
-    match solve_args(alloc, format, is_named, name, options) {
-        Ok(args) => give_report(alloc, &args, text, room),
-        Err(outcome) => outcome,
+    let args = match solve_args(alloc, format, is_named, name, options) {
+        Ok(args) => args,
+        Err(outcome) => return outcome,
+    };
+    match solve_bytes(&(), alloc, text, &args, &mut Alone) {
+        Ok(report) => give(room, report.as_slice(), false),
+        Err(fault) => refused(fault),
     }
 }

@@ -1,10 +1,8 @@
 // Turns the numbers and bytes of a caller into arguments of the engine.
-ghost use Rattle.std.specs.Prelude.{◌≡◌, IfOk, IfErr, MatchOption};
-ghost use Rattle.std.specs.Option.{option_copied};
+ghost use Rattle.std.specs.{Prelude.{◌≡◌, IfOk, IfErr, MatchOption}, Option.option_copied};
 ghost use Rattle.shop_engine.specs.Asking.{name_in};
-ghost use Rattle.shop_exports.specs.Requests.{format_code, order_code, IsNoFormat, IsNoOrder};
-ghost use Rattle.shop_exports.specs.Requests.{IsNoName, bytes_given, IsUnasked, AsksCheck};
-ghost use Rattle.shop_exports.specs.Requests.{IsFaultyCheck, AsksSolve, IsFaultySolve, IsPlanOf};
+ghost use Rattle.shop_exports.specs.Requests.{format_code, order_code, IsNoFormat, IsNoOrder, IsNoName, bytes_given};
+ghost use Rattle.shop_exports.specs.Requests.{IsUnasked, AsksCheck, IsFaultyCheck, AsksSolve, IsFaultySolve, IsPlanOf};
 ghost use Rattle.shop_exports.specs.Requests.{IsFaultyPlan};
 
 use crate::outcomes::{CallResult, faulty, refused};
@@ -82,9 +80,7 @@ pub(crate) fn check_args(
     ensures asked { IfOk result (AsksCheck format is_named name.now) }
     ensures unasked { IfErr result (IsUnasked (IsFaultyCheck format is_named name.now)) }
 {
-    let Some(format) = format_of(format) else {
-        return Err(faulty());
-    };
+    let format = format_of(format).ok_or(faulty())?;
     let name = name_of(alloc, is_named, name)?;
     Ok(CheckArgs { format, name })
 }
@@ -101,9 +97,7 @@ pub(crate) fn solve_args(
     ensures unasked { IfErr result
         (IsUnasked (IsFaultySolve format is_named name.now options.now)) }
 {
-    let Some(plan) = plan_of(options) else {
-        return Err(faulty());
-    };
+    let plan = plan_of(options).ok_or(faulty())?;
     let args = check_args(alloc, format, is_named, name)?;
     Ok(SolveArgs {
         format: args.format,

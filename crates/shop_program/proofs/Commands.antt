@@ -1,9 +1,6 @@
 -- A command that is set to need a subcommand reads as the simple command that needs one.
-use Rattle.std.proofs.Common.{arith}
-use Rattle.std.proofs.lemmas.Grind.{common_steps}
-use Rattle.std.proofs.Common.{◌≡◌, true}
-use Rattle.clap.specs.Words.{App}
-use Rattle.clap.specs.declared.builder.command.Command.{Command}
+use Rattle.std.proofs.{Common.{arith, ◌≡◌, true}, lemmas.Grind.common_steps}
+use Rattle.clap.specs.{Words.App, declared.builder.command.Command.Command}
 use Rattle.clap.specs.declared.builder.command.Command.TheViews.{out-Command}
 use Rattle.shop_program.specs.CommandLine.{IsCommandOf, needing_subcommand}
 

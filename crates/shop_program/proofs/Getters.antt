@@ -1,15 +1,11 @@
 -- What the getters of clap's matches read, by the rows of the matches.
-use Rattle.std.proofs.lemmas.Grind.{common_steps}
-use Rattle.std.specs.Str.Parse.{IsNumeral, digits_value, without_leading_plus}
-use Rattle.std.proofs.Common.{arith, ◌<◌, ◌^◌, ◌≡◌, ◌∙◌, ℕ, sym, ap, Option, Some, None, Bool, true, false}
-use Rattle.std.proofs.Common.{codes, Result, Ok, Err}
-use Rattle.std.specs.Result.{IsErrAnd}
-use Rattle.clap.specs.Words.{Text, first_value, one_text, rows_of}
-use Rattle.clap.specs.declared.parser.matches.Found.{Found}
+use Rattle.std.proofs.{lemmas.Grind.common_steps, Common.{Result, Ok, Err}}
+use Rattle.std.proofs.Common.{arith, ◌<◌, ◌^◌, ◌≡◌, ◌∙◌, ℕ, sym, ap, Option, Some, None, Bool, true, false, codes}
+use Rattle.std.specs.{Str.Parse.{IsNumeral, digits_value, without_leading_plus}, Result.IsErrAnd}
+use Rattle.clap.specs.{Words.{Text, first_value, one_text, rows_of}, declared.parser.matches.Found.Found}
 use Rattle.clap.proofs.WalkLemmas.{first_value-rows, one_text-rows}
 use Rattle.shop_program.specs.CommandLine.{HasText, HasNumber, HasFlag, MayHave, NumberIs, UnlessNoMemory}
-use Rattle.shop_program.specs.inner.Arguments.{Reads}
-use Rattle.shop_program.specs.declared.line_faults.LineFault.{LineFault}
+use Rattle.shop_program.specs.{inner.Arguments.Reads, declared.line_faults.LineFault.LineFault}
 use Rattle.shop_program.specs.declared.line_faults.LineFault.TheVariants.{NoMemory, Usage}
 
 pub has_text : (f : Found) (id read text : Text) → Some read ≡ first_value f id → read ≡ text → HasText

@@ -1,25 +1,17 @@
 -- A line is what its subcommand's matches say.
-use Rattle.std.proofs.Common.{arith}
-use Rattle.std.proofs.lemmas.Grind.{common_steps}
-use Rattle.std.proofs.Common.{◌≡◌, ◌∙◌, sym, ap, subst, refl, Option, Some, None, List, Bool, true, false, inl, inr}
+use Rattle.std.proofs.Common.{arith, ◌≡◌, ◌∙◌, sym, ap, subst, refl, Option, Some, None, List, Bool, true, false, inl}
+use Rattle.std.proofs.{Common.inr, lemmas.Grind.common_steps}
 use Rattle.std.specs.Prelude.{option_map, Result, Ok, Err, IfOk, IfErr}
-use Rattle.clap.specs.Words.{HasMatchesOf, Row, Text, app_of, is_simple, subcommand_name_of}
-use Rattle.clap.specs.Words.{subcommand_of, subcommand_rows_of, takes}
-use Rattle.clap.specs.Values.{kind_of}
-use Rattle.clap.specs.declared.error.Error.{Error}
-use Rattle.clap.specs.declared.error.kind.ErrorKind.{ErrorKind}
-use Rattle.clap.specs.declared.error.kind.ErrorKind.TheVariants.{OutOfMemory}
-use Rattle.clap.specs.declared.builder.command.Command.{Command}
-use Rattle.clap.specs.declared.builder.value_parser.ValueParser.{ValueParser}
+use Rattle.clap.specs.Words.{HasMatchesOf, Row, Text, app_of, is_simple, subcommand_name_of, subcommand_of}
+use Rattle.clap.specs.{Words.{subcommand_rows_of, takes}, Values.kind_of, declared.error.Error.Error}
+use Rattle.clap.specs.{declared.error.kind.ErrorKind.ErrorKind, declared.error.kind.ErrorKind.TheVariants.OutOfMemory}
+use Rattle.clap.specs.{declared.builder.command.Command.Command, declared.builder.value_parser.ValueParser.ValueParser}
 use Rattle.clap.specs.declared.parser.matches.ArgMatches.{ArgMatches}
 use Rattle.clap.proofs.OnLiterals.{clap_on_literals}
 use Rattle.shop_program.specs.CommandLine.{IsArgs, IsCommandLine, IsLineOf, IsUnread, UnlessNoMemory, command_line}
-use Rattle.shop_program.specs.inner.Arguments.{Reads}
-use Rattle.shop_program.specs.declared.line_faults.LineFault.{LineFault}
-use Rattle.shop_program.specs.LineFaults.{line_fault_by, line_fault_of}
-use Rattle.shop_program.proofs.Getters.{unless, weaker}
-use Rattle.shop_program.proofs.Refusals.{NoArgs}
-use Rattle.shop_program.specs.declared.arguments.Args.{Args}
+use Rattle.shop_program.specs.{inner.Arguments.Reads, declared.line_faults.LineFault.LineFault}
+use Rattle.shop_program.specs.{LineFaults.{line_fault_by, line_fault_of}, declared.arguments.Args.Args}
+use Rattle.shop_program.proofs.{Getters.{unless, weaker}, Refusals.NoArgs}
 
 line_simple : (formats orders : ValueParser) → is_simple (command_line formats orders) ≡ true
 unfolding clap_on_literals

@@ -2,8 +2,7 @@
 use Rattle.std.proofs.Common.{◌≡◌, ℕ, ap, arith, codes, get_or, nat_eq, true≢false, List, ◌<◌, ◌≤◌, ◌^◌}
 use Rattle.clap.specs.Words.{Row, Text}
 use Rattle.shop_runs.specs.declared.plans.Plan.{Plan}
-use Rattle.shop_program.specs.CommandLine.{HasNumber, HasPlan, IsArgs}
-use Rattle.shop_program.specs.declared.arguments.Args.{Args}
+use Rattle.shop_program.specs.{CommandLine.{HasNumber, HasPlan, IsArgs}, declared.arguments.Args.Args}
 use Rattle.shop_program.specs.declared.arguments.Args.TheVariants.{List as ListNames, Check, Solve}
 
 abbrev pub NoNumber : List Row → Text → Type 0

@@ -239,27 +239,13 @@ fn solve<'a>(
     add_arg(drawn, file(alloc))
 }
 
-/// Answers the words of the formats.
-fn format_choices<'a>() -> &'a [&'a str]
-    ensures { IsChoice format_words (Names result) }
-{
-    FORMAT_WORDS.as_slice()
-}
-
-/// Answers the words of the orders.
-fn order_choices<'a>() -> &'a [&'a str]
-    ensures { IsChoice order_words (Names result) }
-{
-    ORDER_WORDS.as_slice()
-}
-
 /// Makes the whole command line. Fails with `NoMemory` if memory runs out.
 pub fn command<'a>(alloc: Global) -> Result<Command<'a>, NoMemory>
     ensures { IfOk result IsCommandLine }
 {
-    let formats = format_choices();
+    let formats = FORMAT_WORDS.as_slice();
     let bare = Ok(described(alloc, "jobshop", &PROGRAM).subcommand_required(true));
     let listing = add_subcommand(bare, list(alloc, formats));
     let checking = add_subcommand(listing, check(alloc, formats));
-    add_subcommand(checking, solve(alloc, formats, order_choices()))
+    add_subcommand(checking, solve(alloc, formats, ORDER_WORDS.as_slice()))
 }

@@ -1,9 +1,6 @@
 // Opens files.
-ghost use Rattle.std.specs.Prelude.{◌≡◌, ℕ, List, Option, ⊤, IfOk, IfErr};
-ghost use Rattle.std.specs.Option.{option_map};
-ghost use Rattle.std.specs.Result.{result_ok};
-ghost use Rattle.shop_engine.specs.Devices.{Device};
-ghost use Rattle.shop_engine.specs.declared.faults.Fault.TheVariants.{ReadFailed};
+ghost use Rattle.std.specs.{Prelude.{◌≡◌, ℕ, List, Option, ⊤, IfOk, IfErr}, Option.option_map, Result.result_ok};
+ghost use Rattle.shop_engine.specs.{Devices.Device, declared.faults.Fault.TheVariants.ReadFailed};
 ghost use Rattle.shop_program.specs.Commands.{IsGiven, IsMissing};
 
 use shop_engine::{DeviceFailed, Fault, Reading, Source};

@@ -2,7 +2,6 @@
 #![tactic(auto)]
 
 mod arguments;
-mod checking_runs;
 mod command_line;
 mod entry_points;
 mod files;

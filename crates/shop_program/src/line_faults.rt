@@ -1,7 +1,6 @@
 // Why a command line is refused.
 ghost use Rattle.std.specs.Prelude.{◌≡◌};
-ghost use Rattle.shop_program.specs.LineFaults.{line_fault_of};
-ghost use Rattle.shop_program.specs.declared.line_faults.LineFault.TheVariants.{NoMemory};
+ghost use Rattle.shop_program.specs.{LineFaults.line_fault_of, declared.line_faults.LineFault.TheVariants.NoMemory};
 
 use clap::error::ErrorKind;
 use clap::{Command, Error};

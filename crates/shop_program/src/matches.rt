@@ -2,8 +2,7 @@
 ghost use Rattle.std.specs.Prelude.{◌<◌, ◌^◌, ℕ, IfOk, IfErr, option_map, string_bytes, codes};
 ghost use Rattle.clap.specs.Words.{found_of, rows_of};
 ghost use Rattle.shop_text.specs.Formats.{word_of};
-ghost use Rattle.shop_program.specs.CommandLine.{HasText, HasNumber, HasFlag, MayHave, UnlessNoMemory};
-ghost use Rattle.shop_program.specs.inner.Arguments.{Reads};
+ghost use Rattle.shop_program.specs.{CommandLine.{HasText, HasNumber, MayHave, UnlessNoMemory}, inner.Arguments.Reads};
 ghost use Rattle.shop_runs.specs.Orders.{order_word};
 
 use crate::line_faults::{LineFault, misread};
@@ -50,13 +49,6 @@ pub fn number_in(alloc: Global, found: &ArgMatches, id: &str) -> Result<u64, Lin
         Some(number) => Ok(number),
         None => Err(misread(alloc)),
     }
-}
-
-/// Tells whether the flag `id` is set.
-pub fn flag_in(found: &ArgMatches, id: &str) -> bool
-    ensures { HasFlag (rows_of (found_of found.now)) id.now result }
-{
-    found.get_flag(id)
 }
 
 /// Reads the text of the argument `id`; `None` if it is left out. Fails with `NoMemory` if memory runs out.

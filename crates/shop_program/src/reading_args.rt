@@ -7,7 +7,7 @@ ghost use Rattle.shop_program.specs.inner.Arguments.{Reads};
 use crate::arguments::Args;
 use crate::command_line::command;
 use crate::line_faults::{LineFault, misread};
-use crate::matches::{flag_in, format_in, number_in, order_in, text_in};
+use crate::matches::{format_in, number_in, order_in, text_in};
 use clap::ArgMatches;
 use shop_engine::{CheckArgs, ListArgs, SolveArgs};
 use shop_runs::{Plan, Workers};
@@ -56,13 +56,14 @@ fn plan_in(alloc: Global, found: &ArgMatches) -> Result<Plan, LineFault>
 }
 
 /// Reads the arguments of `solve` from clap's matches. Fails if these lack one, or with `NoMemory` if memory runs out.
+#[tactic(auto, using(crate::proofs::Getters::has_flag))]
 fn solve_args(alloc: Global, found: &ArgMatches) -> Result<Args, LineFault>
     ensures { Reads (IsArgs (codes "solve") (rows_of (found_of found.now))) result }
 {
     let format = format_in(alloc, found)?;
     let plan = plan_in(alloc, found)?;
     let workers = number_in(alloc, found, "workers")? as usize;
-    let gantt = flag_in(found, "gantt");
+    let gantt = found.get_flag("gantt");
     let name = text_in(alloc, found, "name")?;
     let file = text_in(alloc, found, "FILE")?;
     let Some(workers) = Workers::new(workers) else {

@@ -1,36 +1,15 @@
 // Runs the commands on the files that are named, or on the source.
 ghost use Rattle.std.specs.Prelude.{◌≡◌};
-ghost use Rattle.shop_program.specs.Running.{IsCommandRun, SolvesFrom};
-ghost use Rattle.shop_program.specs.inner.Runs.{file_in, RunsFrom};
+ghost use Rattle.shop_program.specs.{Running.IsCommandRun, inner.Runs.{file_in, RunsFrom}};
 
 use crate::arguments::Args;
-use crate::checking_runs::{check_from, list_from};
 use crate::files::{Files, open_given};
-use crate::statuses::DONE;
-use shop_engine::{Fault, Sink, SolveArgs, Source, solve_text};
-use shop_runs::{MakesCrew, Workers};
+use crate::statuses::{DONE, status_of_check};
+use shop_engine::{Fault, Sink, Source, check_text, list_text, solve_text};
+use shop_runs::MakesCrew;
 
-/// Solves an instance of `source` with a crew of `workers`, and answers the exit status; every crew gives the same
-/// report. Fails with the fault of a text, with `ReadFailed` or `WriteFailed` if a device fails, or with `NoMemory` if
-/// memory runs out.
-fn solve_from<R: AllocGlobal, C: MakesCrew<R>, S: Source, K: Sink>(
-    rt: &R,
-    crews: &C,
-    args: &SolveArgs,
-    workers: Workers,
-    source: &mut S,
-    out: &mut K,
-) -> Result<u8, Fault>
-    requires { C.Crew.ready }
-    ensures { SolvesFrom args.now (K.device out.old) (K.device out.new) result
-        (S.device source.old) (S.device source.new) }
-{
-    let mut crew = crews.of(workers);
-    solve_text(rt, rt.alloc(), source, out, args, &mut crew)?;
-    Ok(DONE)
-}
-
-/// Runs a command on `source`, whatever its file, and answers the exit status. Fails with the fault of a text, with
+/// Runs a command on `source`, whatever its file, and answers the exit status; every crew solves with the same report.
+/// Fails with the fault of a text, with
 /// `ReadFailed` or `WriteFailed` if a device fails, or with `NoMemory` if memory runs out.
 fn run_from<R: Files + AllocGlobal, C: MakesCrew<R>, S: Source, K: Sink>(
     rt: &R,
@@ -44,9 +23,20 @@ fn run_from<R: Files + AllocGlobal, C: MakesCrew<R>, S: Source, K: Sink>(
         (S.device source.old) (S.device source.new) }
 {
     match args {
-        Args::List { args, .. } => list_from(rt.alloc(), args, source, out),
-        Args::Check { args, schedule, .. } => check_from(rt, args, schedule, source, out),
-        Args::Solve { args, workers, .. } => solve_from(rt, crews, args, *workers, source, out),
+        Args::List { args, .. } => {
+            list_text(rt.alloc(), source, out, args)?;
+            Ok(DONE)
+        }
+        Args::Check { args, schedule, .. } => {
+            let mut second = open_given(rt, schedule)?;
+            let is_feasible = check_text(rt.alloc(), source, &mut second, out, args)?;
+            Ok(status_of_check(is_feasible))
+        }
+        Args::Solve { args, workers, .. } => {
+            let mut crew = crews.of(*workers);
+            solve_text(rt, rt.alloc(), source, out, args, &mut crew)?;
+            Ok(DONE)
+        }
     }
 }
 

@@ -1,14 +1,12 @@
 -- A row whose numbers are capped is judged as the row itself, and capping changes no number of an accepted row.
-use Rattle.std.proofs.lemmas.Grind.{common_steps}
-use Rattle.std.proofs.Common.{◌≡◌, ℕ, ◌*◌, ◌%◌, ◌<◌, ◌≤◌, Bool, true, cond, not, ◌&&◌, leb, eqb}
-use Rattle.std.proofs.Common.{List, [], ◌∷◌, length, map, Option, Some, None, refl, arith}
-use Rattle.std.specs.List.{list_all}
+use Rattle.std.proofs.{lemmas.Grind.common_steps, Common.{map, Option, Some, None, refl, arith}, lemmas.List.length-map}
+use Rattle.std.proofs.Common.{◌≡◌, ℕ, ◌*◌, ◌%◌, ◌<◌, ◌≤◌, Bool, true, cond, not, ◌&&◌, leb, eqb, List, [], ◌∷◌, length}
 use Rattle.std.proofs.lemmas.Bool.{cases_lt, ltb-true, leb-true, le-leb, lt-leb, and_parts}
-use Rattle.std.proofs.lemmas.List.{length-map}
-use Rattle.shop_text.specs.inner.LineReading.{capped, size_line_fault, times_row_fault, machines_row_fault}
-use Rattle.shop_text.specs.Grammar.{LineFault, WrongRow, WrongTime}
-use Rattle.shop_text.specs.Formats.{is_between, size_fault, pairs_fault, pairs_of}
-use Rattle.shop_text.specs.Formats.{orlib_fault, orlib_job, routes_fault, routes_job}
+use Rattle.std.specs.List.{list_all}
+use Rattle.shop_text.specs.inner.LineReading.{capped, times_row_fault, machines_row_fault}
+use Rattle.shop_text.specs.{Grammar.{LineFault, WrongRow, WrongTime}, Formats.{routes_fault, routes_job}}
+use Rattle.shop_text.specs.Formats.{is_between, size_fault, pairs_fault, pairs_of, grammar_of, orlib_fault, orlib_job}
+use Rattle.shop_text.specs.declared.formats.Format.{Format}
 
 pub capped_same : (n : ℕ) → n ≤ 18446744073709551615 → capped n ≡ n
 capped_same n h = omega arith
@@ -111,6 +109,6 @@ machines_same machines h row e = grind (arith, common_steps, no_fault_then, all_
 size_capped : (row : List ℕ) → size_fault (map capped row) ≡ size_fault row
 size_capped row = grind (arith, common_steps)
 
-pub size_line_capped : (most : ℕ) (row : List ℕ)
-    → size_line_fault most (map capped row) ≡ size_line_fault most row
-size_line_capped most row = rw (length-map row capped, size_capped row) refl
+pub size_line_capped : (p : Format) (row : List ℕ)
+    → (grammar_of p).refuses [] (map capped row) ≡ (grammar_of p).refuses [] row
+size_line_capped x row = grind (arith, common_steps, length-map, size_capped)

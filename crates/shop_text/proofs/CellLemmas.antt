@@ -1,17 +1,12 @@
 -- The columns of a Gantt text.
-use Rattle.std.proofs.lemmas.Grind.{common_steps, div_ceil_times}
-use Rattle.std.proofs.Common.{◌≡◌, ℕ, zero, suc, ◌+◌, ◌*◌, ◌<◌, ◌≤◌, Bool, ◌&&◌, ◌||◌, leb, ltb}
-use Rattle.std.proofs.Common.{List, [], ◌∷◌, ◌++◌, length, get_or, sym, ap, ◌∙◌, arith, add-one}
-use Rattle.std.specs.List.{range_with_len, list_any}
-use Rattle.std.specs.Int.{div_ceil}
-use Rattle.std.proofs.Math.Bool.{or-false}
+use Rattle.std.proofs.{lemmas.Grind.{common_steps, div_ceil_times}, Math.Bool.or-false}
+use Rattle.std.proofs.Common.{◌≡◌, ℕ, zero, suc, ◌+◌, ◌*◌, ◌<◌, ◌≤◌, Bool, ◌&&◌, ◌||◌, leb, ltb, List, [], ◌∷◌, ◌++◌}
+use Rattle.std.proofs.{Common.{length, get_or, sym, ap, ◌∙◌, arith, add-one}, lemmas.List.Folds.list_any-append}
 use Rattle.std.proofs.lemmas.Bool.{cases_lt, eq-eqb, leb-true, le-leb, ltb-true, lt-ltb}
-use Rattle.std.proofs.lemmas.List.Folds.{list_any-append}
-use Rattle.shop_model.specs.declared.ops.Op.{Op}
-use Rattle.shop_model.specs.Shop.{Shop, Starts, no_op, route_of, machine_of, finish_of}
+use Rattle.std.specs.{List.{range_with_len, list_any}, Int.div_ceil}
+use Rattle.shop_model.specs.{declared.ops.Op.Op, Shop.{Shop, Starts, no_op, route_of, machine_of, finish_of}}
 use Rattle.shop_model.specs.Checking.{starts_of}
-use Rattle.shop_text.specs.Writing.{is_served}
-use Rattle.shop_text.specs.inner.Cells.{serves_below, ShowsWhere}
+use Rattle.shop_text.specs.{Writing.is_served, inner.Cells.{serves_below, ShowsWhere}}
 
 -- ---- the columns of an interval
 

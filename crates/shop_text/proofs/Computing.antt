@@ -1,16 +1,11 @@
 -- The line-by-line reading computes the fault of a text, and its parts where it has none.
-use Rattle.std.proofs.Common.{arith, rules}
-use Rattle.std.proofs.Common.{◌≡◌, ℕ, leb, true, List, [], length, Option, Some, None, sym, ap, ◌∙◌, inl, inr}
-use Rattle.std.proofs.lemmas.Bool.{leb-true}
-use Rattle.shop_text.specs.Formats.{grammar_of}
-use Rattle.shop_text.specs.Lines.{Numbered, lines_of}
-use Rattle.shop_text.specs.Grammar.{Grammar, IsGood, IsFault}
+use Rattle.std.proofs.Common.{arith, rules, ◌≡◌, ℕ, leb, true, List, [], length, Option, Some, None, sym, ap, ◌∙◌, inl}
+use Rattle.std.proofs.{Common.inr, lemmas.Bool.leb-true}
+use Rattle.shop_text.specs.{Formats.grammar_of, Lines.{Numbered, lines_of}, Grammar.{Grammar, IsGood, IsFault}}
 use Rattle.shop_text.specs.Texts.{NamedShop, lines_left, named_from, IsText, IsTextFault}
-use Rattle.shop_text.specs.declared.faults.ReadFault.{ReadFault}
-use Rattle.shop_text.specs.declared.formats.Format.{Format}
+use Rattle.shop_text.specs.{declared.faults.ReadFault.ReadFault, declared.formats.Format.Format}
 use Rattle.shop_text.proofs.OneReading.{Reading, read, fault_of, read_good, fault_read, no_fault, IsGrammar}
-use Rattle.shop_text.proofs.SomeReading.{Outcome, some_reading, all_left}
-use Rattle.shop_text.proofs.ReaderTurns.{is_grammar}
+use Rattle.shop_text.proofs.{SomeReading.{Outcome, some_reading, all_left}, ReaderTurns.is_grammar}
 
 -- the reading of a text, and its fault
 abbrev pub reading_of : Grammar → List ℕ → Reading

@@ -1,16 +1,11 @@
 -- Digits at the front of a text.
-use Rattle.std.proofs.lemmas.Grind.{common_steps}
+use Rattle.std.proofs.{lemmas.Grind.common_steps, Common.{get_or, take, drop, Some, None, refl, ap, arith, take_all}}
 use Rattle.std.proofs.Common.{◌≡◌, ℕ, zero, suc, ◌+◌, ◌-◌, ◌*◌, ◌^◌, ◌<◌, ◌≤◌, true, false, not, List, [], ◌∷◌, length}
-use Rattle.std.proofs.Common.{get_or, take, drop, Some, None, refl, ap, arith, take_all}
-use Rattle.std.specs.Prelude.{position}
-use Rattle.std.specs.Char.{is_ascii_digit}
-use Rattle.std.specs.List.{position_or_len}
-use Rattle.std.proofs.Math.Nat.{pow-le-pow_right}
-use Rattle.std.proofs.lemmas.Bool.{and_parts, lt-ltb, le-ltb}
+use Rattle.std.proofs.{Math.Nat.pow-le-pow_right, lemmas.Bool.{and_parts, lt-ltb, le-ltb}}
 use Rattle.std.proofs.lemmas.List.Sums.{position_or_len_is}
+use Rattle.std.specs.{Prelude.position, Char.is_ascii_digit, List.position_or_len}
 use Rattle.shop_text.specs.Lines.{is_number, value_of, is_separator}
-use Rattle.shop_text.specs.inner.LineReading.{number_in, AreLeadingDigits, IsNumberCut}
-use Rattle.shop_text.proofs.Capping.{capped_same}
+use Rattle.shop_text.specs.inner.LineReading.{capped, number_in, AreLeadingDigits, IsNumberCut}
 use Rattle.shop_text.proofs.LineLemmas.{tokens_at, tokens_to_end}
 
 -- behind at most 18 digits there is room for one more
@@ -45,10 +40,9 @@ end_here text n e h here =
 
 -- ---- a number cut off
 
--- digits that fit have the value that was read
-value_fits : (token : List ℕ) (value : ℕ) → is_number token ≡ true → value ≡ value_of token
-    → value < 18446744073709551616 → Some value ≡ number_in token
-value_fits token value are is fits = grind (arith, common_steps, capped_same)
+value_read : (token : List ℕ) (value : ℕ) → is_number token ≡ true → value ≡ capped (value_of token)
+    → Some value ≡ number_in token
+value_read token value are is = grind (arith, common_steps)
 
 pub cut_to_end : (line : List ℕ) (start value n : ℕ) → position (λ b. not (is_separator b)) line ≡ Some start
     → AreLeadingDigits (take (length line - start) (drop start line)) value n
@@ -57,7 +51,7 @@ pub cut_to_end : (line : List ℕ) (start value n : ℕ) → position (λ b. not
     (take (length (take (length line - start) (drop start line)) - length
     (take (length line - start) (drop start line)))
     (drop (length (take (length line - start) (drop start line))) (take (length line - start) (drop start line))))
-cut_to_end line start value n e l h = grind (arith, common_steps, take_all, tokens_to_end, no_end, value_fits)
+cut_to_end line start value n e l h = grind (arith, common_steps, take_all, tokens_to_end, no_end, value_read)
 
 pub cut_at : (line : List ℕ) (start value n : ℕ) → position (λ b. not (is_separator b)) line ≡ Some start
     → AreLeadingDigits (take (length line - start) (drop start line)) value n
@@ -66,4 +60,4 @@ pub cut_at : (line : List ℕ) (start value n : ℕ) → position (λ b. not (is
     → IsNumberCut line (Some value)
     (take (length (take (length line - start) (drop start line)) - (n + 1))
     (drop (n + 1) (take (length line - start) (drop start line))))
-cut_at line start value n e l h here = grind (arith, common_steps, tokens_at, end_here, value_fits)
+cut_at line start value n e l h here = grind (arith, common_steps, tokens_at, end_here, value_read)

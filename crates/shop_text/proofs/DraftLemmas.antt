@@ -1,27 +1,17 @@
 -- A draft after one more number line.
-use Rattle.std.proofs.lemmas.Grind.{common_steps}
+use Rattle.std.proofs.{lemmas.Grind.common_steps, Common.{Option, None, Result, Vec, refl, sym, ap, ◌∙◌, arith, min}}
 use Rattle.std.proofs.Common.{◌≡◌, ℕ, ◌+◌, ◌<◌, ◌≤◌, false, eqb, List, [], ◌∷◌, ◌++◌, length, map, take, drop, get_or}
-use Rattle.std.proofs.Common.{Option, None, Result, Vec, refl, sym, ap, ◌∙◌, arith, min}
-use Rattle.std.specs.Prelude.{IsErr, IsOk, ◌↔◌}
-use Rattle.std.specs.List.{zip}
-use Rattle.std.specs.declared.alloc.Global.{Global}
-use Rattle.std.proofs.lemmas.Bool.{lt-ltb, le-ltb, ne_eqb}
+use Rattle.std.proofs.{lemmas.Bool.{lt-ltb, le-ltb, ne_eqb}, lemmas.List.{take-append-le, drop-append-le, get_or-map}}
 use Rattle.std.proofs.lemmas.List.{length-map, map-append, length-append, length-take, length-take-le, length-drop}
-use Rattle.std.proofs.lemmas.List.{take-append-le, drop-append-le, get_or-map}
 use Rattle.std.proofs.lemmas.Slice.Zip.{length-zip}
-use Rattle.shop_model.specs.declared.ops.Job.{Job}
-use Rattle.shop_model.specs.Shop.{ShopJob}
-use Rattle.shop_model.specs.Given.{job_as_given}
+use Rattle.std.specs.{Prelude.{IsErr, IsOk, ◌↔◌}, List.zip, declared.alloc.Global.Global}
+use Rattle.shop_model.specs.{declared.ops.Job.Job, Shop.ShopJob, Given.job_as_given}
 use Rattle.shop_model.specs.Limits.{IsJobWithin, AreJobsWithin}
 use Rattle.shop_text.specs.inner.LineReading.{capped, JudgesRow, times_row_fault, machines_row_fault}
-use Rattle.shop_text.specs.inner.DraftLimits.{IsDraftWithin}
-use Rattle.shop_text.specs.Grammar.{Row, LineFault}
+use Rattle.shop_text.specs.{inner.DraftLimits.IsDraftWithin, Grammar.{Row, LineFault}, Formats.{taillard, taillard_job}}
 use Rattle.shop_text.specs.Formats.{grammar_of, jobs_in, machines_in, orlib_fault, orlib_job, routes_fault, routes_job}
-use Rattle.shop_text.specs.Formats.{taillard, taillard_job}
-use Rattle.shop_text.specs.inner.Drafts.{items_of, jobs_drafted, HoldsRows, IsDraft}
-use Rattle.shop_text.specs.declared.instance_drafts.Draft.{Draft}
-use Rattle.shop_text.specs.declared.faults.ReadFault.{ReadFault}
-use Rattle.shop_text.specs.declared.formats.Format.{Format}
+use Rattle.shop_text.specs.{inner.Drafts.{items_of, jobs_drafted, HoldsRows, IsDraft}, declared.formats.Format.Format}
+use Rattle.shop_text.specs.{declared.instance_drafts.Draft.Draft, declared.faults.ReadFault.ReadFault}
 use Rattle.shop_text.specs.declared.formats.Format.TheVariants.{Orlib, Taillard, Routes}
 use Rattle.shop_text.proofs.Capping.{orlib_capped, orlib_same, routes_capped, routes_same, machines_capped}
 use Rattle.shop_text.proofs.Capping.{machines_same}

@@ -1,34 +1,24 @@
 -- What comes of a number line: a size line, a row of times, or the row of a job.
-use Rattle.std.proofs.lemmas.Grind.{common_steps}
-use Rattle.std.proofs.Common.{◌≡◌, ℕ, ◌<◌, ◌≤◌, true, false, eqb, List, [], ◌∷◌, ◌++◌, length, map}
-use Rattle.std.proofs.Common.{take, drop, Option, Some, None, Result, Ok, Err, Vec, ◌∙◌, arith}
-use Rattle.std.specs.List.{zip}
-use Rattle.std.specs.declared.alloc.Global.{Global}
+use Rattle.std.proofs.{lemmas.Grind.common_steps, Common.{Some, None, Result, Ok, Err, Vec, ◌∙◌, arith}}
+use Rattle.std.proofs.Common.{◌≡◌, ℕ, ◌<◌, ◌≤◌, true, false, eqb, List, [], ◌∷◌, ◌++◌, length, map, take, drop, Option}
 use Rattle.std.proofs.lemmas.Bool.{ltb-true, ltb-false, eq-eqb, ne_eqb}
 use Rattle.std.proofs.lemmas.List.{map-append, length-append, take_all, drop_all, take-append-le}
-use Rattle.shop_model.specs.declared.ops.Job.{Job}
-use Rattle.shop_model.specs.Shop.{Shop}
-use Rattle.shop_model.specs.Given.{job_as_given}
-use Rattle.shop_text.specs.Formats.{grammar_of, jobs_in, taillard_job}
-use Rattle.shop_text.specs.inner.Grammars.{fields_of}
-use Rattle.shop_text.specs.inner.LineReading.{capped, Fails, size_line_fault, times_row_fault}
-use Rattle.shop_text.specs.Grammar.{Row}
+use Rattle.std.specs.{List.zip, declared.alloc.Global.Global}
+use Rattle.shop_model.specs.{declared.ops.Job.Job, Shop.Shop, Given.job_as_given}
+use Rattle.shop_text.specs.{Formats.{grammar_of, jobs_in, taillard_job}, Grammar.Row, declared.formats.Format.Format}
+use Rattle.shop_text.specs.{inner.LineReading.{capped, Fails, times_row_fault}, inner.Drafts.{IsOneMore, TakesRow}}
 use Rattle.shop_text.specs.inner.Drafts.{jobs_drafted, HoldsTimes, HoldsRows, IsDraft, wants_times, PushesJob}
-use Rattle.shop_text.specs.inner.Drafts.{IsOneMore, TakesRow}
-use Rattle.shop_text.specs.declared.instance_drafts.Draft.{Draft}
-use Rattle.shop_text.specs.declared.faults.ReadFault.{ReadFault}
-use Rattle.shop_text.specs.declared.formats.Format.{Format}
+use Rattle.shop_text.specs.{declared.instance_drafts.Draft.Draft, declared.faults.ReadFault.ReadFault}
 use Rattle.shop_text.specs.declared.formats.Format.TheVariants.{Orlib, Taillard, Routes}
 use Rattle.shop_text.proofs.Capping.{size_line_capped, times_capped, times_same}
-use Rattle.shop_text.proofs.GrammarFields.{size_line_is}
 use Rattle.shop_text.proofs.DraftLemmas.{zip_none, times_refused, times_there, taillard_lens}
 
 -- ---- a size line
 
-pub size_failed : (p : Format) (draft : Draft) (most n : ℕ) (row : Row) (e : ReadFault) → draft.jobs_wanted ≡ 0
-    → most ≡ (fields_of p).most_in_size → Fails e n (size_line_fault most row) → (rows : List Row) (written : Row)
+pub size_failed : (p : Format) (draft : Draft) (n : ℕ) (row : Row) (e : ReadFault) → draft.jobs_wanted ≡ 0
+    → Fails e n ((grammar_of p).refuses [] row) → (rows : List Row) (written : Row)
     → IsDraft p draft rows → row ≡ map capped written → Fails e n ((grammar_of p).refuses rows written)
-size_failed p draft most n row e none em h x written d er = grind (arith, size_line_capped, size_line_is)
+size_failed p draft n row e none h x written d er = grind (arith, size_line_capped)
 
 -- ---- a row of times
 

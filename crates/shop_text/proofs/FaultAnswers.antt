@@ -2,13 +2,9 @@
 use Rattle.std.proofs.Common.{◌≡◌, ℕ, ◌⊎◌, List, Result, Ok, Err, Vec, arith}
 use Rattle.std.specs.declared.alloc.Global.{Global}
 use Rattle.shop_model.specs.Shop.{Shop}
-use Rattle.shop_text.specs.Grammar.{Grammar}
-use Rattle.shop_text.specs.Texts.{IsTextFault, OrNoMemory, OneReading}
-use Rattle.shop_text.specs.Names.{shops_of, FaultIsAnswered}
-use Rattle.shop_text.specs.Schedules.{IsTableFault, OneTable, TableFaultIsAnswered}
-use Rattle.shop_text.specs.declared.names.Named.{Named}
-use Rattle.shop_text.specs.declared.faults.ReadFault.{ReadFault}
-use Rattle.shop_text.specs.declared.faults.ReadFault.TheVariants.{NoMemory}
+use Rattle.shop_text.specs.{Grammar.Grammar, Texts.{IsTextFault, OrNoMemory, OneReading}, declared.names.Named.Named}
+use Rattle.shop_text.specs.{Names.{shops_of, FaultIsAnswered}, Schedules.{IsTableFault, OneTable, TableFaultIsAnswered}}
+use Rattle.shop_text.specs.{declared.faults.ReadFault.ReadFault, declared.faults.ReadFault.TheVariants.NoMemory}
 
 abbrev IsAnswer : Type 0 → ReadFault → ReadFault → Type 0
 IsAnswer A e found =

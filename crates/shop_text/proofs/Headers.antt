@@ -1,12 +1,8 @@
 -- The names that lines give.
-use Rattle.std.proofs.lemmas.Grind.{common_steps}
-use Rattle.std.proofs.Common.{◌≡◌, ℕ, zero, suc, true, List, [], ◌∷◌, Some, None, arith}
-use Rattle.std.specs.List.{list_all}
-use Rattle.std.specs.Str.{IsAscii, IsUtf8}
-use Rattle.std.proofs.lemmas.Bool.{and_parts, leb-true}
-use Rattle.std.proofs.lemmas.Str.{IsUtf8-from_ascii}
-use Rattle.shop_text.specs.Lines.{Blank, Numbers, Words}
-use Rattle.shop_text.specs.Formats.{grammar_of, is_visible, header_of}
+use Rattle.std.proofs.{lemmas.Grind.common_steps, Common.{◌≡◌, ℕ, zero, suc, true, List, [], ◌∷◌, Some, None, arith}}
+use Rattle.std.proofs.{lemmas.Bool.{and_parts, leb-true}, lemmas.Str.IsUtf8-from_ascii}
+use Rattle.std.specs.{List.list_all, Str.{IsAscii, IsUtf8}}
+use Rattle.shop_text.specs.{Lines.{Blank, Numbers, Words}, Formats.{grammar_of, is_visible, header_of}}
 use Rattle.shop_text.specs.declared.formats.Format.{Format}
 
 visible_ascii : (bytes : List ℕ) → list_all is_visible bytes ≡ true → IsAscii bytes

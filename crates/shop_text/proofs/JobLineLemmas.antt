@@ -1,20 +1,15 @@
 -- The lines of jobs in a schedule text: labels, and what is read so far.
-use Rattle.std.proofs.lemmas.Grind.{common_steps}
+use Rattle.std.proofs.{lemmas.Grind.common_steps, lemmas.Bool.{cases_eq, eq-eqb, eqb-true, ltb-true}}
 use Rattle.std.proofs.Common.{◌≡◌, ℕ, ◌+◌, ◌-◌, ◌<◌, ◌≤◌, Bool, true, false, not, ◌&&◌, cond, eqb, List, [], ◌∷◌, ◌++◌}
 use Rattle.std.proofs.Common.{length, get_or, take, Option, Some, None, sym, arith, Vec, Global}
-use Rattle.std.specs.Prelude.{codes}
-use Rattle.std.specs.List.{enumerate_from}
-use Rattle.std.specs.Str.{bytes_eq}
-use Rattle.std.proofs.lemmas.Bool.{cases_eq, eq-eqb, eqb-true, ltb-true}
 use Rattle.std.proofs.lemmas.List.{get_or_at, length-take-le, map-append, length-map, append_assoc, length_push}
-use Rattle.std.proofs.lemmas.List.FromFn.{length-enumerate_from}
-use Rattle.std.proofs.lemmas.Slice.Eq.{bytes_eq-Decides}
+use Rattle.std.proofs.{lemmas.List.FromFn.length-enumerate_from, lemmas.Slice.Eq.bytes_eq-Decides}
+use Rattle.std.specs.{Prelude.codes, List.enumerate_from, Str.bytes_eq}
 use Rattle.shop_model.specs.Shop.{Shop}
-use Rattle.shop_text.specs.Lines.{lines_of, tokens_of, is_empty, is_number, value_of}
-use Rattle.shop_text.specs.inner.LineReading.{capped}
+use Rattle.shop_text.specs.{Lines.{lines_of, tokens_of, is_empty, is_number, value_of}, inner.LineReading.capped}
 use Rattle.shop_text.specs.Schedules.{Tokens, is_label, row_in, AreJobLines, IsBadAt}
-use Rattle.shop_text.proofs.Passing.{one_behind}
 use Rattle.shop_text.specs.inner.ScheduleReading.{IsReadSoFar, rows_held}
+use Rattle.shop_text.proofs.Passing.{one_behind}
 
 -- ---- labels
 

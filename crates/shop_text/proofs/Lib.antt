@@ -3,7 +3,6 @@ pub mod DigitLemmas
 pub mod Seeing
 pub mod Pairs
 pub mod Capping
-pub mod GrammarFields
 pub mod DraftLemmas
 pub mod DraftTurns
 pub mod Headers

@@ -1,14 +1,11 @@
 -- Cutting a text into lines, and a line into tokens, at the first byte of a kind.
-use Rattle.std.proofs.lemmas.Grind.{common_steps}
+use Rattle.std.proofs.{lemmas.Grind.common_steps, lemmas.Bool.{cases_lt, lt-ltb, not-false, not-true}}
 use Rattle.std.proofs.Common.{true≢false, add-one, length, get_or, Option, false, arith, subst, zero, Bool, true, List}
 use Rattle.std.proofs.Common.{take, drop, Some, None, refl, ◌≡◌, suc, ◌+◌, ◌-◌, ◌<◌, ◌≤◌, not, ◌∷◌, sym, ◌∙◌, [], ap, ℕ}
-use Rattle.std.specs.Prelude.{position, filter}
-use Rattle.std.specs.List.{slice_split, onto_first}
-use Rattle.std.proofs.lemmas.Bool.{cases_lt, lt-ltb, not-false, not-true}
-use Rattle.std.proofs.lemmas.List.{take_rest, drop_all, length-drop, get_or-drop}
-use Rattle.std.proofs.lemmas.List.Sums.{fails_before_first}
+use Rattle.std.proofs.{lemmas.List.{take_rest, drop_all, length-drop, get_or-drop}, lemmas.List.Sums.fails_before_first}
 use Rattle.std.proofs.lemmas.List.Quantifiers.{position-Some}
 use Rattle.std.proofs.lemmas.List.Splits.{length-slice_split, slice_split-cons_yes, slice_split-cons_no}
+use Rattle.std.specs.{Prelude.{position, filter}, List.{slice_split, onto_first}}
 use Rattle.shop_text.specs.Lines.{is_line_feed, is_separator, is_empty, ended, lines_of, tokens_of}
 
 -- where no position is found, no element passes

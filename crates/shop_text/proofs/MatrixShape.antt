@@ -1,19 +1,15 @@
 -- The parts of `taillard` are those in plain words.
-use Rattle.std.proofs.lemmas.Grind.{common_steps}
-use Rattle.std.proofs.Common.{◌≡◌, ℕ, zero, suc, ◌+◌, ◌-◌, ◌*◌, ◌≤◌, ◌<◌, inr, Bool, true, leb, List, [], rules}
-use Rattle.std.proofs.Common.{◌∷◌, ◌++◌, length, Option, None, refl, sym, ap, subst, cond, arith}
-use Rattle.std.specs.List.{list_all, AllByRecursion}
-use Rattle.std.proofs.lemmas.Bool.{and_parts, and_from, or_right, or_from, leb-true, le-leb, lt-ltb, le-ltb}
-use Rattle.std.proofs.lemmas.Bool.{eqb-true, eq-eqb, ne_eqb, true≢false}
+use Rattle.std.proofs.{lemmas.Grind.common_steps, lemmas.Bool.{eq-eqb, ne_eqb, true≢false}}
+use Rattle.std.proofs.Common.{◌≡◌, ℕ, zero, suc, ◌+◌, ◌-◌, ◌*◌, ◌≤◌, ◌<◌, inr, Bool, true, leb, List, [], rules, ◌∷◌}
+use Rattle.std.proofs.Common.{◌++◌, length, Option, None, refl, sym, ap, subst, cond, arith}
+use Rattle.std.proofs.lemmas.Bool.{and_parts, and_from, or_right, or_from, leb-true, le-leb, lt-ltb, le-ltb, eqb-true}
 use Rattle.std.proofs.lemmas.List.{length-map, length-append}
-use Rattle.shop_text.specs.Lines.{Numbered}
-use Rattle.shop_text.specs.Grammar.{Row, LineFault, WrongShape, Entry, Part}
-use Rattle.shop_text.specs.Grammar.{entry_rows, AreSkipped, AreAccepted, IsPart}
+use Rattle.std.specs.List.{list_all, AllByRecursion}
+use Rattle.shop_text.specs.{Lines.Numbered, Grammar.IsPart, Formats.{jobs_in, machines_in}}
+use Rattle.shop_text.specs.Grammar.{Row, LineFault, WrongShape, Entry, Part, entry_rows, AreSkipped, AreAccepted}
 use Rattle.shop_text.specs.Formats.{taillard, taillard_refuses, times_fault, machines_fault, size_fault, is_between}
-use Rattle.shop_text.specs.Formats.{jobs_in, machines_in}
 use Rattle.shop_text.specs.Shapes.{IsRowOf, IsTime, IsMachineNumber, IsRowLine, IsMatrix, IsTaillardPart, TaillardShape}
-use Rattle.shop_text.proofs.Capping.{no_fault_then, no_fault_if, no_fault_in}
-use Rattle.shop_text.proofs.ShapeLaw.{size_from, size_to}
+use Rattle.shop_text.proofs.{Capping.{no_fault_then, no_fault_if, no_fault_in}, ShapeLaw.{size_from, size_to}}
 
 -- ---- a row
 

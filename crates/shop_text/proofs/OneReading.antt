@@ -1,18 +1,14 @@
 -- A text has one reading at most: lines that are good are good for one list of parts and have no fault, and a fault is
 -- the only one.
-use Rattle.std.proofs.lemmas.Grind.{common_steps}
-use Rattle.std.proofs.Common.{◌≡◌, ℕ, ◌+◌, ◌<◌, inl, inr, Bool, true, false, List, [], ◌∷◌, ◌++◌, length, rules}
-use Rattle.std.proofs.Common.{Option, Some, None, refl, sym, ap, ◌∙◌, append_assoc, arith}
-use Rattle.std.specs.Prelude.{IsTrue}
-use Rattle.std.specs.List.{AllByRecursion}
-use Rattle.std.proofs.lemmas.List.{append-nil, map-append}
-use Rattle.std.proofs.lemmas.List.Concat.{flat_map-cons}
-use Rattle.shop_text.specs.Lines.{Line, Blank, Numbers, Words, Numbered}
+use Rattle.std.proofs.{lemmas.Grind.common_steps, Common.{Some, None, refl, sym, ap, ◌∙◌, append_assoc, arith}}
+use Rattle.std.proofs.Common.{◌≡◌, ℕ, ◌+◌, ◌<◌, inl, inr, Bool, true, false, List, [], ◌∷◌, ◌++◌, length, rules, Option}
+use Rattle.std.proofs.{lemmas.List.{append-nil, map-append}, lemmas.List.Concat.flat_map-cons}
+use Rattle.std.specs.{Prelude.IsTrue, List.AllByRecursion}
+use Rattle.shop_text.specs.{Lines.{Line, Blank, Numbers, Words, Numbered}, declared.faults.ReadFault.ReadFault}
 use Rattle.shop_text.specs.Texts.{NamedShop, lines_left, named_from, IsText, IsTextFault, OneReading}
 use Rattle.shop_text.specs.Grammar.{Row, Grammar, LineFault, WrongRow, fault_at, Entry, Part, entry_rows}
 use Rattle.shop_text.specs.Grammar.{lines_of_entry, lines_of_part, lines_of_parts, AreText, AreSkipped, IsAccepted}
 use Rattle.shop_text.specs.Grammar.{AreAccepted, IsPart, IsGood, IsBegun, refusal, IsRefused, IsTruncated, IsFault}
-use Rattle.shop_text.specs.declared.faults.ReadFault.{ReadFault}
 use Rattle.shop_text.specs.declared.faults.ReadFault.TheVariants.{NoInstance, Truncated}
 
 -- how lines end: outside a part, inside one, or at a line that is refused

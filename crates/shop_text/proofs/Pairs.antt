@@ -1,8 +1,6 @@
 -- A row, pair by pair.
-use Rattle.std.proofs.lemmas.Grind.{common_steps}
-use Rattle.std.proofs.Common.{◌≡◌, ℕ, ◌+◌, ◌*◌, ◌<◌, ◌≤◌, List, [], ◌∷◌, ◌++◌, length, get_or, drop, drop-cons}
-use Rattle.std.proofs.Common.{refl, append_assoc, arith}
-use Rattle.std.proofs.lemmas.Bool.{lt-ltb, le-leb}
+use Rattle.std.proofs.{lemmas.Grind.common_steps, Common.{append_assoc, arith}, lemmas.Bool.{lt-ltb, le-leb}}
+use Rattle.std.proofs.Common.{◌≡◌, ℕ, ◌+◌, ◌*◌, ◌<◌, ◌≤◌, List, [], ◌∷◌, ◌++◌, length, get_or, drop, drop-cons, refl}
 use Rattle.shop_model.specs.declared.ops.Op.{Op}
 use Rattle.shop_text.specs.Formats.{pairs_fault, pairs_of}
 

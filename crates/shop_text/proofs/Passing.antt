@@ -1,22 +1,14 @@
 -- One more line of a text: what is left behind it, and what a reader makes of it.
-use Rattle.std.proofs.lemmas.Grind.{common_steps}
+use Rattle.std.proofs.{lemmas.Grind.common_steps, Common.{Err, Vec, ap, ◌∙◌, subst, append_assoc, arith}}
 use Rattle.std.proofs.Common.{◌≡◌, ℕ, ◌+◌, ◌<◌, ◌≤◌, ◌⊎◌, inl, inr, List, [], ◌∷◌, ◌++◌, length, map, filter, Result}
-use Rattle.std.proofs.Common.{Err, Vec, ap, ◌∙◌, subst, append_assoc, arith}
-use Rattle.std.specs.List.{list_any, enumerate_from}
-use Rattle.std.specs.declared.alloc.Global.{Global}
 use Rattle.std.proofs.lemmas.List.{append-nil}
-use Rattle.shop_text.specs.Formats.{grammar_of}
-use Rattle.shop_text.specs.Lines.{Numbered, is_left, line_of, lines_of, numbered_lines}
-use Rattle.shop_text.specs.Grammar.{Grammar, IsRefused}
-use Rattle.shop_text.specs.Texts.{is_header, from_first_header, lines_left}
-use Rattle.shop_text.specs.Names.{IsRead}
-use Rattle.shop_text.specs.inner.LineReading.{lines_after, IsBehind}
+use Rattle.std.specs.{List.{list_any, enumerate_from}, declared.alloc.Global.Global}
+use Rattle.shop_text.specs.{Formats.grammar_of, Lines.{Numbered, is_left, line_of, lines_of, numbered_lines}}
+use Rattle.shop_text.specs.{Grammar.{Grammar, IsRefused}, Texts.{is_header, from_first_header, lines_left}}
+use Rattle.shop_text.specs.{Names.IsRead, inner.LineReading.{lines_after, IsBehind}, declared.names.Named.Named}
 use Rattle.shop_text.specs.inner.InstanceReading.{IsReadUpTo, left_of, Ends, IsOnTheWay}
-use Rattle.shop_text.specs.declared.faults.ReadFault.{ReadFault}
-use Rattle.shop_text.specs.declared.faults.ReadFault.TheVariants.{NoMemory}
-use Rattle.shop_text.specs.declared.names.Named.{Named}
-use Rattle.shop_text.specs.declared.formats.Format.{Format}
-use Rattle.shop_text.specs.declared.instance_readers.Reader.{Reader}
+use Rattle.shop_text.specs.{declared.faults.ReadFault.ReadFault, declared.faults.ReadFault.TheVariants.NoMemory}
+use Rattle.shop_text.specs.{declared.formats.Format.Format, declared.instance_readers.Reader.Reader}
 
 pub one_behind : (whole : List ℕ) (n : ℕ) (text bytes rest : List ℕ) → IsBehind whole n text
     → lines_of text ≡ bytes ∷ lines_of rest → length rest < length text → IsBehind whole (n + 1) rest

@@ -1,14 +1,10 @@
 -- Where in a part the lines stand after one more: a skipped text line, a row of the part, or its last row.
-use Rattle.std.proofs.Common.{arith, ◌≡◌, ℕ, inl, inr, true, false, List, [], ◌∷◌, ◌++◌, None, refl, sym, ap}
-use Rattle.std.proofs.Common.{◌∙◌, append_assoc}
-use Rattle.std.proofs.lemmas.Grind.{common_steps, flat_map-append}
-use Rattle.std.specs.Prelude.{IsTrue}
-use Rattle.std.specs.List.{AllByRecursion}
-use Rattle.std.proofs.lemmas.List.{append-nil, map-append}
-use Rattle.std.proofs.lemmas.List.Concat.{flat_map-cons}
-use Rattle.shop_text.specs.Lines.{Numbers, Words, Numbered}
-use Rattle.shop_text.specs.Grammar.{Row, Grammar, Entry, Part, entry_rows, lines_of_part}
-use Rattle.shop_text.specs.Grammar.{lines_of_parts, AreText, IsAccepted, AreAccepted, IsPart, IsBegun}
+use Rattle.std.proofs.Common.{arith, ◌≡◌, ℕ, inl, inr, true, false, List, [], ◌∷◌, ◌++◌, None, refl, sym, ap, ◌∙◌}
+use Rattle.std.proofs.{Common.append_assoc, lemmas.Grind.{common_steps, flat_map-append}}
+use Rattle.std.proofs.{lemmas.List.{append-nil, map-append}, lemmas.List.Concat.flat_map-cons}
+use Rattle.std.specs.{Prelude.IsTrue, List.AllByRecursion}
+use Rattle.shop_text.specs.{Lines.{Numbers, Words, Numbered}, Grammar.{IsAccepted, AreAccepted, IsPart, IsBegun}}
+use Rattle.shop_text.specs.Grammar.{Row, Grammar, Entry, Part, entry_rows, lines_of_part, lines_of_parts, AreText}
 use Rattle.shop_text.proofs.OneReading.{IsGrammar, entry, with_row}
 
 pub text_more : (t : List Numbered) (n : ℕ) (words : List (List ℕ)) → AreText t → AreText (t ++ (n, Words words) ∷ [])

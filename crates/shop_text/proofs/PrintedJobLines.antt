@@ -1,22 +1,17 @@
 -- The job lines of a report, read as those of a schedule text.
-use Rattle.std.proofs.lemmas.Grind.{common_steps}
-use Rattle.std.proofs.Common.{◌≡◌, ℕ, suc, ◌+◌, ◌^◌, ◌<◌, ◌≤◌, true, false, cond, leb, List, rules}
-use Rattle.std.proofs.Common.{[], ◌∷◌, ◌++◌, length, get_or, map, Option, Some, refl, ap, ◌∙◌, arith}
-use Rattle.std.specs.Prelude.{filter, codes}
-use Rattle.std.specs.List.{enumerate_from, list_all, join_with_byte}
-use Rattle.std.specs.Str.{bytes_eq}
-use Rattle.std.specs.Fmt.{decimal}
-use Rattle.std.proofs.lemmas.Bool.{and_from, eq-eqb, le-leb, lt-ltb}
-use Rattle.std.proofs.lemmas.List.{length-append, length-map, take_at}
+use Rattle.std.proofs.{lemmas.Grind.common_steps, Common.{length, get_or, map, Option, Some, refl, ap, ◌∙◌, arith}}
+use Rattle.std.proofs.Common.{◌≡◌, ℕ, suc, ◌+◌, ◌^◌, ◌<◌, ◌≤◌, true, false, cond, leb, List, rules, [], ◌∷◌, ◌++◌}
+use Rattle.std.proofs.{lemmas.Bool.{and_from, eq-eqb, le-leb, lt-ltb}, lemmas.List.{length-append, length-map, take_at}}
 use Rattle.std.proofs.lemmas.Slice.Eq.{bytes_eq-Decides}
+use Rattle.std.specs.{Prelude.{filter, codes}, List.{enumerate_from, list_all, join_with_byte}, Str.bytes_eq}
+use Rattle.std.specs.Fmt.{decimal}
 use Rattle.shop_model.specs.Shop.{Shop, route_of}
 use Rattle.shop_text.specs.Lines.{is_line_feed, is_separator, is_empty, tokens_of, is_number, value_of}
 use Rattle.shop_text.specs.Schedules.{Tokens, begins_with_job, is_counted, is_label, is_start, row_in}
 use Rattle.shop_text.specs.Writing.{job_line}
-use Rattle.shop_text.proofs.JobLineLemmas.{row_at}
-use Rattle.shop_text.proofs.PrintedLines.{IsFree, free_append, AreLines, AllFree}
-use Rattle.shop_text.proofs.PrintedLines.{joined_free, AreTokens, first_token, tokens_of_joined, decimal_free}
-use Rattle.shop_text.proofs.PrintedLines.{no_line_feed, no_separator, decimal_some, decimal_is_number, decimal_value}
+use Rattle.shop_text.proofs.{JobLineLemmas.row_at, PrintedLines.{decimal_is_number, decimal_value}}
+use Rattle.shop_text.proofs.PrintedLines.{IsFree, free_append, AreLines, AllFree, joined_free, AreTokens, first_token}
+use Rattle.shop_text.proofs.PrintedLines.{tokens_of_joined, decimal_free, no_line_feed, no_separator, decimal_some}
 
 -- ---- the starts of a job
 

@@ -1,19 +1,14 @@
 -- Printed lines as they are read again: lines, tokens, numbers.
-use Rattle.std.proofs.lemmas.Grind.{common_steps}
+use Rattle.std.proofs.{lemmas.Grind.common_steps, lemmas.Bool.{eqb-true, or_parts}, lemmas.List.Folds.list_any-append}
 use Rattle.std.proofs.Common.{◌≡◌, ℕ, zero, suc, ◌+◌, ◌-◌, ◌*◌, ◌^◌, ◌/◌, ◌%◌, ◌<◌, ◌≤◌, Bool, true, false, not, ◌||◌}
 use Rattle.std.proofs.Common.{cond, eqb, ltb, List, [], ◌∷◌, ◌++◌, length, map, refl, sym, ap, ◌∙◌, arith, rules}
-use Rattle.std.specs.Prelude.{filter, fold}
-use Rattle.std.specs.List.{slice_split, list_any, join_with_byte}
-use Rattle.std.specs.Fmt.{decimal, digits, digits_onto}
-use Rattle.std.proofs.lemmas.Bool.{eqb-true, or_parts}
 use Rattle.std.proofs.lemmas.Fmt.{decimal_nonempty, digits_decimal, digits_value-decimal}
-use Rattle.std.proofs.lemmas.Str.Parse.{IsNumeralModel, numerals_by_fold}
-use Rattle.std.proofs.lemmas.List.{append_assoc, append-nil}
-use Rattle.std.proofs.lemmas.List.Folds.{list_any-append}
+use Rattle.std.proofs.{lemmas.Str.Parse.{IsNumeralModel, numerals_by_fold}, lemmas.List.{append_assoc, append-nil}}
 use Rattle.std.proofs.lemmas.List.Splits.{length-slice_split, slice_split-cons_yes, slice_split-cons_no}
+use Rattle.std.specs.{Prelude.{filter, fold}, List.{slice_split, list_any, join_with_byte}}
+use Rattle.std.specs.Fmt.{decimal, digits, digits_onto}
 use Rattle.shop_text.specs.Lines.{is_line_feed, is_separator, is_empty, lines_of, tokens_of, is_number, value_of}
-use Rattle.shop_text.specs.Schedules.{Tokens}
-use Rattle.shop_text.specs.Writing.{text_of}
+use Rattle.shop_text.specs.{Schedules.Tokens, Writing.text_of}
 use Rattle.shop_text.proofs.LineLemmas.{ended_more}
 
 -- no byte passes the test

@@ -1,31 +1,21 @@
 -- What a reader has read after one more line.
-use Rattle.std.proofs.lemmas.Grind.{common_steps, flat_map-append}
-use Rattle.std.proofs.Common.{◌≡◌, ℕ, suc, ◌+◌, ◌<◌, ◌⊎◌, true, List, [], ◌∷◌, ◌++◌, length, Option, Some}
-use Rattle.std.proofs.Common.{None, String, string_bytes, refl, sym, ap, ◌∙◌, subst, append_assoc, arith}
-use Rattle.std.specs.Fmt.{decimal}
-use Rattle.std.specs.declared.alloc.Global.{Global}
-use Rattle.std.proofs.lemmas.List.{append-nil, length-map, map-append}
-use Rattle.std.proofs.lemmas.List.Concat.{flat_map-cons}
-use Rattle.std.proofs.lemmas.List.Elements.{filter_map-append}
+use Rattle.std.proofs.{lemmas.Grind.{common_steps, flat_map-append}, lemmas.List.{append-nil, length-map, map-append}}
+use Rattle.std.proofs.Common.{◌≡◌, ℕ, suc, ◌+◌, ◌<◌, ◌⊎◌, true, List, [], ◌∷◌, ◌++◌, length, Option, Some, None, String}
+use Rattle.std.proofs.Common.{string_bytes, refl, sym, ap, ◌∙◌, subst, append_assoc, arith}
+use Rattle.std.proofs.{lemmas.List.Concat.flat_map-cons, lemmas.List.Elements.filter_map-append}
+use Rattle.std.specs.{Fmt.decimal, declared.alloc.Global.Global}
 use Rattle.shop_model.specs.Shop.{Shop}
-use Rattle.shop_text.specs.Formats.{grammar_of}
-use Rattle.shop_text.specs.Lines.{Line, Numbers, Words, Numbered}
-use Rattle.shop_text.specs.Grammar.{Row, Grammar, LineFault, fault_at, Entry, Part, entry_rows, lines_of_parts}
-use Rattle.shop_text.specs.Grammar.{IsBegun, IsRefused, IsWithoutInstance, AreText}
+use Rattle.shop_text.specs.{Formats.grammar_of, Lines.{Line, Numbers, Words, Numbered}, Names.{shops_of, shop_of_named}}
+use Rattle.shop_text.specs.Grammar.{Row, Grammar, LineFault, fault_at, Entry, Part, entry_rows, lines_of_parts, IsBegun}
+use Rattle.shop_text.specs.{Grammar.{IsRefused, IsWithoutInstance, AreText}, inner.LineReading.Fails}
 use Rattle.shop_text.specs.Texts.{NamedShop, headers_of, last_or, name_of, named_from, OneReading}
-use Rattle.shop_text.specs.Names.{shops_of, shop_of_named}
-use Rattle.shop_text.specs.inner.LineReading.{Fails}
-use Rattle.shop_text.specs.inner.Drafts.{IsDraft, IsOneMore, IsLastOne}
+use Rattle.shop_text.specs.{inner.Drafts.{IsDraft, IsOneMore, IsLastOne}, declared.instance_drafts.Draft.Draft}
 use Rattle.shop_text.specs.inner.InstanceReading.{texts_of, name_or, IsLast, IsReadUpTo, AreRead}
-use Rattle.shop_text.specs.declared.instance_drafts.Draft.{Draft}
-use Rattle.shop_text.specs.declared.faults.ReadFault.{ReadFault}
+use Rattle.shop_text.specs.{declared.faults.ReadFault.ReadFault, declared.names.Named.Named}
 use Rattle.shop_text.specs.declared.faults.ReadFault.TheVariants.{NoMemory, NoInstance}
-use Rattle.shop_text.specs.declared.names.Named.{Named}
-use Rattle.shop_text.specs.declared.formats.Format.{Format}
-use Rattle.shop_text.specs.declared.instance_readers.Reader.{Reader}
-use Rattle.shop_text.proofs.OneReading.{IsGrammar, with_row, entry, one_text}
+use Rattle.shop_text.specs.{declared.formats.Format.Format, declared.instance_readers.Reader.Reader}
+use Rattle.shop_text.proofs.{OneReading.{IsGrammar, with_row, entry, one_text}, SomeReading.{nothing_yet, refused_here}}
 use Rattle.shop_text.proofs.Places.{words_on, row_on, part_on, rows_more}
-use Rattle.shop_text.proofs.SomeReading.{nothing_yet, refused_here}
 
 pub is_grammar : (p : Format) → IsGrammar (grammar_of p)
 is_grammar x = grind arith

@@ -1,28 +1,19 @@
 -- A report, and a Gantt text behind it, read as a schedule text.
-use Rattle.std.proofs.lemmas.Grind.{common_steps}
-use Rattle.std.proofs.Common.{◌≡◌, ℕ, ◌≤◌, Bool, true, false, ◌||◌, List, [], ◌∷◌, ◌++◌, rules}
-use Rattle.std.proofs.Common.{length, get_or, map, Option, Some, None, refl, sym, ap, ◌∙◌, arith, subst}
-use Rattle.std.specs.Prelude.{filter, codes}
-use Rattle.std.specs.List.{enumerate_from, list_any, list_all, join_with_byte}
+use Rattle.std.proofs.{lemmas.Grind.common_steps, Common.{Option, Some, None, refl, sym, ap, ◌∙◌, arith, subst}}
+use Rattle.std.proofs.Common.{◌≡◌, ℕ, ◌≤◌, Bool, true, false, ◌||◌, List, [], ◌∷◌, ◌++◌, rules, length, get_or, map}
+use Rattle.std.proofs.{lemmas.Bool.{eqb-true, leb-true}, lemmas.List.{length-append, length-map}}
+use Rattle.std.proofs.{lemmas.List.Concat.flat_map-append, lemmas.List.FromFn.length-enumerate_from}
+use Rattle.std.specs.{Prelude.{filter, codes}, List.{enumerate_from, list_any, list_all, join_with_byte}}
 use Rattle.std.specs.Option.{option_map_or}
-use Rattle.std.proofs.lemmas.Bool.{eqb-true, leb-true}
-use Rattle.std.proofs.lemmas.List.{length-append, length-map}
-use Rattle.std.proofs.lemmas.List.Concat.{flat_map-append}
-use Rattle.std.proofs.lemmas.List.FromFn.{length-enumerate_from}
-use Rattle.shop_model.specs.Shop.{Shop, Starts}
-use Rattle.shop_model.specs.Limits.{AreStarts}
-use Rattle.shop_model.specs.Checking.{HasShape}
-use Rattle.shop_text.specs.Lines.{is_line_feed, tokens_of}
-use Rattle.shop_text.specs.Formats.{is_visible}
+use Rattle.shop_model.specs.{Shop.{Shop, Starts}, Limits.AreStarts, Checking.HasShape}
+use Rattle.shop_text.specs.{Lines.{is_line_feed, tokens_of}, Formats.is_visible, RoundTrip.ReportsAreSchedules}
 use Rattle.shop_text.specs.Schedules.{Tokens, is_counted, counted_lines, IsTable}
 use Rattle.shop_text.specs.Writing.{report_text, Reported, printed_line, text_of, number_line, status_word}
 use Rattle.shop_text.specs.Writing.{answer_lines, report_lines, character_of, machine_line}
-use Rattle.shop_text.specs.RoundTrip.{ReportsAreSchedules}
-use Rattle.shop_text.proofs.JobLineLemmas.{row_at}
+use Rattle.shop_text.proofs.{JobLineLemmas.row_at, PrintedLines.{decimal_free, no_line_feed}}
 use Rattle.shop_text.proofs.PrintedLines.{IsFree, free_append, AreLines, lines_of_text, are_lines_append, joined_free}
-use Rattle.shop_text.proofs.PrintedLines.{decimal_free, no_line_feed}
-use Rattle.shop_text.proofs.PrintedJobLines.{AreOther, AreRows, job_lines_are_lines, jobs_from, jobs_read}
-use Rattle.shop_text.proofs.PrintedJobLines.{other_line, read_from, skip_lines}
+use Rattle.shop_text.proofs.PrintedJobLines.{AreOther, AreRows, job_lines_are_lines, jobs_from, jobs_read, other_line}
+use Rattle.shop_text.proofs.PrintedJobLines.{read_from, skip_lines}
 
 -- ---- the lines before the jobs
 

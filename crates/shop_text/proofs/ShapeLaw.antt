@@ -1,17 +1,14 @@
 -- The parts of `orlib` and `routes` are those in plain words.
-use Rattle.std.proofs.lemmas.Grind.{common_steps}
-use Rattle.std.proofs.Common.{◌≡◌, ℕ, zero, suc, ◌+◌, ◌*◌, ◌%◌, ◌/◌, inr, cond, not, ◌&&◌, leb, rules}
-use Rattle.std.proofs.Common.{eqb, List, [], ◌∷◌, ◌++◌, length, Option, Some, None, refl, sym, ◌∙◌, subst, arith}
-use Rattle.std.specs.List.{AllByRecursion}
+use Rattle.std.proofs.{lemmas.Grind.common_steps, lemmas.List.{length-map, length-append}}
+use Rattle.std.proofs.Common.{◌≡◌, ℕ, zero, suc, ◌+◌, ◌*◌, ◌%◌, ◌/◌, inr, cond, not, ◌&&◌, leb, rules, eqb, List, []}
+use Rattle.std.proofs.Common.{◌∷◌, ◌++◌, length, Option, Some, None, refl, sym, ◌∙◌, subst, arith}
 use Rattle.std.proofs.lemmas.Bool.{and_parts, leb-true, le-leb, ltb-true, lt-ltb, eqb-true, eq-eqb, ne_eqb, true≢false}
-use Rattle.std.proofs.lemmas.List.{length-map, length-append}
+use Rattle.std.specs.List.{AllByRecursion}
 use Rattle.shop_model.specs.Shop.{ShopJob}
-use Rattle.shop_text.specs.Grammar.{Row, LineFault, WrongShape, WrongRow, WrongTime, Entry}
-use Rattle.shop_text.specs.Grammar.{Part, entry_rows, AreAccepted, IsPart}
-use Rattle.shop_text.specs.Formats.{orlib_fault, routes_fault, grammar_of_rows}
-use Rattle.shop_text.specs.Formats.{pairs_fault, size_fault, jobs_in, machines_in}
-use Rattle.shop_text.specs.Shapes.{IsSize, ArePairs, IsOrlibRow, IsRoutesRow, IsRowLine, IsPartOfRows}
-use Rattle.shop_text.specs.Shapes.{OrlibShape, RoutesShape}
+use Rattle.shop_text.specs.Grammar.{Row, LineFault, WrongShape, WrongRow, WrongTime, Entry, Part, entry_rows}
+use Rattle.shop_text.specs.{Grammar.{AreAccepted, IsPart}, Formats.machines_in, Shapes.RoutesShape}
+use Rattle.shop_text.specs.Formats.{orlib_fault, routes_fault, grammar_of_rows, pairs_fault, size_fault, jobs_in}
+use Rattle.shop_text.specs.Shapes.{IsSize, ArePairs, IsOrlibRow, IsRoutesRow, IsRowLine, IsPartOfRows, OrlibShape}
 use Rattle.shop_text.proofs.Capping.{no_fault_then, no_fault_in}
 
 -- ---- a row

@@ -1,19 +1,15 @@
 -- Lines are good for some parts, or have some fault.
-use Rattle.std.proofs.lemmas.Grind.{common_steps}
+use Rattle.std.proofs.{lemmas.Grind.common_steps, lemmas.Bool.cases_lt, lemmas.List.append-nil}
 use Rattle.std.proofs.Common.{◌≡◌, ℕ, ◌+◌, ◌≤◌, ◌⊎◌, inl, inr, Bool, true, false, cond, List, [], ◌∷◌, ◌++◌, length}
 use Rattle.std.proofs.Common.{Option, Some, None, refl, sym, ap, subst, ◌∙◌, append_assoc, arith}
-use Rattle.std.specs.Prelude.{IsTrue, filter}
-use Rattle.std.specs.List.{AllByRecursion}
-use Rattle.std.proofs.lemmas.Bool.{cases_lt}
-use Rattle.std.proofs.lemmas.List.{append-nil}
+use Rattle.std.specs.{Prelude.{IsTrue, filter}, List.AllByRecursion}
 use Rattle.shop_text.specs.Lines.{Line, Blank, Numbers, Words, Numbered, is_left, lines_of}
 use Rattle.shop_text.specs.Grammar.{Row, Grammar, LineFault, WrongRow, fault_at, Entry, Part, entry_rows}
 use Rattle.shop_text.specs.Grammar.{lines_of_parts, AreText, IsPart, IsGood, IsBegun, refusal, IsRefused, IsFault}
 use Rattle.shop_text.specs.declared.faults.ReadFault.{ReadFault}
 use Rattle.shop_text.specs.declared.faults.ReadFault.TheVariants.{NoInstance, Truncated, TooLong}
 use Rattle.shop_text.specs.Texts.{from_first_header, lines_left, named_from, HasReading, SomeReading}
-use Rattle.shop_text.proofs.OneReading.{IsGrammar, with_row}
-use Rattle.shop_text.proofs.Places.{words_on, row_on, part_on}
+use Rattle.shop_text.proofs.{OneReading.{IsGrammar, with_row}, Places.{words_on, row_on, part_on}}
 
 abbrev pub Outcome : Grammar → ℕ → List Numbered → Type 0
 Outcome f last lines =

@@ -1,14 +1,9 @@
 -- Texts made of lines, and lines made of tokens.
-use Rattle.std.proofs.lemmas.Grind.{common_steps}
-use Rattle.std.proofs.Common.{◌≡◌, ℕ, ◌+◌, ◌<◌, List, [], ◌∷◌, ◌++◌, length, get_or, take, map, Result, refl}
-use Rattle.std.proofs.Common.{sym, ap, ◌∙◌, arith}
-use Rattle.std.specs.Prelude.{flat_map, codes, OnOk, IfOk}
-use Rattle.std.specs.List.{join_with_byte, range_with_len}
-use Rattle.std.proofs.lemmas.List.FromFn.{map-range_with_len_more}
-use Rattle.std.specs.Fmt.{decimal}
+use Rattle.std.proofs.{lemmas.Grind.common_steps, Common.{◌∙◌, arith}, lemmas.List.FromFn.map-range_with_len_more}
+use Rattle.std.proofs.Common.{◌≡◌, ℕ, ◌+◌, ◌<◌, List, [], ◌∷◌, ◌++◌, length, get_or, take, map, Result, refl, sym, ap}
 use Rattle.std.proofs.lemmas.List.{append_assoc, append-nil, map-append, take_more, length-take-le}
-use Rattle.shop_text.specs.Schedules.{Tokens}
-use Rattle.shop_text.specs.Writing.{printed_line, text_of, job_line, job_lines}
+use Rattle.std.specs.{Prelude.{flat_map, codes, OnOk, IfOk}, List.{join_with_byte, range_with_len}, Fmt.decimal}
+use Rattle.shop_text.specs.{Schedules.Tokens, Writing.{printed_line, text_of, job_line, job_lines}}
 use Rattle.shop_text.proofs.JobLineLemmas.{enumerate_push}
 
 -- a space before each token

@@ -1,17 +1,10 @@
 -- The names in a text have visible bytes alone.
-use Rattle.std.proofs.lemmas.Grind.{common_steps}
-use Rattle.std.proofs.Common.{◌≡◌, ℕ, zero, suc, ◌+◌, ◌/◌, ◌%◌, ◌<◌, Bool, true, false, cond, ltb, eqb}
-use Rattle.std.proofs.Common.{List, [], ◌∷◌, Option, Some, None, refl, subst, arith}
-use Rattle.std.specs.Prelude.{IsTrue}
-use Rattle.std.specs.List.{list_all, AllByRecursion}
-use Rattle.std.specs.Fmt.{decimal, digits, digits_onto}
+use Rattle.std.proofs.{lemmas.Grind.common_steps, Common.{Option, Some, None, refl, subst, arith}}
+use Rattle.std.proofs.Common.{◌≡◌, ℕ, zero, suc, ◌+◌, ◌/◌, ◌%◌, ◌<◌, Bool, true, false, cond, ltb, eqb, List, [], ◌∷◌}
 use Rattle.std.proofs.lemmas.Bool.{le-leb, lt-ltb}
-use Rattle.shop_text.specs.Lines.{Numbered}
-use Rattle.shop_text.specs.Grammar.{Part}
-use Rattle.shop_text.specs.Formats.{is_visible, grammar_of}
-use Rattle.shop_text.specs.Texts.{NamedShop, IsText, last_or, headers_of, named_from}
-use Rattle.shop_text.specs.Names.{first_named}
-use Rattle.shop_text.specs.RoundTrip.{NamesAreVisible}
+use Rattle.std.specs.{Prelude.IsTrue, List.{list_all, AllByRecursion}, Fmt.{decimal, digits, digits_onto}}
+use Rattle.shop_text.specs.{Lines.Numbered, Grammar.Part, Formats.{is_visible, grammar_of}, Names.first_named}
+use Rattle.shop_text.specs.{Texts.{NamedShop, IsText, last_or, headers_of, named_from}, RoundTrip.NamesAreVisible}
 use Rattle.shop_text.specs.declared.formats.Format.{Format}
 
 abbrev IsVisible : List ℕ → Type 0

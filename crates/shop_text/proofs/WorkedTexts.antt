@@ -1,13 +1,9 @@
 -- Worked texts, computed from the definitions.
 use Rattle.std.proofs.Common.{◌≡◌, ℕ, List, [], ◌∷◌, ◌++◌, map, take, refl}
-use Rattle.std.specs.Fmt.{decimal}
-use Rattle.std.specs.Prelude.{codes, Option, Some, None}
-use Rattle.shop_model.specs.declared.ops.Op.{Op}
-use Rattle.shop_model.specs.Shop.{Shop, ShopJob}
-use Rattle.shop_text.specs.Lines.{Numbers, numbered_lines}
-use Rattle.shop_text.specs.Formats.{orlib, taillard, routes}
-use Rattle.shop_text.specs.Texts.{NamedShop, IsText, IsTextFault}
-use Rattle.shop_text.specs.declared.faults.ReadFault.{ReadFault}
+use Rattle.std.specs.{Fmt.decimal, Prelude.{codes, Option, Some, None}}
+use Rattle.shop_model.specs.{declared.ops.Op.Op, Shop.{Shop, ShopJob}}
+use Rattle.shop_text.specs.{Lines.{Numbers, numbered_lines}, Formats.{orlib, taillard, routes}}
+use Rattle.shop_text.specs.{Texts.{NamedShop, IsText, IsTextFault}, declared.faults.ReadFault.ReadFault}
 use Rattle.shop_text.specs.declared.faults.ReadFault.TheVariants.{NoInstance, BadShape, BadSize, BadRow, Truncated}
 use Rattle.shop_text.specs.declared.faults.ReadFault.TheVariants.{BadMachine, BadTime}
 use Rattle.shop_text.specs.declared.formats.Format.TheVariants.{Orlib, Taillard, Routes}

@@ -1,4 +1,3 @@
-pub mod Grammars
 pub mod LineReading
 pub mod DraftLimits
 pub mod Drafts

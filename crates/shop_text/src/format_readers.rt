@@ -1,20 +1,11 @@
-// The readers of instance texts.
-ghost use Rattle.shop_text.specs.Formats.{orlib, taillard, routes, grammar_of};
-ghost use Rattle.shop_text.specs.Names.{IsRead};
+// The readers of instance texts of one format.
+ghost use Rattle.shop_text.specs.{Formats.{orlib, taillard, routes}, Names.IsRead};
 
 use crate::faults::ReadFault;
 use crate::formats::Format;
-use crate::instance_readers::read_text;
+use crate::instance_readers::read;
 use crate::names::Named;
 use std::alloc::Global;
-
-/// Reads the instances of `text` in `format`, as `read_orlib`, `read_taillard` and `read_routes` say, and fails as they
-/// do.
-pub fn read(alloc: Global, format: Format, text: &[u8]) -> Result<Vec<Named>, ReadFault>
-    ensures { IsRead (grammar_of format) text.now result }
-{
-    read_text(alloc, format, text)
-}
 
 /// Reads the instances of `text`, at least one, in the form of the OR-Library file `jobshop1`. The name of an instance
 /// is that of the last line `instance NAME` before it, else its number, from 1.
@@ -24,7 +15,7 @@ pub fn read(alloc: Global, format: Format, text: &[u8]) -> Result<Vec<Named>, Re
 pub fn read_orlib(alloc: Global, text: &[u8]) -> Result<Vec<Named>, ReadFault>
     ensures { IsRead orlib text.now result }
 {
-    read_text(alloc, Format::Orlib, text)
+    read(alloc, Format::Orlib, text)
 }
 
 /// Reads the instances of `text`, at least one, in the form that goes by Taillard's name: a size line, a row of times
@@ -35,7 +26,7 @@ pub fn read_orlib(alloc: Global, text: &[u8]) -> Result<Vec<Named>, ReadFault>
 pub fn read_taillard(alloc: Global, text: &[u8]) -> Result<Vec<Named>, ReadFault>
     ensures { IsRead taillard text.now result }
 {
-    read_text(alloc, Format::Taillard, text)
+    read(alloc, Format::Taillard, text)
 }
 
 /// Reads the instances of `text`, at least one, in the format `routes`: that of `read_orlib`, except that the row of a
@@ -45,5 +36,5 @@ pub fn read_taillard(alloc: Global, text: &[u8]) -> Result<Vec<Named>, ReadFault
 pub fn read_routes(alloc: Global, text: &[u8]) -> Result<Vec<Named>, ReadFault>
     ensures { IsRead routes text.now result }
 {
-    read_text(alloc, Format::Routes, text)
+    read(alloc, Format::Routes, text)
 }

@@ -1,7 +1,6 @@
 // The characters that a machine's line of a Gantt text shows.
 ghost use Rattle.std.specs.Prelude.{◌≡◌, ◌<◌, ◌≤◌, ◌&&◌, nat_le, nat_lt, length};
-ghost use Rattle.shop_model.specs.Shop.{IsFeasible};
-ghost use Rattle.shop_model.specs.Checking.{HasShape, starts_of};
+ghost use Rattle.shop_model.specs.{Shop.IsFeasible, Checking.{HasShape, starts_of}};
 ghost use Rattle.shop_text.specs.Writing.{character_of, shown_cells};
 ghost use Rattle.shop_text.specs.inner.Cells.{AllEndWithin, ShowsJob, ShowsWhere};
 

@@ -1,7 +1,6 @@
 // Gantt texts.
 ghost use Rattle.std.specs.Prelude.{◌≡◌, ◌<◌, ◌++◌, IfOk, OnOk};
-ghost use Rattle.shop_model.specs.Shop.{IsFeasible};
-ghost use Rattle.shop_model.specs.Checking.{HasShape, starts_of};
+ghost use Rattle.shop_model.specs.{Shop.IsFeasible, Checking.{HasShape, starts_of}};
 ghost use Rattle.shop_text.specs.Writing.{printed_line, cells_line, unit_of, gantt_text};
 
 use crate::gantt_lines::show_machine;
@@ -14,8 +13,7 @@ fn unit(makespan: u64) -> u64
     ensures unit { result ≡ unit_of makespan }
     ensures some { 0 < result }
 {
-    let unit = makespan.div_ceil(MAX_COLUMNS);
-    if unit < 1 { 1 } else { unit }
+    makespan.div_ceil(MAX_COLUMNS).max(1)
 }
 
 /// Writes the line of `machine` with the columns `cells`. Fails with `NoMemory` if memory runs out.

@@ -1,7 +1,6 @@
 // The instance that is being read, row by row.
 ghost use Rattle.std.specs.Prelude.{◌≡◌, ◌<◌, ◌∷◌, ◌++◌, [], List, map, false, ◌==◌};
-ghost use Rattle.shop_text.specs.Formats.{grammar_of};
-ghost use Rattle.shop_text.specs.inner.DraftLimits.{IsDraftWithin};
+ghost use Rattle.shop_text.specs.{Formats.grammar_of, inner.DraftLimits.IsDraftWithin};
 
 use crate::faults::ReadFault;
 use crate::formats::Format;
@@ -22,12 +21,9 @@ pub(crate) struct Draft {
 }
 
 impl Draft {
-    ghost use Rattle.shop_model.specs.Given.{job_as_given};
-    ghost use Rattle.shop_model.specs.Limits.{IsJobWithin};
-    ghost use Rattle.shop_text.specs.inner.LineReading.{capped, JudgesRow};
-    ghost use Rattle.shop_text.specs.Grammar.{Row};
+    ghost use Rattle.shop_model.specs.{Given.job_as_given, Limits.IsJobWithin};
+    ghost use Rattle.shop_text.specs.{inner.LineReading.{capped, JudgesRow}, Grammar.Row, Formats.taillard};
     ghost use Rattle.shop_text.specs.inner.Drafts.{IsDraft, wants_times, jobs_drafted, PushesJob, TakesRow};
-    ghost use Rattle.shop_text.specs.Formats.{taillard};
     ghost use Rattle.shop_text.specs.declared.formats.Format.TheVariants.{Taillard};
     ghost use Rattle.std.specs.Prelude.{vec_len, IfOk};
 
@@ -63,10 +59,9 @@ impl Draft {
         ensures { (rows : List Row) → IsDraft format self.now rows
             → result ≡ (grammar_of format).skips rows }
     {
-        if format.grammar().has_matrices {
-            self.is_before_matrix()
-        } else {
-            self.is_fresh()
+        match format {
+            Format::Taillard => self.is_before_matrix(),
+            Format::Orlib | Format::Routes => self.is_fresh(),
         }
     }
 
@@ -74,7 +69,7 @@ impl Draft {
     fn wants_times(&self, format: Format) -> bool
         ensures { result ≡ wants_times format self.now.jobs_wanted (vec_len self.now.times) }
     {
-        format.grammar().has_matrices && self.times.len() < self.jobs_wanted
+        format == Format::Taillard && self.times.len() < self.jobs_wanted
     }
 
     /// Reads the job of the number line `row`, which is line `line` of the text. Fails with the first fault of the row,
@@ -95,15 +90,13 @@ impl Draft {
             ≡ jobs_drafted format (rows ++ written ∷ [])) }
         ensures within { IfOk result (λ job. IsJobWithin self.now.machines job) }
     {
-        let grammar = format.grammar();
-        if grammar.has_matrices {
-            let times = self.times[self.jobs.len()].as_slice();
-            return job_of_machines(alloc, line, self.machines, times, row);
-        }
-        if grammar.has_releases {
-            job_of_release(alloc, line, self.machines, row)
-        } else {
-            job_of_pairs(alloc, line, self.machines, row)
+        match format {
+            Format::Orlib => job_of_pairs(alloc, line, self.machines, row),
+            Format::Routes => job_of_release(alloc, line, self.machines, row),
+            Format::Taillard => {
+                let times = self.times[self.jobs.len()].as_slice();
+                job_of_machines(alloc, line, self.machines, times, row)
+            }
         }
     }
 
@@ -138,7 +131,7 @@ impl Draft {
             → TakesRow format rows written line self.new result }
     {
         if self.jobs_wanted == 0 {
-            let (jobs, machines) = size_of(format.grammar().most_in_size, line, row)?;
+            let (jobs, machines) = size_of(format, line, row)?;
             self.jobs_wanted = jobs;
             self.machines = machines;
             return Ok(None);

@@ -1,20 +1,17 @@
 // Reads an instance text line by line.
 ghost use Rattle.std.specs.Prelude.{◌≡◌, ℕ, ◌≤◌, List, [], length, map, MatchOption, Some, None, IfOk, string_bytes};
 ghost use Rattle.std.specs.Fmt.{decimal};
-ghost use Rattle.shop_text.specs.Formats.{grammar_of};
-ghost use Rattle.shop_text.specs.Lines.{Numbered, Numbers, Words, line_of};
-ghost use Rattle.shop_text.specs.inner.LineReading.{capped, lines_after, IsBehind};
-ghost use Rattle.shop_text.specs.Names.{IsRead};
-ghost use Rattle.shop_text.specs.Texts.{lines_left};
+ghost use Rattle.shop_text.specs.{Formats.grammar_of, Lines.{Numbered, Numbers, Words, line_of}, Names.IsRead};
+ghost use Rattle.shop_text.specs.{inner.LineReading.{capped, lines_after, IsBehind}, Texts.lines_left};
 ghost use Rattle.shop_text.specs.inner.InstanceReading.{name_or, IsReadUpTo, Takes, Ends};
 
 use crate::faults::ReadFault;
 use crate::formats::Format;
+use crate::header_lines::header_in;
 use crate::instance_drafts::Draft;
 use crate::limits::MAX_TEXT;
-use crate::lines::next_line;
+use crate::lines::{next_line, next_number};
 use crate::names::Named;
-use crate::seen_lines::{Seen, header_in, see};
 use std::alloc::{AllocError as NoMemory, Global};
 
 /// The instances read so far, the name of the last header behind them, and the draft of the next instance.
@@ -24,16 +21,6 @@ struct Reader {
     named: Vec<Named>,
     name: Option<String>,
     draft: Draft,
-}
-
-/// Answers `name`, or `number` in digits if there is no name. Fails with `NoMemory` if memory runs out.
-fn name_or_number(alloc: Global, name: Option<String>, number: usize) -> Result<String, NoMemory>
-    ensures { IfOk result (λ s. string_bytes s ≡ name_or (decimal number) name) }
-{
-    match name {
-        Some(name) => Ok(name),
-        None => format!(in alloc; "{number}"),
-    }
 }
 
 impl Reader {
@@ -79,14 +66,17 @@ impl Reader {
             → Takes self.old.format self.new front line (Numbers written) result }
     {
         if let Some(instance) = self.draft.take_row(alloc, self.format, line, row)? {
-            let name = name_or_number(alloc, self.name.take(), self.named.len() + 1)?;
+            let name = match self.name.take() {
+                Some(name) => name,
+                None => format!(in alloc; "{}", self.named.len() + 1)?,
+            };
             self.named.push(Named { name, instance })?;
         }
         Ok(())
     }
 
-    /// Reads a line; `numbers` is room for its numbers. Fails with the fault of the line, or with `NoMemory` if memory
-    /// runs out.
+    /// Reads a line; `numbers` is room for its numbers, where one above `u64::MAX` counts as `u64::MAX`. Fails with the
+    /// fault of the line, or with `NoMemory` if memory runs out.
     fn take_line(
         &mut self,
         alloc: Global,
@@ -97,11 +87,19 @@ impl Reader {
         ensures { (front : List Numbered) → IsReadUpTo self.old front
             → Takes self.old.format self.new front line (line_of bytes.now) result }
     {
-        match see(self.format, bytes, numbers)? {
-            Seen::Blank => Ok(()),
-            Seen::Words(name) => self.take_words(alloc, line, name),
-            Seen::Numbers => self.take_numbers(alloc, line, numbers.as_slice()),
+        numbers.clear();
+        let mut rest = bytes;
+        while let Some((number, after)) = next_number(rest) {
+            let Some(number) = number else {
+                return self.take_words(alloc, line, header_in(self.format, bytes));
+            };
+            numbers.push(number)?;
+            rest = after;
         }
+        if numbers.is_empty() {
+            return Ok(());
+        }
+        self.take_numbers(alloc, line, numbers.as_slice())
     }
 
     /// Answers the instances at the end of the text, whose last line has the number `last`. Fails if the text ends
@@ -142,9 +140,9 @@ fn from_first_header(format: Format, text: &[u8]) -> (usize, &[u8])
     (0, text)
 }
 
-/// Reads the instances of `text`, with their names. Fails with the one fault of the text, or with `NoMemory` if memory
-/// runs out.
-pub(crate) fn read_text(alloc: Global, format: Format, text: &[u8]) -> Result<Vec<Named>, ReadFault>
+/// Reads the instances of `text` in `format`, as `read_orlib`, `read_taillard` and `read_routes` say, and fails as they
+/// do.
+pub fn read(alloc: Global, format: Format, text: &[u8]) -> Result<Vec<Named>, ReadFault>
     ensures { IsRead (grammar_of format) text.now result }
 {
     if text.len() > MAX_TEXT {

@@ -1,10 +1,7 @@
 // The lines of jobs in a schedule text.
-ghost use Rattle.std.specs.Prelude.{◌≡◌, ◌≤◌, ℕ, List, ◌∷◌, codes, IfOk};
-ghost use Rattle.std.specs.Str.{bytes_eq};
-ghost use Rattle.shop_text.specs.Lines.{tokens_of};
-ghost use Rattle.shop_text.specs.Schedules.{is_label, starts_of_tokens, row_in};
-ghost use Rattle.shop_text.specs.inner.LineReading.{number_in};
-ghost use Rattle.shop_text.specs.inner.ScheduleReading.{FollowsJob, IsStartOf, row_read};
+ghost use Rattle.std.specs.{Prelude.{◌≡◌, ◌≤◌, ℕ, List, ◌∷◌, codes, IfOk}, Str.bytes_eq};
+ghost use Rattle.shop_text.specs.{Lines.tokens_of, Schedules.{is_label, starts_of_tokens, row_in}};
+ghost use Rattle.shop_text.specs.{inner.LineReading.number_in, inner.ScheduleReading.{FollowsJob, IsStartOf, row_read}};
 
 use crate::lines::{next_number, next_token, number_of};
 use shop_model::{Instance, MAX_JOBS, MAX_START};

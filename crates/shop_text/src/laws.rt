@@ -1,9 +1,6 @@
 // Laws of instance texts, stated on their definitions alone.
-ghost use Rattle.shop_text.specs.Formats.{grammar_of};
-ghost use Rattle.shop_text.specs.Names.{FaultIsAnswered};
-ghost use Rattle.shop_text.specs.Shapes.{OrlibShape, RoutesShape, TaillardShape};
-ghost use Rattle.shop_text.specs.Texts.{OneReading, SomeReading};
-ghost use Rattle.shop_text.specs.declared.formats.Format.{Format};
+ghost use Rattle.shop_text.specs.{Formats.grammar_of, Names.FaultIsAnswered, Texts.{OneReading, SomeReading}};
+ghost use Rattle.shop_text.specs.{Shapes.{OrlibShape, RoutesShape, TaillardShape}, declared.formats.Format.Format};
 
 /// No text has two readings: not two lists of instances, nor two faults, nor a list and a fault.
 pub fn one_reading()

@@ -1,7 +1,7 @@
 // The lines of a text, and the tokens and numbers of a line.
 ghost use Rattle.std.specs.Prelude.{◌≡◌, ◌<◌, ◌∷◌, [], not, length, position, MatchOption};
-ghost use Rattle.shop_text.specs.Lines.{lines_of, tokens_of, is_line_feed, is_separator, is_number, value_of};
-ghost use Rattle.shop_text.specs.inner.LineReading.{capped, number_in, AreLeadingDigits, IsNumberCut};
+ghost use Rattle.shop_text.specs.Lines.{lines_of, tokens_of, is_line_feed, is_separator};
+ghost use Rattle.shop_text.specs.inner.LineReading.{number_in, AreLeadingDigits, IsNumberCut};
 
 /// Finds the first line end; `None` if there is none.
 fn line_end(text: &[u8]) -> Option<usize>
@@ -59,31 +59,11 @@ pub(crate) fn next_token(line: &[u8]) -> Option<(&[u8], &[u8])>
     }
 }
 
-/// Tells whether `token` has decimal digits alone.
-fn has_digits_alone(token: &[u8]) -> bool
-    ensures { result ≡ is_number token.now }
-{
-    token.iter().all(|b| b.is_ascii_digit())
-}
-
-/// Answers the decimal value of the digits of `token`, or `u64::MAX` if that is less.
-fn capped_value(token: &[u8]) -> u64
-    ensures { result ≡ capped (value_of token.now) }
-{
-    let mut value: u64 = 0;
-    for b in token {
-        value = value
-            .saturating_mul(10)
-            .saturating_add(u64::from(b.saturating_sub(48)));
-    }
-    value
-}
-
 /// The most digits whose value is sure to be below 2^64.
 const SAFE_DIGITS: usize = 19;
 
-/// Answers the value of the digits at the front of `text`, of up to 19, and their number. Looks at each byte once, and
-/// no sum can overflow.
+/// Answers the value of the digits at the front of `text`, or `u64::MAX` if that is less, and their number. Looks at
+/// each byte once, and sums the first 19 digits without a test of overflow.
 fn leading_digits(text: &[u8]) -> (u64, usize)
     ensures { AreLeadingDigits text.now result.0 result.1 }
 {
@@ -96,27 +76,32 @@ fn leading_digits(text: &[u8]) -> (u64, usize)
         }
         value = 10 * value + u64::from(b - b'0');
     }
-    (value, most)
+    for i in most..text.len() {
+        let digit = text[i];
+        if !digit.is_ascii_digit() {
+            return (value, i);
+        }
+        value = value
+            .saturating_mul(10)
+            .saturating_add(u64::from(digit - b'0'));
+    }
+    (value, text.len())
 }
 
-/// Answers the value of `token`, or `u64::MAX` if that is less; `None` if it is no number. Only a token of more than 19
-/// digits is gone through again.
+/// Answers the value of `token`, or `u64::MAX` if that is less; `None` if it is no number.
 pub(crate) fn number_of(token: &[u8]) -> Option<u64>
     ensures { result ≡ number_in token.now }
 {
     let (value, digits) = leading_digits(token);
     if digits == token.len() {
         Some(value)
-    } else if digits == SAFE_DIGITS && has_digits_alone(token) {
-        Some(capped_value(token))
     } else {
         None
     }
 }
 
 /// Reads the first token of a line: answers its value, or `None` if it is no number, and what follows the separator
-/// after it. Answers `None` alone if the line is blank. Reads a number of at most 19 digits, and finds its end, in one
-/// pass.
+/// after it. Answers `None` alone if the line is blank. Reads a number, and finds its end, in one pass.
 pub(crate) fn next_number(line: &[u8]) -> Option<(Option<u64>, &[u8])>
     ensures cut { MatchOption result (tokens_of line.now ≡ []) (λ t. IsNumberCut line.now t.0 t.1.now) }
     ensures shorter { MatchOption result (Unit {0}) (λ t. length t.1.now < length line.now) }

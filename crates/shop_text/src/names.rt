@@ -1,6 +1,5 @@
 // Named instances, and the choice of one of them.
-ghost use Rattle.std.specs.Prelude.{◌<◌, length};
-ghost use Rattle.std.specs.Option.{option_copied};
+ghost use Rattle.std.specs.{Prelude.{◌<◌, length}, Option.option_copied};
 ghost use Rattle.shop_text.specs.Names.{IsPick};
 
 use crate::faults::ReadFault;

@@ -2,8 +2,7 @@
 ghost use Rattle.std.specs.Prelude.{◌≡◌, ◌∷◌, [], IfOk, codes, decimal};
 ghost use Rattle.shop_model.specs.Checking.{HasShape};
 ghost use Rattle.shop_text.specs.Writing.{number_line, status_word, answer_lines, job_line, job_lines, report_text};
-ghost use Rattle.shop_text.specs.inner.Printing.{AddsLine, AddsLines};
-ghost use Rattle.shop_text.specs.Reports.{reported};
+ghost use Rattle.shop_text.specs.{inner.Printing.{AddsLine, AddsLines}, Reports.reported};
 
 use crate::reports::Report;
 use shop_model::Table;

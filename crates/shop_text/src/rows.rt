@@ -1,24 +1,25 @@
 // The number lines of a part: size lines and rows.
-ghost use Rattle.std.specs.Prelude.{◌≡◌, ◌*◌, ◌%◌, ◌≤◌, ◌↔◌, IsTrue, nat_le, All, IfOk, length};
-ghost use Rattle.std.specs.List.{list_all};
-ghost use Rattle.shop_model.specs.Given.{job_as_given};
-ghost use Rattle.shop_model.specs.Limits.{IsJobWithin, IsRouteWithin};
-ghost use Rattle.shop_text.specs.Formats.{pairs_fault, pairs_of, orlib_fault, routes_fault};
-ghost use Rattle.shop_text.specs.Formats.{orlib_job, routes_job, taillard_job};
-ghost use Rattle.shop_text.specs.inner.LineReading.{JudgesRow, IsSizeIn, size_line_fault};
-ghost use Rattle.shop_text.specs.Shapes.{IsSize};
-ghost use Rattle.shop_text.specs.inner.LineReading.{times_row_fault, machines_row_fault};
+ghost use Rattle.std.specs.{Prelude.{◌≡◌, ◌*◌, ◌%◌, ◌≤◌, ◌↔◌, [], IsTrue, nat_le, All, IfOk, length}, List.list_all};
+ghost use Rattle.shop_model.specs.{Given.job_as_given, Limits.{IsJobWithin, IsRouteWithin}};
+ghost use Rattle.shop_text.specs.Formats.{pairs_fault, pairs_of, orlib_fault, routes_fault, orlib_job, routes_job};
+ghost use Rattle.shop_text.specs.{Formats.{taillard_job, grammar_of}, Shapes.IsSize};
+ghost use Rattle.shop_text.specs.inner.LineReading.{JudgesRow, IsSizeIn, times_row_fault, machines_row_fault};
 
 use crate::faults::ReadFault;
+use crate::formats::Format;
 use shop_model::{Job, MAX_JOBS, MAX_MACHINES, MAX_STEPS, MAX_TIME, Op};
 use std::alloc::Global;
 
-/// Reads the numbers of jobs and machines from a size line of two to `most` numbers. Fails with `BadShape` if it has
-/// others, or with `BadSize` if jobs or machines are outside the limits.
-pub(crate) fn size_of(most: usize, line: usize, row: &[u64]) -> Result<(usize, usize), ReadFault>
-    ensures judged { JudgesRow result line (size_line_fault most row.now) (IsSizeIn row.now) }
+/// Reads the numbers of jobs and machines from a size line, which has two numbers, in `taillard` up to six. Fails with
+/// `BadShape` if it has more or fewer, or with `BadSize` if jobs or machines are outside the limits.
+pub(crate) fn size_of(format: Format, line: usize, row: &[u64]) -> Result<(usize, usize), ReadFault>
+    ensures judged { JudgesRow result line ((grammar_of format).refuses [] row.now) (IsSizeIn row.now) }
     ensures within { IfOk result (λ size. IsSize size.0 size.1) }
 {
+    let most = match format {
+        Format::Orlib | Format::Routes => 2,
+        Format::Taillard => 6,
+    };
     if row.len() < 2 || most < row.len() {
         return Err(ReadFault::BadShape { line });
     }

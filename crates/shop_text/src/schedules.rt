@@ -1,7 +1,6 @@
 // Reads the table of a schedule text.
 ghost use Rattle.std.specs.Prelude.{◌≤◌, length};
-ghost use Rattle.shop_text.specs.Schedules.{IsTableRead};
-ghost use Rattle.shop_text.specs.inner.ScheduleReading.{AreRowsRead};
+ghost use Rattle.shop_text.specs.{Schedules.IsTableRead, inner.ScheduleReading.AreRowsRead};
 
 use crate::faults::ReadFault;
 use crate::job_lines::{after_job, row_behind};

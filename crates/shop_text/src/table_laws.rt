@@ -1,9 +1,7 @@
 // Laws of schedule texts and of what is printed, stated on their definitions alone.
 ghost use Rattle.shop_model.specs.Shop.{Shop};
-ghost use Rattle.shop_text.specs.Formats.{grammar_of};
-ghost use Rattle.shop_text.specs.Schedules.{OneTable, SomeTable, TableFaultIsAnswered};
-ghost use Rattle.shop_text.specs.Writing.{ShowsTheJob};
-ghost use Rattle.shop_text.specs.RoundTrip.{ReportsAreSchedules, NamesAreVisible};
+ghost use Rattle.shop_text.specs.{Formats.grammar_of, Schedules.{OneTable, SomeTable, TableFaultIsAnswered}};
+ghost use Rattle.shop_text.specs.{Writing.ShowsTheJob, RoundTrip.{ReportsAreSchedules, NamesAreVisible}};
 ghost use Rattle.shop_text.specs.declared.formats.Format.{Format};
 
 /// No schedule text has two readings for one instance: not two tables, nor two faults, nor a table and a fault.

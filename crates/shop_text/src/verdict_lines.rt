@@ -1,7 +1,6 @@
 // The lines of lists and of verdicts.
 ghost use Rattle.std.specs.Prelude.{◌≡◌, IfOk, string_bytes};
-ghost use Rattle.shop_text.specs.Writing.{instance_line, list_text, verdict_text};
-ghost use Rattle.shop_text.specs.inner.Printing.{AddsLine};
+ghost use Rattle.shop_text.specs.{Writing.{instance_line, list_text, verdict_text}, inner.Printing.AddsLine};
 ghost use Rattle.shop_text.specs.Names.{shop_of_named, shops_of};
 
 use crate::names::Named;

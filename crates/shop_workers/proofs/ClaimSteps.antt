@@ -1,19 +1,14 @@
 -- A claim is one swap of a flag, which keeps a board lawful.
-use Rattle.std.proofs.Common.{◌≡◌, ◌≢◌, ◌⊎◌, ℕ, ◌<◌, List, [], length, set, Bool, true, false, refl, sym}
-use Rattle.std.proofs.Common.{subst, ⊎_elim, arith}
-use Rattle.std.proofs.lemmas.List.{length-set, get_or-set_same, get_or-set_other}
+use Rattle.std.proofs.Common.{◌≡◌, ◌≢◌, ◌⊎◌, ℕ, ◌<◌, List, [], length, set, Bool, true, false, refl, sym, subst, ⊎_elim}
+use Rattle.std.proofs.{Common.arith, lemmas.List.{length-set, get_or-set_same, get_or-set_other}}
 use Rattle.std.specs.Prelude.{slice_index}
 use mathlib.Core.Option.{none}
 use native.Mathlib.Decide.{ℕ_discrete}
 use Rattle.atomic_table.specs.Table.{step, Me, Allows, keeps}
-use Rattle.shop_workers.specs.declared.views.View.{View}
-use Rattle.shop_workers.specs.Views.{has}
-use Rattle.shop_workers.specs.Moments.{hit_word, IsLive, IsClaimed, Knows, IsLawful}
-use Rattle.shop_workers.specs.Moves.{with_mine, with_seen, IsTold}
-use Rattle.shop_workers.specs.inner.Steps.{Claims}
+use Rattle.shop_workers.specs.{declared.views.View.View, Views.has, Moves.{with_mine, with_seen, IsTold}}
+use Rattle.shop_workers.specs.{Moments.{hit_word, IsLive, IsClaimed, Knows, IsLawful}, inner.Steps.Claims}
 use Rattle.shop_workers.specs.Winners.{IsDecided}
-use Rattle.shop_workers.proofs.Numbers.{has_cons, has_head, has_tail, has_same, is_false, once_cons}
-use Rattle.shop_workers.proofs.Words.{same_word}
+use Rattle.shop_workers.proofs.{Numbers.{has_cons, has_head, has_tail, has_same, is_false, once_cons}, Words.same_word}
 use Rattle.shop_workers.proofs.LawfulSteps.{Moment, Risen, Step, still_knows, stepped_lawful, quiet}
 
 module _ (hits : List Bool) (s : Moment) (id : ℕ) (v : View) (i : ℕ) (law : IsLawful hits s) (at : IsLive s.views id v)

@@ -1,17 +1,14 @@
 -- What the hit word is in the end, where one seat has won all pieces and marked those that it had to.
 use Rattle.std.proofs.Common.{◌≡◌, ℕ, ◌<◌, List, [], ◌∷◌, length, Bool, true, false, sym, subst, ⊎_elim, eqb, arith}
+use Rattle.std.proofs.{lemmas.Bool.{both_ways, cases_Bool}, lemmas.Map.Steps.length-le_from_distinct_below}
 use Rattle.std.specs.List.{IsDistinct, AllByRecursion}
-use Rattle.std.proofs.lemmas.Bool.{both_ways, cases_Bool}
-use Rattle.std.proofs.lemmas.Map.Steps.{length-le_from_distinct_below}
 use mathlib.Core.Option.{some}
 use lib.ListN.{get_elem?}
-use Rattle.shop_workers.specs.declared.views.View.{View}
-use Rattle.shop_workers.specs.Views.{has, once, HasServed, ArePieces, HasAll, HasAsMany}
-use Rattle.shop_runs.specs.Hits.{is_hit_in, IsLeastHit}
+use Rattle.shop_workers.specs.{declared.views.View.View, Views.{has, once, HasServed, ArePieces, HasAll, HasAsMany}}
 use Rattle.shop_workers.specs.Moments.{hit_word, IsLive, IsLawful}
+use Rattle.shop_runs.specs.Hits.{is_hit_in, IsLeastHit}
 use Rattle.shop_workers.proofs.Numbers.{has_cons, has_tail, is_false, once_first, once_others, once_cons}
-use Rattle.shop_workers.proofs.Words.{word_read}
-use Rattle.shop_workers.proofs.LawfulSteps.{Moment}
+use Rattle.shop_workers.proofs.{Words.word_read, LawfulSteps.Moment}
 
 differs : (x : ℕ) (xs : List ℕ) → (has xs x ≡ true → ⊥) → AllByRecursion (λ y. eqb x y ≡ false) xs
 differs x [] none = tt

@@ -7,14 +7,10 @@ use lib.ListN.{get_elem?}
 use Rattle.std.specs.Prelude.{slice_index}
 use Rattle.atomic_table.specs.Table.{step, Me, Allows, Joins, keeps}
 use Rattle.atomic_table.proofs.Lists.{at_set, set_else}
-use Rattle.shop_workers.specs.declared.views.View.{View}
-use Rattle.shop_workers.specs.Views.{has}
-use Rattle.shop_runs.specs.Hits.{IsHitOrEnd}
+use Rattle.shop_workers.specs.{declared.views.View.View, Views.has, Moves.joined, inner.Steps.{spent, Recalls}}
 use Rattle.shop_workers.specs.Moments.{hit_word, IsLive, Somebody, Knows, IsLawful}
-use Rattle.shop_workers.specs.Moves.{joined}
-use Rattle.shop_workers.specs.inner.Steps.{spent, Recalls}
-use Rattle.shop_workers.proofs.Numbers.{has_append, has_left, has_right, once_append}
-use Rattle.shop_workers.proofs.Words.{same_word}
+use Rattle.shop_runs.specs.Hits.{IsHitOrEnd}
+use Rattle.shop_workers.proofs.{Numbers.{has_append, has_left, has_right, once_append}, Words.same_word}
 use Rattle.shop_workers.proofs.LawfulSteps.{Moment, Step, view_here, stepped_lawful, quiet}
 
 -- the least of two numbers is one of them

@@ -8,10 +8,9 @@ use native.Mathlib.Decide.{ℕ_discrete}
 use lib.ListN.{get_elem?}
 use Rattle.atomic_table.specs.Table.{State}
 use Rattle.atomic_table.proofs.Lists.{at_set, set_else}
-use Rattle.shop_workers.specs.declared.views.View.{View}
-use Rattle.shop_workers.specs.Views.{has}
-use Rattle.shop_runs.specs.Hits.{IsHitOrEnd}
+use Rattle.shop_workers.specs.{declared.views.View.View, Views.has}
 use Rattle.shop_workers.specs.Moments.{hit_word, IsLive, Somebody, IsClaimed, Knows, IsLawful}
+use Rattle.shop_runs.specs.Hits.{IsHitOrEnd}
 
 -- the state's type, at a board
 abbrev pub Moment : Type 0

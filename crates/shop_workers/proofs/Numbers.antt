@@ -1,8 +1,7 @@
 -- Lists of numbers: which stand in them, and that none stands twice.
-use Rattle.std.proofs.Common.{◌≡◌, ◌⊎◌, ℕ, List, [], ◌∷◌, ◌++◌, Bool, true, false, ◌||◌, ◌&&◌, not, arith}
-use Rattle.std.proofs.Common.{true≢false, refl, sym, ap, ◌∙◌, subst, ⊎_elim, eqb, eq-eqb, ne_eqb}
-use Rattle.std.proofs.lemmas.Bool.{both_ways, not-true, or_cases}
-use Rattle.std.proofs.lemmas.List.Folds.{list_any-append}
+use Rattle.std.proofs.Common.{◌≡◌, ◌⊎◌, ℕ, List, [], ◌∷◌, ◌++◌, Bool, true, false, ◌||◌, ◌&&◌, not, arith, true≢false}
+use Rattle.std.proofs.Common.{refl, sym, ap, ◌∙◌, subst, ⊎_elim, eqb, eq-eqb, ne_eqb}
+use Rattle.std.proofs.{lemmas.Bool.{both_ways, not-true, or_cases}, lemmas.List.Folds.list_any-append}
 use native.Mathlib.Decide.{ℕ_discrete}
 use Rattle.shop_workers.specs.Views.{has, once}
 

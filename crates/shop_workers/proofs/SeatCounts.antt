@@ -5,12 +5,9 @@ use Rattle.std.specs.Prelude.{slice_index}
 use mathlib.Core.Option.{some-ne-none, some-injective}
 use Rattle.atomic_table.specs.Table.{Splits, opening}
 use Rattle.atomic_table.proofs.Lists.{at_snoc, set_again, at_longer}
-use Rattle.shop_workers.specs.declared.views.View.{View}
-use Rattle.shop_workers.specs.Views.{has}
+use Rattle.shop_workers.specs.{declared.views.View.View, Views.has, Moves.{newcomer, empty_handed}}
 use Rattle.shop_workers.specs.Moments.{hit_word, IsLive, Somebody, Knows, IsLawful}
-use Rattle.shop_workers.specs.Moves.{newcomer, empty_handed}
-use Rattle.shop_workers.proofs.Words.{zeros_length, zeros_at, zeros_end}
-use Rattle.shop_workers.proofs.LawfulSteps.{Moment}
+use Rattle.shop_workers.proofs.{Words.{zeros_length, zeros_at, zeros_end}, LawfulSteps.Moment}
 
 nothing : (n : ℕ) → has [] n ≡ true → ⊥
 nothing n m = true≢false (sym m)

@@ -1,12 +1,8 @@
 -- The entries of a worker that takes pieces from a pool, after one more.
 use Rattle.std.proofs.Common.{◌≡◌, ℕ, ◌<◌, ◌≤◌, List, [], ◌∷◌, ◌++◌, length, get_or, true, sym, subst, arith}
-use Rattle.std.proofs.lemmas.List.Elements.{All-push, All-weaker, All-get_or}
-use Rattle.std.proofs.lemmas.List.Quantifiers.{all_pairs_push}
-use Rattle.std.specs.Prelude.{All}
-use Rattle.std.specs.List.{AllPairs}
-use Rattle.shop_runs.specs.Round.{Told}
-use Rattle.shop_runs.specs.Crews.{IsEntryOf}
-use Rattle.shop_runs.specs.Entries.{told, number_of, is_hit}
+use Rattle.std.proofs.{lemmas.List.Elements.{All-push, All-weaker, All-get_or}, lemmas.List.Quantifiers.all_pairs_push}
+use Rattle.std.specs.{Prelude.All, List.AllPairs}
+use Rattle.shop_runs.specs.{Round.Told, Crews.IsEntryOf, Entries.{told, number_of, is_hit}}
 use Rattle.shop_runs.specs.declared.entries.Entry.{Entry}
 use Rattle.shop_workers.specs.Entries.{OfRound, IsPassed, LetsPass}
 

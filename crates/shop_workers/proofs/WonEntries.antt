@@ -1,21 +1,13 @@
 -- The entries of a seat after one more turn, and what they say of all that it won.
-use Rattle.std.proofs.Common.{◌≡◌, ℕ, ◌+◌, ◌<◌, List, [], ◌∷◌, ◌++◌, length, reverse, get_or}
-use Rattle.std.proofs.Common.{sym, ap, ◌∙◌, subst, length-append, arith}
-use Rattle.std.proofs.lemmas.List.Quantifiers.{all_pairs_push}
-use Rattle.std.proofs.Math.ListN.{get_or-append}
-use Rattle.std.proofs.Math.Seq.{get_or-append_seam}
-use Rattle.std.proofs.lemmas.List.{reverse-append, map-append}
+use Rattle.std.proofs.Common.{◌≡◌, ℕ, ◌+◌, ◌<◌, List, [], ◌∷◌, ◌++◌, length, reverse, get_or, sym, ap, ◌∙◌, subst}
+use Rattle.std.proofs.{Common.{length-append, arith}, lemmas.List.Quantifiers.all_pairs_push, Math.ListN.get_or-append}
+use Rattle.std.proofs.{Math.Seq.get_or-append_seam, lemmas.List.{reverse-append, map-append}}
 use Rattle.std.proofs.lemmas.List.Elements.{All-push, All-weaker, All-get_or}
-use Rattle.std.specs.Prelude.{All}
-use Rattle.std.specs.List.Sorted.{IsStrictlyIncreasing}
+use Rattle.std.specs.{Prelude.All, List.Sorted.IsStrictlyIncreasing}
 use native.Mathlib.Decide.{ℕ_discrete}
-use Rattle.shop_runs.specs.Round.{Told}
-use Rattle.shop_runs.specs.Entries.{told, number_of}
-use Rattle.shop_runs.specs.declared.entries.Entry.{Entry}
-use Rattle.shop_workers.specs.declared.views.View.{View}
+use Rattle.shop_runs.specs.{Round.Told, Entries.{told, number_of}, declared.entries.Entry.Entry}
+use Rattle.shop_workers.specs.{declared.views.View.View, Entries.LetsPass, inner.Turns.{IsServedEntry, IsAhead}}
 use Rattle.shop_workers.specs.Works.{Grows, IsKnown, IsAllKnown, numbers_of, IsServed, AreWon}
-use Rattle.shop_workers.specs.Entries.{LetsPass}
-use Rattle.shop_workers.specs.inner.Turns.{IsServedEntry, IsAhead}
 
 -- a number above all others, at the end of numbers that rise
 rises_push : (xs : List ℕ) (n : ℕ) → IsStrictlyIncreasing xs → All (λ x. x < n) xs → IsStrictlyIncreasing (xs ++ n ∷ [])

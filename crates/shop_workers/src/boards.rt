@@ -44,12 +44,9 @@ fn first_words(alloc: Global, pieces: usize) -> Result<Vec<u64>, NoMemory>
 impl<'r> Board<'r> {
     ghost use Rattle.std.specs.Prelude.{◌<◌};
     ghost use Rattle.shop_runs.specs.Hits.{hits_of_round, is_hit_in, IsHitOrEnd, IsLeastHit};
-    ghost use Rattle.shop_workers.specs.Views.{has, HasServed, HasAll};
-    ghost use Rattle.shop_workers.specs.Moves.{newcomer, empty_handed, joined, HaveWonApart};
-    ghost use Rattle.shop_workers.specs.Moves.{KeepsServed};
-    ghost use Rattle.shop_workers.specs.Moves.{IsTold, with_low, IsAtMostMarked, HasMarked};
-    ghost use Rattle.shop_workers.specs.Seats.{knows, hits_of, IsSeatOf};
-    ghost use Rattle.shop_workers.specs.Winners.{IsDecided};
+    ghost use Rattle.shop_workers.specs.{Views.{has, HasServed, HasAll}, Moves.{with_low, IsAtMostMarked, HasMarked}};
+    ghost use Rattle.shop_workers.specs.Moves.{newcomer, empty_handed, joined, HaveWonApart, KeepsServed, IsTold};
+    ghost use Rattle.shop_workers.specs.{Seats.{knows, hits_of, IsSeatOf}, Winners.IsDecided};
 
     /// Makes the board of `round`, with no piece claimed or marked, and its first seat. Fails with `NoMemory` if memory
     /// runs out. No other call of a board takes memory.

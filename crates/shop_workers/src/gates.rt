@@ -1,7 +1,6 @@
 // Gates: hooks that workers call before they search a piece, on a board or from a pool.
 ghost use Rattle.std.specs.Prelude.{◌≡◌, true};
-ghost use Rattle.shop_workers.specs.Views.{has};
-ghost use Rattle.shop_workers.specs.Seats.{knows};
+ghost use Rattle.shop_workers.specs.{Views.has, Seats.knows};
 
 use crate::boards::Seat;
 

@@ -1,9 +1,6 @@
 // A worker that takes piece numbers from a locked pool and searches these pieces.
-ghost use Rattle.std.specs.Prelude.{◌≡◌, ◌<◌, ◌≤◌, length, true, IfSome, IfOk, OnOk};
-ghost use Rattle.std.specs.List.{AllPairs};
-ghost use Rattle.shop_runs.specs.Entries.{told, is_hit};
-ghost use Rattle.shop_runs.specs.Crews.{IsEntryOf};
-ghost use Rattle.shop_runs.specs.Hits.{hits_of_round, IsHitOrEnd};
+ghost use Rattle.std.specs.{Prelude.{◌≡◌, ◌<◌, ◌≤◌, length, true, IfOk, OnOk}, List.AllPairs};
+ghost use Rattle.shop_runs.specs.{Entries.{told, is_hit}, Crews.IsEntryOf, Hits.{hits_of_round, IsHitOrEnd}};
 ghost use Rattle.shop_workers.specs.Entries.{OfRound, IsPassed, LetsPass};
 
 use crate::gates::Gate;
@@ -44,14 +41,6 @@ fn search_or_pass<'r, P: PieceSearch<'r>, G: Gate>(
     Ok(Entry::done(round, sheet))
 }
 
-/// Takes the next number from `pool`, or answers `None` if the pool is empty or the number isn't below `pieces`.
-fn next_piece<R: Wait>(rt: &R, pool: &Mutex<Pool>, pieces: usize) -> Option<usize>
-    ensures { IfSome result (λ n. n < pieces) }
-{
-    let number = pool.lock(rt).take()?;
-    if number < pieces { Some(number) } else { None }
-}
-
 /// Searches the pieces whose numbers worker `worker` takes from `pool`, and answers their entries. Once one's makespan
 /// equals the opening bound, passes the worker's pieces of higher numbers. Fails with `NoMemory` if memory runs out.
 pub fn serve<'r, P: PieceSearch<'r>, R: Wait, G: Gate>(
@@ -70,9 +59,12 @@ pub fn serve<'r, P: PieceSearch<'r>, R: Wait, G: Gate>(
     let pieces = round.pieces.len();
     let mut low = pieces;
     for _ in rt.forever() {
-        let Some(number) = next_piece(rt, pool, pieces) else {
+        let Some(number) = pool.lock(rt).take() else {
             break;
         };
+        if number >= pieces {
+            break;
+        }
         let entry = search_or_pass(alloc, &mut searcher, &mut low, number, worker, gate)?;
         entries.push(entry)?;
     }

@@ -1,10 +1,7 @@
 // Puts the entries that workers brought into the order of their pieces, and searches the pieces without an entry.
-ghost use Rattle.std.specs.Prelude.{◌≡◌, ◌<◌, length, All, IfOk, IsOk, OnOk, IfSome, None};
-ghost use Rattle.std.specs.Prelude.{slice_set, slice_index_or, vec_len};
-ghost use Rattle.shop_runs.specs.Entries.{told};
-ghost use Rattle.shop_runs.specs.Crews.{OneForEach, IsEntryOf};
-ghost use Rattle.shop_workers.specs.Entries.{OfRound};
-ghost use Rattle.shop_workers.specs.inner.Gathered.{AllOfRound, Placed, Fills, StayFilled, AreKept};
+ghost use Rattle.std.specs.Prelude.{◌≡◌, ◌<◌, length, All, IfOk, IsOk, OnOk, IfSome, vec_len};
+ghost use Rattle.shop_runs.specs.{Entries.told, Crews.{OneForEach, IsEntryOf}};
+ghost use Rattle.shop_workers.specs.{Entries.OfRound, inner.Gathered.{AllOfRound, Placed, Fills, StayFilled, AreKept}};
 
 use shop_runs::{Entry, PieceSearch, Round};
 use std::alloc::{AllocError as NoMemory, Global};
@@ -54,15 +51,6 @@ pub fn place<'r>(
     }
 }
 
-/// Takes the entry, if any, out of place `number` of `slots`, and leaves the place empty.
-fn take<'r>(slots: &mut Vec<Option<Entry<'r>>>, number: usize) -> Option<Entry<'r>>
-    requires { number < vec_len slots.old }
-    ensures after { slots.new.items ≡ slice_set slots.old.items number None }
-    ensures value { result ≡ slice_index_or slots.old.items number None }
-{
-    slots[number].take()
-}
-
 /// Answers the entry that a worker brought for piece `number`, or searches the piece if `brought` is `None`.
 fn or_search<'r, P: PieceSearch<'r>>(
     alloc: Global,
@@ -100,7 +88,7 @@ pub fn complete<'r, P: PieceSearch<'r>>(
     let mut searcher = P::over(round);
     let mut entries = Vec::with_capacity(alloc, slots.len())?;
     for number in 0..slots.len() {
-        let brought = take(&mut slots, number);
+        let brought = slots[number].take();
         entries.push(or_search(alloc, &mut searcher, number, brought)?)?;
     }
     Ok(entries)

@@ -1,6 +1,5 @@
 // A law of seats, for callers with proofs of their own. It costs nothing at run time.
-ghost use Rattle.shop_workers.specs.Seats.{knows};
-ghost use Rattle.shop_workers.specs.Views.{HasAll, HasAsMany};
+ghost use Rattle.shop_workers.specs.{Seats.knows, Views.{HasAll, HasAsMany}};
 
 use crate::boards::Seat;
 

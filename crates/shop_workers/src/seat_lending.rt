@@ -1,13 +1,8 @@
 // Lends the seats of a board to workers, and completes the entries that the workers bring back.
-ghost use Rattle.std.specs.Prelude.{◌≡◌, ◌<◌, length, vec_len, All, IfOk, IsOk, OnOk, IfSome, IfNone};
-ghost use Rattle.shop_runs.specs.Entries.{told};
-ghost use Rattle.shop_runs.specs.Crews.{OneForEach};
-ghost use Rattle.shop_workers.specs.inner.Gathered.{Placed};
-ghost use Rattle.shop_workers.specs.inner.Returns.{AreReturned};
-ghost use Rattle.shop_runs.specs.Hits.{hits_of_round};
+ghost use Rattle.std.specs.Prelude.{◌≡◌, length, vec_len, All, IfOk, IsOk, OnOk, IfSome};
+ghost use Rattle.shop_runs.specs.{Entries.told, Crews.OneForEach, Hits.hits_of_round};
+ghost use Rattle.shop_workers.specs.{inner.Gathered.Placed, inner.Returns.AreReturned, inner.Turns.IsRestKnown};
 ghost use Rattle.shop_workers.specs.Seats.{knows, hits_of, IsSeatOf};
-ghost use Rattle.shop_workers.specs.Works.{Grows, IsKnown};
-ghost use Rattle.shop_workers.specs.inner.Turns.{IsRestKnown};
 
 use crate::boards::{Board, Seat};
 use crate::ordering::{complete, place, places};
@@ -79,19 +74,6 @@ fn join_all<'r>(
     Ok((joined, slots))
 }
 
-/// Claims piece `number` if `place`, the place of its entry, is empty, as no worker brought the entry.
-fn claim_missing(board: &Board, seat: &mut Seat, number: usize, place: &Option<Entry>)
-    requires seat { IsSeatOf board.now seat.old }
-    requires piece { number < length (hits_of board.now) }
-    ensures seat { IsSeatOf board.now seat.new }
-    ensures grows { Grows (knows seat.old) (knows seat.new) }
-    ensures claimed { IfNone place.now (IsKnown (knows seat.new) number) }
-{
-    if place.is_none() {
-        board.claim(seat, number);
-    }
-}
-
 /// Claims each piece whose place in `places` is empty, as no worker brought its entry.
 fn claim_rest(board: &Board, seat: &mut Seat, places: &[Option<Entry>])
     requires seat { IsSeatOf board.now seat.old }
@@ -100,7 +82,9 @@ fn claim_rest(board: &Board, seat: &mut Seat, places: &[Option<Entry>])
     ensures claimed { IsRestKnown (length places.now) (knows seat.new) places.now }
 {
     for number in 0..places.len() {
-        claim_missing(board, seat, number, &places[number]);
+        if places[number].is_none() {
+            board.claim(seat, number);
+        }
     }
 }
 

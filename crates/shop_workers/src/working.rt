@@ -1,11 +1,8 @@
 // A worker that claims pieces on a board and searches those that it wins.
 ghost use Rattle.std.specs.Prelude.{◌≡◌, ◌<◌, length, IfOk, OnOk};
-ghost use Rattle.shop_runs.specs.Entries.{told};
-ghost use Rattle.shop_runs.specs.Hits.{hits_of_round};
-ghost use Rattle.shop_workers.specs.Views.{HasServed};
-ghost use Rattle.shop_workers.specs.Seats.{knows, hits_of, IsSeatOf};
+ghost use Rattle.shop_runs.specs.{Entries.told, Hits.hits_of_round};
+ghost use Rattle.shop_workers.specs.{Views.HasServed, Seats.{knows, hits_of, IsSeatOf}, inner.Turns.TakesTurn};
 ghost use Rattle.shop_workers.specs.Works.{Grows, IsKnown, IsAllKnown, BringsWon};
-ghost use Rattle.shop_workers.specs.inner.Turns.{TakesTurn};
 
 use crate::boards::{Board, Seat};
 use crate::gates::SeatGate;

@@ -1,8 +1,8 @@
 -- What a draft holds of the number lines that a part has so far.
-use Rattle.std.specs.Prelude.{◌≡◌, ℕ, ◌≤◌, ◌<◌, Bool, false, true, ◌&&◌, nat_lt, List, [], ◌∷◌, ◌++◌, length, map, take}
+use Rattle.std.specs.Prelude.{◌≡◌, ℕ, ◌≤◌, ◌<◌, Bool, false, true, nat_lt, List, [], ◌∷◌, ◌++◌, length, map, take}
 use Rattle.std.specs.{Prelude.{Option, Some, None, Result, Ok, Err, Vec}, declared.alloc.Global.Global}
 use Rattle.shop_model.specs.{declared.ops.Job.Job, Shop.{Shop, ShopJob}, Given.{job_as_given, shop_of_jobs}}
-use Rattle.shop_text.specs.{Grammar.Row, Formats.{grammar_of, jobs_in, machines_in}, inner.Grammars.fields_of}
+use Rattle.shop_text.specs.{Grammar.Row, Formats.{grammar_of, jobs_in, machines_in}}
 use Rattle.shop_text.specs.{inner.LineReading.Fails, declared.instance_drafts.Draft.Draft}
 use Rattle.shop_text.specs.{declared.faults.ReadFault.ReadFault, declared.faults.ReadFault.TheVariants.NoMemory}
 use Rattle.shop_text.specs.declared.formats.Format.{Format}
@@ -35,7 +35,9 @@ IsDraft p draft (size ∷ rows) = HoldsRows p draft size rows
 
 -- whether the next row is one of times
 abbrev pub wants_times : Format → ℕ → ℕ → Bool
-wants_times p jobs_wanted times = (fields_of p).has_matrices && nat_lt times jobs_wanted
+wants_times Orlib jobs_wanted times = false
+wants_times Routes jobs_wanted times = false
+wants_times Taillard jobs_wanted times = nat_lt times jobs_wanted
 
 -- a job was added, and some are still to come
 pub record IsPushed (old new : Draft) (job : Job) : Type 0 where

@@ -1,14 +1,12 @@
 -- What the parts of the readers tell, in the words of the grammar.
-use Rattle.shop_text.specs.declared.seen_lines.Seen.TheVariants as seen
 use Rattle.std.specs.Prelude.{◌≡◌, ◌⊎◌, min, ℕ, ◌+◌, ◌<◌, ◌≤◌, ◌==◌, true, false, not, length, filter, take, get_or}
-use Rattle.std.specs.Prelude.{List, [], ◌∷◌, ◌++◌, map, if◌then◌else◌, Option, Some, None, Result, Ok, Err, MatchOption}
+use Rattle.std.specs.Prelude.{List, [], ◌∷◌, ◌++◌, map, if◌then◌else◌, Option, Some, None, Result, Ok, Err}
 use Rattle.std.specs.{List.enumerate_from, Char.is_ascii_digit}
-use Rattle.shop_text.specs.Lines.{Line, Blank, Numbers, Words, Numbered, is_left, line_of, lines_of, is_number}
-use Rattle.shop_text.specs.{Lines.{value_of, tokens_of}, Grammar.{LineFault, WrongShape, WrongRow, fault_at, Row}}
-use Rattle.shop_text.specs.Formats.{grammar_of, is_between, jobs_in, machines_in, size_fault, times_fault}
+use Rattle.shop_text.specs.Lines.{Numbered, is_left, line_of, lines_of, is_number}
+use Rattle.shop_text.specs.{Lines.{value_of, tokens_of}, Grammar.{LineFault, WrongRow, fault_at, Row}}
+use Rattle.shop_text.specs.Formats.{jobs_in, machines_in, times_fault}
 use Rattle.shop_text.specs.{Formats.machines_fault, declared.faults.ReadFault.ReadFault}
-use Rattle.shop_text.specs.{declared.faults.ReadFault.TheVariants.NoMemory, declared.formats.Format.Format}
-use Rattle.shop_text.specs.declared.seen_lines.Seen.{Seen}
+use Rattle.shop_text.specs.{declared.faults.ReadFault.TheVariants.NoMemory}
 
 -- a number as a reader holds it: all that is above the greatest is that
 abbrev pub capped : ℕ → ℕ
@@ -18,25 +16,16 @@ capped n = min n 18446744073709551615
 abbrev pub number_in : List ℕ → Option ℕ
 number_in token = if is_number token then Some (capped (value_of token)) else None
 
--- The digits that a text begins with, 19 at most, and their value.
+-- The digits that a text begins with, and their value as a reader holds it.
 pub record AreLeadingDigits (text : List ℕ) (value digits : ℕ) : Type 0 where
-  pub few : digits ≤ 19
   pub within : digits ≤ length text
   pub are : is_number (take digits text) ≡ true
-  pub is : value ≡ value_of (take digits text)
-  pub fits : value < 18446744073709551616
-  pub over : digits < 19 → digits < length text → is_ascii_digit (get_or text digits 0) ≡ false
+  pub is : value ≡ capped (value_of (take digits text))
+  pub over : digits < length text → is_ascii_digit (get_or text digits 0) ≡ false
 
 -- The first token of a line was cut off, and this is its number, if it is one.
 abbrev pub IsNumberCut : List ℕ → Option ℕ → List ℕ → Type 0
 IsNumberCut line number rest = (token : List ℕ) × (tokens_of line ≡ token ∷ tokens_of rest) × (number ≡ number_in token)
-
--- What was seen tells the line: its numbers, all that is above the greatest being that, and the name that it gives.
-abbrev pub Tells : Format → Seen → List ℕ → Line → Type 0
-Tells p seen.Blank numbers line = line ≡ Blank
-Tells p seen.Numbers numbers line = (row : List ℕ) × (line ≡ Numbers row) × (numbers ≡ map capped row)
-Tells p (seen.Words name) numbers line = (words : List (List ℕ)) × (line ≡ Words words)
-    × MatchOption name ((grammar_of p).header line ≡ None) (λ n. (grammar_of p).header line ≡ Some n.now)
 
 -- the numbers so far, with those of more tokens, if these are numbers
 abbrev pub with_tokens : List ℕ → List (List ℕ) → Option (List ℕ)
@@ -71,10 +60,7 @@ JudgesRow (Err e) n fault P = Fails e n fault
 abbrev pub IsSizeIn : Row → ℕ × ℕ → Type 0
 IsSizeIn row (jobs, machines) = (jobs ≡ jobs_in row) × (machines ≡ machines_in row)
 
--- why a size line is refused that may have so many numbers, a row of times, and a row of machines
-abbrev pub size_line_fault : ℕ → Row → Option LineFault
-size_line_fault most size = if is_between 2 most (length size) then size_fault size else Some WrongShape
-
+-- why a row of times and a row of machines are refused
 abbrev pub times_row_fault : ℕ → Row → Option LineFault
 times_row_fault machines row = if not (length row == machines) then Some WrongRow else times_fault row
 

@@ -1,14 +1,8 @@
-use Rattle.std.proofs.Common.{◌≡◌, arith}
-use Rattle.std.proofs.lemmas.Grind.{common_steps}
+use Rattle.std.proofs.{Common.{◌≡◌, arith}, lemmas.Grind.common_steps, lemmas.Result.{IfOk-weaker, IfErr-weaker}}
 use Rattle.std.specs.Option.{option_copied}
-use Rattle.std.proofs.lemmas.Result.{IfOk-weaker, IfErr-weaker}
-use Rattle.shop_text.specs.Names.{shop_of_named}
-use Rattle.shop_text.specs.Schedules.{IsTableFault}
-use Rattle.shop_text.specs.Texts.{OrNoMemory}
-use Rattle.shop_engine.specs.Asking.{name_in}
-use Rattle.shop_engine.specs.Checking.{schedule_in, IsVerdictOn, IsCheckOf, IsCheckFault}
-use Rattle.shop_engine.proofs.Picks.{is_asked}
-use Rattle.shop_engine.proofs.Verdicts.{checked, check_refused}
+use Rattle.shop_text.specs.{Names.shop_of_named, Schedules.IsTableFault, Texts.OrNoMemory}
+use Rattle.shop_engine.specs.{Asking.name_in, Checking.{schedule_in, IsVerdictOn, IsCheckOf, IsCheckFault}}
+use Rattle.shop_engine.proofs.{Picks.is_asked, Verdicts.{checked, check_refused}}
 use Rattle.shop_engine.proofs.checking.check_bytes.Goals as goal
 
 pub returns-clause-check : goal.returns-clause-check

@@ -1,12 +1,7 @@
 use Rattle.std.proofs.Common.{inr}
 use Rattle.std.specs.Option.{option_map}
-use Rattle.shop_engine.specs.Faults.{fault_of}
-use Rattle.shop_engine.specs.Devices.{IsWritten, IsCutOff}
-use Rattle.shop_engine.specs.Asking.{name_in}
-use Rattle.shop_engine.specs.Checking.{IsChecking}
-use Rattle.shop_engine.proofs.Picks.{is_asked_in}
-use Rattle.shop_engine.proofs.Sources.{at_err}
-use Rattle.shop_engine.proofs.Verdicts.{unread_after, faulty_after, judged}
+use Rattle.shop_engine.specs.{Faults.fault_of, Devices.{IsWritten, IsCutOff}, Asking.name_in, Checking.IsChecking}
+use Rattle.shop_engine.proofs.{Picks.is_asked_in, Sources.at_err, Verdicts.{unread_after, faulty_after, judged}}
 use Rattle.shop_engine.proofs.checking.check_text.Goals as goal
 
 pub returns-in_err-schedule : goal.returns-in_err-schedule

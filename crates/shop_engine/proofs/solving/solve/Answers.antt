@@ -1,7 +1,6 @@
 use Rattle.shop_text.specs.Names.{shop_of_named}
 use Rattle.shop_engine.specs.Asking.{name_in}
-use Rattle.shop_engine.proofs.Picks.{is_asked}
-use Rattle.shop_engine.proofs.SolvedSchedules.{passes_check}
+use Rattle.shop_engine.proofs.{Picks.is_asked, SolvedSchedules.passes_check}
 use Rattle.shop_engine.proofs.solving.solve.Goals as goal
 
 pub returns-clause-solution : goal.returns-clause-solution

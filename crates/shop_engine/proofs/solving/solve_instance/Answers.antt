@@ -1,7 +1,6 @@
 use Rattle.std.proofs.Common.{arith}
 use Rattle.shop_text.specs.Names.{shop_of_named}
-use Rattle.shop_engine.proofs.Reported.{right, determined}
-use Rattle.shop_engine.proofs.SolvedSchedules.{gives_schedule}
+use Rattle.shop_engine.proofs.{Reported.{right, determined}, SolvedSchedules.gives_schedule}
 use Rattle.shop_engine.proofs.solving.solve_instance.Goals as goal
 
 pub returns-clause-right : goal.returns-clause-right

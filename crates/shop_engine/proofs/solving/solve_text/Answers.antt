@@ -1,7 +1,5 @@
 use Rattle.std.proofs.Common.{List, ℕ, subst}
-use Rattle.shop_engine.specs.Asking.{name_in, IsAskFault}
-use Rattle.shop_engine.specs.Headline.{IsRightOf, IsDeterminedOf}
-use Rattle.shop_engine.specs.Solving.{IsSolution}
+use Rattle.shop_engine.specs.{Asking.{name_in, IsAskFault}, Headline.{IsRightOf, IsDeterminedOf}, Solving.IsSolution}
 use Rattle.shop_engine.proofs.Headline.{transferred, where_known}
 use Rattle.shop_engine.proofs.solving.solve_text.Goals as goal
 

@@ -1,8 +1,5 @@
-use Rattle.std.proofs.Common.{arith}
-use Rattle.std.proofs.Common.{◌≡◌, List, ℕ, ◌++◌, ◌-◌, length, take, drop, rules}
-use Rattle.std.proofs.Common.{take-append-drop, append_assoc}
-use Rattle.std.proofs.lemmas.List.{take_rest}
-use Rattle.std.proofs.KnownBytes.{Appends-trans}
+use Rattle.std.proofs.Common.{arith, ◌≡◌, List, ℕ, ◌++◌, ◌-◌, length, take, drop, rules, take-append-drop, append_assoc}
+use Rattle.std.proofs.{lemmas.List.take_rest, KnownBytes.Appends-trans}
 use Rattle.shop_engine.proofs.transfers.write_all.Goals as goal
 
 cut_more : (text gone rest : List ℕ) (n : ℕ) → text ≡ gone ++ rest

@@ -1,6 +1,5 @@
 use Rattle.std.proofs.Common.{codes}
-use Rattle.clap.specs.Words.{Rule, with_rule}
-use Rattle.clap.specs.declared.builder.value_parser.ValueParser.TheVariants.{Names}
+use Rattle.clap.specs.{Words.{Rule, with_rule}, declared.builder.value_parser.ValueParser.TheVariants.Names}
 use Rattle.shop_runs.specs.declared.plans.TheConstants.{MAX_ROUNDS, MAX_BUDGET, MAX_PIECE}
 use Rattle.shop_program.specs.CommandLine.{choice_rule, number_rule}
 use Rattle.shop_program.proofs.command_line.with_plan.Goals as goal

@@ -1,8 +1,7 @@
 use Rattle.std.proofs.Common.{codes}
 use Rattle.clap.specs.Words.{found_of, rows_of}
 use Rattle.shop_program.specs.CommandLine.{HasPlan}
-use Rattle.shop_program.proofs.Getters.{passed_on}
-use Rattle.shop_program.proofs.Refusals.{NoNumber, no_rounds, no_budget, no_piece}
+use Rattle.shop_program.proofs.{Getters.passed_on, Refusals.{NoNumber, no_rounds, no_budget, no_piece}}
 use Rattle.shop_program.proofs.reading_args.plan_in.Goals as goal
 
 pub returns-in_err-rounds : goal.returns-in_err-rounds

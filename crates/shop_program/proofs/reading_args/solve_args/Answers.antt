@@ -1,8 +1,7 @@
 use Rattle.std.proofs.Common.{codes}
 use Rattle.clap.specs.Words.{found_of, rows_of}
 use Rattle.shop_program.specs.CommandLine.{IsArgs}
-use Rattle.shop_program.proofs.Getters.{passed_on}
-use Rattle.shop_program.proofs.Refusals.{NoNumber, no_workers}
+use Rattle.shop_program.proofs.{Getters.passed_on, Refusals.{NoNumber, no_workers}}
 use Rattle.shop_program.proofs.reading_args.solve_args.Goals as goal
 
 pub returns-in_err-workers : goal.returns-in_err-workers

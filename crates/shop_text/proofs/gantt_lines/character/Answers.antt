@@ -1,5 +1,4 @@
-use Rattle.std.proofs.Common.{rules}
-use Rattle.std.proofs.lemmas.List.{get_or_default, get_or_past}
+use Rattle.std.proofs.{Common.rules, lemmas.List.{get_or_default, get_or_past}}
 use Rattle.shop_text.proofs.gantt_lines.character.Goals as goal
 
 pub returns-then-j-lt62 : goal.returns-then-j-lt62

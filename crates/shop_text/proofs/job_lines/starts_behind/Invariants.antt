@@ -1,8 +1,6 @@
 use Rattle.std.proofs.Common.{◌≡◌, ◌+◌, ◌≤◌, ◌++◌, length, map}
-use Rattle.std.specs.Prelude.{vec_capacity}
-use Rattle.std.specs.List.{list_all}
-use Rattle.shop_text.specs.Lines.{tokens_of, value_of}
-use Rattle.shop_text.specs.Schedules.{is_start}
+use Rattle.std.specs.{Prelude.vec_capacity, List.list_all}
+use Rattle.shop_text.specs.{Lines.{tokens_of, value_of}, Schedules.is_start}
 use Rattle.shop_text.proofs.job_lines.starts_behind.Given as goal
 
 abbrev pub invariant-loop-number : goal.invariant-loop-number

@@ -1,6 +1,5 @@
 use Rattle.shop_text.specs.Formats.{grammar_of}
-use Rattle.shop_text.proofs.ReaderTurns.{one_reading}
-use Rattle.shop_text.proofs.FaultAnswers.{answered}
+use Rattle.shop_text.proofs.{ReaderTurns.one_reading, FaultAnswers.answered}
 use Rattle.shop_text.proofs.laws.faults_are_answered.Goals as goal
 
 pub returns : goal.returns

@@ -1,6 +1,5 @@
 use Rattle.shop_text.specs.Formats.{grammar_of}
-use Rattle.shop_text.proofs.ReaderTurns.{is_grammar}
-use Rattle.shop_text.proofs.SomeReading.{some_text}
+use Rattle.shop_text.proofs.{ReaderTurns.is_grammar, SomeReading.some_text}
 use Rattle.shop_text.proofs.laws.some_reading.Goals as goal
 
 pub returns : goal.returns

@@ -1,6 +1,5 @@
 use Rattle.std.proofs.Common.{sym, arith}
-use Rattle.shop_text.proofs.LineLemmas.{no_tokens, none_left}
-use Rattle.shop_text.proofs.DigitLemmas.{cut_to_end, cut_at}
+use Rattle.shop_text.proofs.{LineLemmas.{no_tokens, none_left}, DigitLemmas.{cut_to_end, cut_at}}
 use Rattle.shop_text.proofs.lines.next_number.Goals as goal
 
 pub returns-in_default-clause-cut : goal.returns-in_default-clause-cut

@@ -1,6 +1,5 @@
 use Rattle.std.proofs.Common.{◌≡◌, ◌∙◌, ap, ◌++◌, ◌∷◌, [], List, ℕ, string_bytes, arith}
-use Rattle.std.specs.Prelude.{codes}
-use Rattle.std.specs.Fmt.{decimal}
+use Rattle.std.specs.{Prelude.codes, Fmt.decimal}
 use Rattle.shop_text.specs.Writing.{printed_line}
 use Rattle.shop_text.proofs.TextLemmas.{written, eight_more}
 use Rattle.shop_text.proofs.report_texts.write_answer.Goals as goal

@@ -1,6 +1,5 @@
 use Rattle.std.proofs.Common.{◌≡◌, ◌∷◌, ◌++◌, take, string_bytes}
-use Rattle.std.specs.Prelude.{flat_map}
-use Rattle.std.specs.Fmt.{decimal}
+use Rattle.std.specs.{Prelude.flat_map, Fmt.decimal}
 use Rattle.shop_text.proofs.report_texts.write_job.Given as goal
 
 abbrev pub invariant-loop-start : goal.invariant-loop-start

@@ -1,5 +1,4 @@
-use Rattle.std.proofs.Common.{arith}
-use Rattle.std.proofs.lemmas.Grind.{common_steps}
+use Rattle.std.proofs.{Common.arith, lemmas.Grind.common_steps}
 use Rattle.shop_text.proofs.Pairs.{pair_at, fault_on, route_on}
 use Rattle.shop_text.proofs.rows.route_of.Goals as goal
 

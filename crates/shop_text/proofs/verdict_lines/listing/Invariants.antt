@@ -1,6 +1,5 @@
 use Rattle.std.proofs.Common.{◌≡◌, take, string_bytes}
-use Rattle.shop_text.specs.Names.{shops_of}
-use Rattle.shop_text.specs.Writing.{list_text}
+use Rattle.shop_text.specs.{Names.shops_of, Writing.list_text}
 use Rattle.shop_text.proofs.verdict_lines.listing.Given as goal
 
 abbrev pub invariant-loop-one : goal.invariant-loop-one

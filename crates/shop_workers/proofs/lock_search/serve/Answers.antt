@@ -1,7 +1,5 @@
 use Rattle.std.proofs.Common.{rules, ◌≡◌, ◌∙◌, ◌≤◌, [], ◌∷◌, ◌++◌, true, subst, sym}
-use Rattle.shop_runs.specs.Entries.{told, is_hit}
-use Rattle.shop_runs.specs.Crews.{IsEntryOf}
-use Rattle.shop_runs.specs.Hits.{hits_of_round, IsHitOrEnd}
+use Rattle.shop_runs.specs.{Entries.{told, is_hit}, Crews.IsEntryOf, Hits.{hits_of_round, IsHitOrEnd}}
 use Rattle.shop_workers.proofs.TakenEntries.{AreTaken, one_taken}
 use Rattle.shop_workers.proofs.lock_search.serve.Goals as goal
 
@@ -12,7 +10,7 @@ loop-preserved g c =
     let same : searched c.loop.searcher ≡ round = c.loop.invariant.2 in
     let before = c.loop.low in
     let low = c.search_or_pass.new.low in
-    let number = c.in-Some-next_piece.number in
+    let number = c.in-Some-take.number in
     let es = c.loop.entries.items in
     let entry = c.in_ok-entry.entry in
     let is : IsEntryOf (told round) number entry =

@@ -1,6 +1,5 @@
 use Rattle.std.proofs.Common.{◌≡◌}
-use Rattle.shop_runs.specs.Entries.{told}
-use Rattle.shop_runs.specs.Hits.{hits_of_round, IsHitOrEnd}
+use Rattle.shop_runs.specs.{Entries.told, Hits.{hits_of_round, IsHitOrEnd}}
 use Rattle.shop_workers.proofs.TakenEntries.{AreTaken}
 use Rattle.shop_workers.proofs.lock_search.serve.Given as goal
 

@@ -1,8 +1,6 @@
-use Rattle.std.proofs.Common.{rules, arith, ◌≡◌, ◌∙◌, None, subst}
-use Rattle.std.proofs.lemmas.List.{length-map}
-use Rattle.std.specs.Prelude.{IfSome}
-use Rattle.shop_runs.specs.Crews.{IsEntryOf}
-use Rattle.shop_runs.specs.Entries.{told}
+use Rattle.std.proofs.{Common.{rules, arith, ◌≡◌, ◌∙◌, None, subst}, lemmas.Grind.common_steps, lemmas.List.length-map}
+use Rattle.std.specs.Prelude.{IfSome, slice_index_or}
+use Rattle.shop_runs.specs.{Crews.IsEntryOf, Entries.told}
 use Rattle.shop_workers.proofs.Places.{IsKept, placed_set, one_taken_out, one_more}
 use Rattle.shop_workers.proofs.ordering.complete.Goals as goal
 
@@ -15,8 +13,9 @@ loop-number-preserved g c =
     let number = c.loop-number.number in
     let entries = c.loop-number.entries.items in
     let entry = c.in_ok-or_search.field-0 in
+    let value : c.take-brought.result ≡ slice_index_or slots number None = grind (arith, common_steps) in
     let kept : IsKept places number entry =
-    subst (λ o. IfSome o (λ x. entry ≡ x)) (c.take-brought.ensures.value ∙ so_far.5 number (omega arith))
+    subst (λ o. IfSome o (λ x. entry ≡ x)) (value ∙ so_far.5 number (omega arith))
     c.in_ok-or_search.ensures.kept in (
       search rules,
       rw c.take-brought.ensures.after (placed_set r slots number None so_far.1 (search rules)),

@@ -1,10 +1,6 @@
-use Rattle.std.proofs.Common.{rules, ◌≡◌, ◌∙◌, [], ◌∷◌, ◌++◌}
-use Rattle.std.proofs.lemmas.List.Elements.{All-pop}
-use Rattle.std.specs.Prelude.{Ok, IsOk, IfOk}
-use Rattle.std.specs.declared.vec.Vec.{Vec}
-use Rattle.std.specs.declared.alloc.Global.{Global}
-use Rattle.shop_runs.specs.Entries.{told}
-use Rattle.shop_runs.specs.declared.entries.Entry.{Entry}
+use Rattle.std.proofs.{Common.{rules, ◌≡◌, ◌∙◌, [], ◌∷◌, ◌++◌}, lemmas.List.Elements.All-pop}
+use Rattle.std.specs.{Prelude.{Ok, IsOk, IfOk}, declared.vec.Vec.Vec, declared.alloc.Global.Global}
+use Rattle.shop_runs.specs.{Entries.told, declared.entries.Entry.Entry}
 use Rattle.shop_workers.specs.Entries.{OfRound, Brought}
 use Rattle.shop_workers.proofs.TakenLists.{through_one}
 use Rattle.shop_workers.proofs.ordering.in_order.Goals as goal

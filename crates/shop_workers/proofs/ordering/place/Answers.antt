@@ -1,5 +1,4 @@
-use Rattle.std.proofs.Common.{rules, arith}
-use Rattle.std.proofs.lemmas.Grind.{common_steps, elements}
+use Rattle.std.proofs.{Common.{rules, arith}, lemmas.Grind.{common_steps, elements}}
 use Rattle.shop_workers.proofs.ordering.place.Goals as goal
 
 pub loop-entry-preserved : goal.loop-entry-preserved

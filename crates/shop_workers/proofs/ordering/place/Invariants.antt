@@ -1,7 +1,6 @@
 use Rattle.std.proofs.Common.{◌≡◌, vec_len}
 use Rattle.shop_runs.specs.Entries.{told}
-use Rattle.shop_workers.specs.Entries.{OfRound}
-use Rattle.shop_workers.specs.inner.Gathered.{Placed, Fills, StayFilled}
+use Rattle.shop_workers.specs.{Entries.OfRound, inner.Gathered.{Placed, Fills, StayFilled}}
 use Rattle.shop_workers.proofs.TakenLists.{AreThrough}
 use Rattle.shop_workers.proofs.ordering.place.Given as goal
 

@@ -1,5 +1,4 @@
-use Rattle.shop_workers.specs.Seats.{knows, IsSeatOf}
-use Rattle.shop_workers.specs.inner.Turns.{IsRestKnown}
+use Rattle.shop_workers.specs.{Seats.{knows, IsSeatOf}, inner.Turns.IsRestKnown}
 use Rattle.shop_workers.proofs.seat_lending.claim_rest.Given as goal
 
 abbrev pub invariant-loop-number : goal.invariant-loop-number

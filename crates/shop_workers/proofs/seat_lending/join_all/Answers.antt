@@ -1,12 +1,8 @@
 use Rattle.std.proofs.Common.{rules, ◌∙◌, subst, ◌≡◌, Option, Some, [], ◌∷◌, ◌++◌, arith}
 use Rattle.std.proofs.lemmas.List.Elements.{All-pop}
-use Rattle.std.specs.Prelude.{Ok, IsOk, IfSome}
-use Rattle.std.specs.declared.vec.Vec.{Vec}
-use Rattle.std.specs.declared.alloc.Global.{Global}
-use Rattle.shop_runs.specs.Entries.{told}
-use Rattle.shop_runs.specs.declared.entries.Entry.{Entry}
-use Rattle.shop_workers.specs.inner.Returns.{IsReturned}
-use Rattle.shop_workers.specs.declared.boards.Seat.{Seat}
+use Rattle.std.specs.{Prelude.{Ok, IsOk, IfSome}, declared.vec.Vec.Vec, declared.alloc.Global.Global}
+use Rattle.shop_runs.specs.{Entries.told, declared.entries.Entry.Entry}
+use Rattle.shop_workers.specs.{inner.Returns.IsReturned, declared.boards.Seat.Seat}
 use Rattle.shop_workers.specs.declared.seat_lending.Returned.{Returned}
 use Rattle.shop_workers.proofs.TakenLists.{through_one}
 use Rattle.shop_workers.proofs.seat_lending.join_all.Goals as goal

@@ -1,6 +1,5 @@
 use Rattle.std.specs.Prelude.{All}
-use Rattle.shop_workers.specs.Seats.{IsSeatOf}
-use Rattle.shop_workers.specs.declared.seat_lending.Lent.{Lent}
+use Rattle.shop_workers.specs.{Seats.IsSeatOf, declared.seat_lending.Lent.Lent}
 use Rattle.shop_workers.proofs.seat_lending.seats_for_workers.Given as goal
 
 abbrev pub invariant-loop-worker : goal.invariant-loop-worker

@@ -1,6 +1,4 @@
-use Rattle.std.proofs.Common.{arith}
-use Rattle.std.proofs.lemmas.Bool.{eq-eqb}
-use Rattle.std.proofs.lemmas.List.{length-map}
+use Rattle.std.proofs.{Common.arith, lemmas.Bool.eq-eqb, lemmas.List.length-map}
 use Rattle.shop_runs.proofs.RoundPieces.{read_hit, same_hit}
 use Rattle.shop_workers.proofs.working.claim_and_search.Goals as goal
 

@@ -1,9 +1,7 @@
 use Rattle.std.proofs.Common.{◌+◌, ◌<◌, ap, ◌∙◌, subst, sym, Some, None, arith}
 use Rattle.std.specs.Prelude.{All}
 use Rattle.shop_runs.specs.Entries.{told}
-use Rattle.shop_workers.specs.Seats.{knows}
-use Rattle.shop_workers.specs.Works.{AreWon, numbers_of}
-use Rattle.shop_workers.specs.inner.Turns.{TakesTurn}
+use Rattle.shop_workers.specs.{Seats.knows, Works.{AreWon, numbers_of}, inner.Turns.TakesTurn}
 use Rattle.shop_workers.proofs.ServedEntries.{all_served}
 use Rattle.shop_workers.proofs.WonEntries.{grows_twice, still_won, one_won, below_next, below_push, known_next}
 use Rattle.shop_workers.proofs.working.claim_and_search_all.Goals as goal

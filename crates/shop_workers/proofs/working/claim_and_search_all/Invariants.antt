@@ -1,8 +1,7 @@
 use Rattle.std.proofs.Common.{◌<◌, ◌≡◌}
 use Rattle.std.specs.Prelude.{All}
 use Rattle.shop_runs.specs.Entries.{told}
-use Rattle.shop_workers.specs.Seats.{knows, IsSeatOf}
-use Rattle.shop_workers.specs.Works.{Grows, IsAllKnown, AreWon, numbers_of}
+use Rattle.shop_workers.specs.{Seats.{knows, IsSeatOf}, Works.{Grows, IsAllKnown, AreWon, numbers_of}}
 use Rattle.shop_workers.proofs.working.claim_and_search_all.Given as goal
 
 abbrev pub invariant-loop-number : goal.invariant-loop-number

@@ -1,7 +1,6 @@
 use Rattle.std.proofs.Common.{◌≡◌, ℕ, ◌<◌, false, get_or}
 use Rattle.std.specs.Str.{bytes_eq}
-use Rattle.shop_text.specs.Formats.{word_of}
-use Rattle.shop_text.specs.declared.formats.Format.TheVariants.{Orlib}
+use Rattle.shop_text.specs.{Formats.word_of, declared.formats.Format.TheVariants.Orlib}
 use Rattle.shop_text.proofs.formats.Format.of_word.Given as goal
 
 -- the formats before this one have other words

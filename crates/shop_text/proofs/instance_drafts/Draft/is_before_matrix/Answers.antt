@@ -1,5 +1,4 @@
-use Rattle.std.proofs.Common.{arith, vec_len}
-use Rattle.std.proofs.lemmas.Bool.{eqb-true, eqb-false}
+use Rattle.std.proofs.{Common.{arith, vec_len}, lemmas.Bool.{eqb-true, eqb-false}}
 use Rattle.shop_text.proofs.DraftLemmas.{skips_full, skips_not}
 use Rattle.shop_text.proofs.instance_drafts.Draft.is_before_matrix.Goals as goal
 

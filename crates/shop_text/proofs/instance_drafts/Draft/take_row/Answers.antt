@@ -1,5 +1,4 @@
-use Rattle.std.proofs.Common.{◌≡◌, length, vec_len, arith, refl, sym, ap, ◌∙◌}
-use Rattle.std.proofs.lemmas.Result.{err_from_is_err_and}
+use Rattle.std.proofs.{Common.{◌≡◌, length, vec_len, arith, refl, sym, ◌∙◌}, lemmas.Result.err_from_is_err_and}
 use Rattle.shop_text.proofs.DraftTurns.{size_failed, times_failed, times_accepted, job_taken}
 use Rattle.shop_text.proofs.instance_drafts.Draft.take_row.Goals as goal
 
@@ -7,8 +6,8 @@ pub returns-in_err-jobs : goal.returns-in_err-jobs
 returns-in_err-jobs c =
     let p = err_from_is_err_and c.from_residual.result c.from_residual.ensures.1
     in rw (p.1, p.2)
-    (size_failed c.args.format c.args.self.now c.grammar.result.most_in_size c.args.line c.args.row.now
-    c.in_err-jobs.field-0.0 c.if-self-eq0.true (ap (λ g. g.most_in_size) c.grammar.ensures)
+    (size_failed c.args.format c.args.self.now c.args.line c.args.row.now
+    c.in_err-jobs.field-0.0 c.if-self-eq0.true
     c.in_err-jobs.ensures.judged)
 
 pub returns-in_err-times : goal.returns-in_err-times

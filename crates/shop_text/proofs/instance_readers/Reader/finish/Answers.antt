@@ -1,5 +1,4 @@
-use Rattle.std.proofs.Common.{◌≡◌, inl, length, sym, ◌∙◌, arith, vec_len}
-use Rattle.std.proofs.lemmas.Bool.{eqb-true, eqb-false}
+use Rattle.std.proofs.{Common.{◌≡◌, inl, length, sym, ◌∙◌, arith, vec_len}, lemmas.Bool.{eqb-true, eqb-false}}
 use Rattle.shop_text.proofs.ReaderTurns.{all_read, none_read}
 use Rattle.shop_text.proofs.instance_readers.Reader.finish.Goals as goal
 

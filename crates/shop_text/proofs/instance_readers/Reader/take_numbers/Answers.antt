@@ -1,10 +1,10 @@
-use Rattle.std.proofs.Common.{◌≡◌, ◌+◌, ◌∙◌, ℕ, ap, length, refl, arith}
-use Rattle.std.specs.Fmt.{decimal}
+use Rattle.std.proofs.Common.{◌≡◌, ◌+◌, String, Global, length, refl, string_bytes, arith}
 use Rattle.std.proofs.lemmas.Result.{err_from_is_err_and}
-use Rattle.shop_text.specs.inner.InstanceReading.{name_or}
-use Rattle.shop_text.specs.declared.instance_readers.Reader.{Reader}
+use Rattle.std.specs.Fmt.{decimal}
+use Rattle.shop_text.specs.{inner.InstanceReading.name_or, declared.instance_readers.Reader.Reader}
 use Rattle.shop_text.proofs.ReaderTurns.{row_read, part_read, row_refused}
 use Rattle.shop_text.proofs.instance_readers.Reader.take_numbers.Goals as goal
+use Rattle.shop_text.proofs.instance_readers.Reader.take_numbers.Goals.{in-Some-take, in-None+in_ok-name-in-None}
 
 pub returns-in_err-instance : goal.returns-in_err-instance
 returns-in_err-instance c =
@@ -17,6 +17,7 @@ returns-in_err-instance c =
 pub returns-in_ok-push : goal.returns-in_ok-push
 returns-in_ok-push c = λ front written read numbers.
     let reader = c.args.self.now
+    in let name : String Global = c.match-take.name
     in let later : Reader =
     record {
       format = reader.format;
@@ -27,13 +28,15 @@ returns-in_ok-push c = λ front written read numbers.
     }
     in let taken = c.in_ok-instance.ensures _ written read.draft_holds numbers
     in let last = rw c.in-Some.is at taken
-    in let count : c.len.result + 1 ≡ length reader.named.items + 1 = omega (arith, reader.named.ok.0)
+    in let named : string_bytes name ≡ name_or (decimal (length reader.named.items + 1)) reader.name =
+    elim c.match-take.branch [
+      | in-Some-take w ↦ grind arith
+      | in-None+in_ok-name-in-None w ↦ grind (arith, reader.named.ok.0)
+    ]
     in (
       refl,
-      part_read reader later c.in-Some.instance c.in_ok-name.name c.args.line written front read last
-          (c.in_ok-name.ensures ∙ ap (λ o. name_or (decimal (c.len.result + 1)) o) c.take.ensures.value
-          ∙ ap (λ (n : ℕ). name_or (decimal n) reader.name) count)
-          c.in_ok-push.ensures.items c.take.ensures.after,
+      part_read reader later c.in-Some.instance name c.args.line written front read last named c.in_ok-push.ensures.items
+          c.take.ensures.after,
     )
 
 pub returns-in_default : goal.returns-in_default

@@ -1,6 +1,5 @@
 use Rattle.std.proofs.Common.{◌∙◌, Some, refl, sym}
-use Rattle.shop_text.proofs.Headers.{header_utf8}
-use Rattle.shop_text.proofs.ReaderTurns.{words_read, no_header, one_header}
+use Rattle.shop_text.proofs.{Headers.header_utf8, ReaderTurns.{words_read, no_header, one_header}}
 use Rattle.shop_text.proofs.instance_readers.Reader.take_words.Goals as goal
 
 pub returns-in_ok-from_utf8_lossy : goal.returns-in_ok-from_utf8_lossy

@@ -1,7 +1,6 @@
-use Rattle.std.proofs.Common.{arith}
-use Rattle.std.proofs.lemmas.Result.{err_from_is_err_and}
+use Rattle.std.proofs.{Common.arith, lemmas.Result.err_from_is_err_and}
 use Rattle.shop_text.proofs.Passing.{line_taken, line_refused, end_read}
-use Rattle.shop_text.proofs.instance_readers.read_text.Goals as goal
+use Rattle.shop_text.proofs.instance_readers.read.Goals as goal
 
 pub loop-rest-preserved : goal.loop-rest-preserved
 loop-rest-preserved c =

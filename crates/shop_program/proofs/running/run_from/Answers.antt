@@ -1,0 +1,15 @@
+use Rattle.std.proofs.Common.{ℕ, inr, Result}
+use Rattle.shop_engine.specs.declared.faults.Fault.{Fault}
+use Rattle.shop_engine.proofs.Sources.{at_err}
+use Rattle.shop_program.specs.Commands.{ChecksFrom}
+use Rattle.shop_program.proofs.running.run_from.Goals as goal
+
+pub returns-in_err-is_feasible-in-Check : goal.returns-in_err-is_feasible-in-Check
+returns-in_err-is_feasible-in-Check g c =
+    let e = c.in_err-is_feasible-in-Check
+    in let passed = c.from_residual-in_err-is_feasible-in-Check
+    in rw c.in-Check.is
+    (at_err (λ (r : Result ℕ Fault). ChecksFrom (g.R.Files.opens c.args.rt.now) c.in-Check.args c.in-Check.schedule
+    (g.K.Sink.device c.args.out.now) (g.K.Sink.device c.check_text.new.sink) r (g.S.Source.device c.args.source.now)
+    (g.S.Source.device c.check_text.new.source)) passed.result e.field-0.0 passed.ensures.1
+    (inr (_, _, c.in_ok-second-in-Check.ensures.opened, e.ensures)))
