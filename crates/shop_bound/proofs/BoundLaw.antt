@@ -1,28 +1,19 @@
 -- No table under a word ends before the word's lower bound.
 use Rattle.std.proofs.Common.{◌≡◌, ℕ, zero, suc, ◌+◌, ◌-◌, ◌≤◌, ◌<◌, max, ◌⊎◌, inl, inr, List, [], ◌∷◌, length, rules}
-use Rattle.std.proofs.Common.{map, drop, get_or, refl, sym, ◌∙◌, ap, arith, eqb}
+use Rattle.std.proofs.{Common.{map, drop, get_or, refl, sym, ◌∙◌, ap, arith, eqb}, lemmas.Bool.{cases_lt, eqb-true}}
+use Rattle.std.proofs.{lemmas.List.{drop_more, drop_all}, lemmas.List.Sums.sum_by-cons}
 use Rattle.std.specs.List.{AllByRecursion, filter, flat_map, sum_by, range_with_len}
-use Rattle.std.proofs.lemmas.Bool.{cases_lt, eqb-true}
-use Rattle.std.proofs.lemmas.List.{drop_more, drop_all}
-use Rattle.std.proofs.lemmas.List.Sums.{sum_by-cons}
-use Rattle.shop_model.specs.declared.ops.Op.{Op}
+use Rattle.shop_model.specs.{declared.ops.Op.Op, Shop.{finish_of, end_of, greatest_below}}
 use Rattle.shop_model.specs.Shop.{Shop, Starts, no_op, route_of, machine_of, time_of, IsOperation, IsFeasible}
-use Rattle.shop_model.specs.Shop.{finish_of, end_of, greatest_below}
 use Rattle.shop_model.specs.Word.{Placing, placing, IsWord, IsFull, IsUnder}
-use Rattle.shop_model.proofs.Greatest.{greatest_below-le, greatest_below-equal}
-use Rattle.shop_model.proofs.PlacedTables.{full_under, under_beginning}
-use Rattle.shop_model.proofs.WordLemmas.{full_is_word}
-use Rattle.shop_model.proofs.Ends.{le-end_of}
-use Rattle.shop_model.proofs.Placings.{Follows}
+use Rattle.shop_model.proofs.{Greatest.{greatest_below-le, greatest_below-equal}, WordLemmas.full_is_word}
+use Rattle.shop_model.proofs.{PlacedTables.{full_under, under_beginning}, Ends.le-end_of, Placings.Follows}
 use Rattle.shop_model.proofs.Unders.{follows_word, after_word}
-use Rattle.shop_bound.specs.declared.triples.Triple.{Triple}
-use Rattle.shop_bound.specs.OneMachine.{one, span_of, least_of}
+use Rattle.shop_bound.specs.{declared.triples.Triple.Triple, OneMachine.{one, span_of, least_of}, Laws.EndsAtItsBound}
 use Rattle.shop_bound.specs.Bound.{Waiting, waiting_from, waiting_of, waiting, triples_on, lb}
-use Rattle.shop_bound.specs.Laws.{EndsAtItsBound}
 use Rattle.shop_bound.proofs.Lists.{Pairwise, all_map, all_both, all_append, all_filter, pairwise_filter}
 use Rattle.shop_bound.proofs.Lists.{pairwise_append, all_sublist, pairwise_sublist, least_of-le, packed}
-use Rattle.shop_bound.proofs.SameSums.{mapped}
-use Rattle.shop_bound.proofs.Spans.{greatest_sublist-le}
+use Rattle.shop_bound.proofs.{SameSums.mapped, Spans.greatest_sublist-le}
 
 all_unmap : {A B : Type 0} (g : A → B) (P : B → Type 0) → (xs : List A) → AllByRecursion P (map g xs)
     → AllByRecursion (λ x. P (g x)) xs

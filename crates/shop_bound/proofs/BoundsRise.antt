@@ -1,30 +1,20 @@
 -- The bound of a word is at most the bound of the word with one more entry.
 use Rattle.std.proofs.Common.{◌≡◌, ℕ, zero, suc, ◌+◌, ◌-◌, ◌≤◌, ◌<◌, max, inl, inr, List, [], ◌∷◌, ◌++◌, length, map}
 use Rattle.std.proofs.Common.{drop, get_or, eqb, refl, sym, ◌∙◌, ap, subst, arith, append_assoc, zero-add, eq-eqb}
+use Rattle.std.proofs.{lemmas.Bool.{cases_eq, eqb-true, ne_eqb}, lemmas.Grind.flat_map-append}
+use Rattle.std.proofs.{lemmas.List.{append-nil, drop_more}, lemmas.List.Sums.sum_by-cons}
 use Rattle.std.specs.List.{AllByRecursion, filter, flat_map, range_with_len, sum_by}
-use Rattle.std.proofs.lemmas.Bool.{cases_eq, eqb-true, ne_eqb}
-use Rattle.std.proofs.lemmas.Grind.{flat_map-append}
-use Rattle.std.proofs.lemmas.List.{append-nil, drop_more}
-use Rattle.std.proofs.lemmas.List.Sums.{sum_by-cons}
-use Rattle.shop_model.specs.declared.ops.Op.{Op}
-use Rattle.shop_model.specs.Limits.{IsWithinLimits}
+use Rattle.shop_model.specs.{declared.ops.Op.Op, Limits.IsWithinLimits, Word.{Placing, IsWord, placing, place_next}}
 use Rattle.shop_model.specs.Shop.{Shop, no_op, route_of, machine_of, IsOperation, greatest_below}
-use Rattle.shop_model.specs.Word.{Placing, IsWord, placing, place_next}
-use Rattle.shop_model.proofs.Ends.{IsOperation-job}
-use Rattle.shop_model.proofs.Greatest.{le-greatest_below, greatest_below-le}
-use Rattle.shop_model.proofs.Placings.{IsNext, place_next-is, free_grows}
+use Rattle.shop_model.proofs.{Ends.IsOperation-job, Greatest.{le-greatest_below, greatest_below-le}}
+use Rattle.shop_model.proofs.{Placings.{IsNext, place_next-is, free_grows}, WordLemmas.IsWord-init}
 use Rattle.shop_model.proofs.Unders.{after_word, next_operation, placing-snoc}
-use Rattle.shop_model.proofs.WordLemmas.{IsWord-init}
-use Rattle.shop_bound.specs.declared.triples.Triple.{Triple}
+use Rattle.shop_bound.specs.{declared.triples.Triple.Triple, OneMachine.{one, span_of}}
 use Rattle.shop_bound.specs.Bound.{Waiting, waiting_from, waiting_of, waiting, triples_on, placed_end, lb}
-use Rattle.shop_bound.specs.OneMachine.{one, span_of}
-use Rattle.shop_bound.proofs.BoundLaw.{front_of}
-use Rattle.shop_bound.proofs.Entries.{IsWord-front}
-use Rattle.shop_bound.proofs.UnplacedTurns.{triples_on-append}
+use Rattle.shop_bound.proofs.{BoundLaw.front_of, Entries.IsWord-front, UnplacedTurns.triples_on-append}
 use Rattle.shop_bound.proofs.Lists.{IsSublist, skip, keep, sublist_none, all_append, all_filter}
-use Rattle.shop_bound.proofs.PlacedEnds.{le-placed_end, placed_end-grows}
+use Rattle.shop_bound.proofs.{PlacedEnds.{le-placed_end, placed_end-grows}, ThresholdLemmas.le-greatest_sublist}
 use Rattle.shop_bound.proofs.Raised.{AreRaised, WaitRaised, wait_append, raised_on, one_raised, one_taken}
-use Rattle.shop_bound.proofs.ThresholdLemmas.{le-greatest_sublist}
 
 -- a range is cut at one of its numbers
 range_cut : (a i n : ℕ) → range_with_len a (i + suc n) ≡ range_with_len a i ++ (a + i) ∷ range_with_len (a + i + 1) n

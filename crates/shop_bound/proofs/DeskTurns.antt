@@ -1,15 +1,11 @@
 -- What a desk's trail says after one more dispatch, and without the last one.
 use Rattle.std.proofs.Common.{rules, ◌≡◌, ℕ, ◌≤◌, List, [], ◌∷◌, ◌++◌, length, get_or, refl, arith, vec_capacity}
 use Rattle.std.specs.List.{fold}
-use Rattle.shop_model.specs.declared.ops.Op.{Op}
-use Rattle.shop_model.specs.Shop.{Shop, no_op, route_of}
+use Rattle.shop_model.specs.{declared.ops.Op.Op, Shop.{Shop, no_op, route_of}, Placements.{PlacesNext, TakesBack}}
 use Rattle.shop_model.specs.Word.{IsWord, Placing, none_placed, place_next, placing}
-use Rattle.shop_model.specs.Placements.{PlacesNext, TakesBack}
-use Rattle.shop_model.proofs.PlacementLemmas.{IsAboutToPlace, about_to_place}
-use Rattle.shop_model.proofs.Unders.{placing-snoc}
+use Rattle.shop_model.proofs.{PlacementLemmas.{IsAboutToPlace, about_to_place}, Unders.placing-snoc}
 use Rattle.shop_model.proofs.WordLemmas.{IsWord-init}
-use Rattle.shop_bound.specs.declared.desks.Desk.TheInside.{Inside}
-use Rattle.shop_bound.specs.declared.desks.Replaced.{Replaced}
+use Rattle.shop_bound.specs.{declared.desks.Desk.TheInside.Inside, declared.desks.Replaced.Replaced}
 use Rattle.shop_bound.specs.inner.Trails.{IsReplaced, AreReplaced, IsDesk}
 
 -- one more job, and what it replaced

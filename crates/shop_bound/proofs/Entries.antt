@@ -1,8 +1,6 @@
 -- The entries of a word, one after another.
-use Rattle.std.proofs.Common.{◌≡◌, ℕ, ◌+◌, List, ◌++◌, arith, cond, eqb}
-use Rattle.std.proofs.lemmas.List.Sums.{sum_by-append}
-use Rattle.shop_model.specs.Shop.{Shop}
-use Rattle.shop_model.specs.Word.{count_of, IsWord}
+use Rattle.std.proofs.{Common.{◌≡◌, ℕ, ◌+◌, List, ◌++◌, arith, cond, eqb}, lemmas.List.Sums.sum_by-append}
+use Rattle.shop_model.specs.{Shop.Shop, Word.{count_of, IsWord}}
 pub use Rattle.shop_model.proofs.WordLemmas.{IsWord-snoc}
 
 pub count_of-append : (j : ℕ) (v u : List ℕ) → count_of j (v ++ u) ≡ count_of j v + count_of j u

@@ -1,10 +1,7 @@
 -- Lists that are filled from their front.
-use Rattle.std.proofs.Common.{◌≡◌, ℕ, ◌+◌, List, [], ◌∷◌, ◌++◌, map, arith}
-use Rattle.std.specs.Prelude.{Vec}
-use Rattle.std.specs.List.{range_with_len}
-use Rattle.std.specs.declared.alloc.Global.{Global}
-use Rattle.std.proofs.lemmas.List.{map-append}
+use Rattle.std.proofs.{Common.{◌≡◌, ℕ, ◌+◌, List, [], ◌∷◌, ◌++◌, map, arith}, lemmas.List.map-append}
 use Rattle.std.proofs.lemmas.List.FromFn.{map-range_with_len_more}
+use Rattle.std.specs.{Prelude.Vec, List.range_with_len, declared.alloc.Global.Global}
 
 pub filled_more : {B : Type 0} (f : ℕ → B) (xs ys : List B) (k : ℕ) (y : B) → xs ≡ map f (range_with_len 0 k) → y ≡ f k
     → ys ≡ xs ++ y ∷ [] → ys ≡ map f (range_with_len 0 (k + 1))

@@ -1,8 +1,6 @@
 -- Where heads stay as they are once one more operation is placed.
-use Rattle.std.proofs.Common.{◌≡◌, ℕ, zero, suc, ◌+◌, ◌-◌, ◌≤◌, ◌<◌, ◌⊎◌, refl, ap, arith}
-use Rattle.std.proofs.lemmas.Bool.{cases_eq}
-use Rattle.shop_model.specs.Shop.{Shop, machine_of}
-use Rattle.shop_model.specs.Word.{Placing}
+use Rattle.std.proofs.{Common.{◌≡◌, ℕ, zero, suc, ◌+◌, ◌-◌, ◌≤◌, ◌<◌, ◌⊎◌, refl, ap, arith}, lemmas.Bool.cases_eq}
+use Rattle.shop_model.specs.{Shop.{Shop, machine_of}, Word.Placing}
 use Rattle.shop_model.proofs.Placings.{IsNext, steps_grow}
 use Rattle.shop_bound.specs.Heads.{ready_after, head_of}
 use Rattle.shop_bound.proofs.HeadTurns.{ready_first, ready_more}

@@ -1,17 +1,12 @@
 -- The loads of operations with late heads, and what they say of spans.
 use Rattle.std.proofs.Common.{◌≡◌, ℕ, ◌+◌, ◌≤◌, ◌<◌, max, true, false, refl, List, [], ◌∷◌, ◌++◌, arith}
-use Rattle.std.specs.List.{filter, sum_by}
-use Rattle.std.specs.Prelude.{IsPermutation}
-use Rattle.std.proofs.lemmas.Bool.{cases_Bool, cases_lt}
-use Rattle.std.proofs.lemmas.List.{append-nil, length-append}
-use Rattle.std.proofs.lemmas.List.Elements.{filter-append, recursion_from_All}
-use Rattle.std.proofs.lemmas.List.Sums.{sum_by_push}
+use Rattle.std.proofs.{lemmas.Bool.{cases_Bool, cases_lt}, lemmas.List.{append-nil, length-append}}
+use Rattle.std.proofs.{lemmas.List.Elements.{filter-append, recursion_from_All}, lemmas.List.Sums.sum_by_push}
 use Rattle.std.proofs.lemmas.List.Sorted.{All-permutation, sum_by-IsPermutation}
-use Rattle.shop_bound.specs.declared.triples.Triple.{Triple}
-use Rattle.shop_bound.specs.OneMachine.{greatest_of, one, IsSmall}
+use Rattle.std.specs.{List.{filter, sum_by}, Prelude.IsPermutation}
+use Rattle.shop_bound.specs.{declared.triples.Triple.Triple, OneMachine.{greatest_of, one, IsSmall}}
 use Rattle.shop_bound.specs.inner.Thresholds.{is_above, span_above}
-use Rattle.shop_bound.proofs.Lists.{greatest_of-le, get_or-le-greatest_of}
-use Rattle.shop_bound.proofs.SameSums.{permuted_sums, same_one}
+use Rattle.shop_bound.proofs.{Lists.{greatest_of-le, get_or-le-greatest_of}, SameSums.{permuted_sums, same_one}}
 use Rattle.shop_bound.proofs.ThresholdLemmas.{greatest_of-append, one-le, span_above-some, is_above-true}
 
 -- the times of the operations above both thresholds

@@ -1,10 +1,9 @@
 -- Lists: what holds of each element and of each pair, sublists, and intervals that are apart.
-use Rattle.std.proofs.Common.{◌≡◌, ℕ, zero, suc, ◌+◌, ◌≤◌, ◌<◌, ◌⊎◌, inl, inr, Bool, true, not, List, [], ◌∷◌}
-use Rattle.std.proofs.Common.{◌++◌, length, get_or, refl, arith, leb}
-use Rattle.std.specs.List.{AllByRecursion, filter, sum_by}
+use Rattle.std.proofs.Common.{◌≡◌, ℕ, zero, suc, ◌+◌, ◌≤◌, ◌<◌, ◌⊎◌, inl, inr, Bool, true, not, List, [], ◌∷◌, ◌++◌}
+use Rattle.std.proofs.{Common.{length, get_or, refl, arith, leb}, lemmas.List.Filters.sum_by-filter_both}
 use Rattle.std.proofs.lemmas.Bool.{cases_Bool, cases_lt, leb-true, leb-false, not-true}
 use Rattle.std.proofs.lemmas.List.Sums.{sum_by-cons, length-filter, count_by-le-length}
-use Rattle.std.proofs.lemmas.List.Filters.{sum_by-filter_both}
+use Rattle.std.specs.List.{AllByRecursion, filter, sum_by}
 use Rattle.shop_bound.specs.OneMachine.{least_of, greatest_of}
 
 module _ {A : Type 0} where

@@ -1,24 +1,15 @@
 -- The lower bound of a word, machine by machine.
 use Rattle.std.proofs.Common.{rules, ◌≡◌, ◌≤◌, ◌<◌, ◌+◌, ℕ, zero, suc, max, List, [], ◌∷◌, length, map, get_or, set}
-use Rattle.std.proofs.Common.{All, ◌∙◌, add-one, ap, arith}
-use Rattle.std.specs.Prelude.{Vec, vec_capacity}
-use Rattle.std.specs.declared.alloc.Global.{Global}
-use Rattle.std.proofs.lemmas.List.{length-set, get_or-map}
-use Rattle.shop_bound.specs.declared.triples.Triple.{Triple}
-use Rattle.shop_model.specs.Limits.{IsWithinLimits}
-use Rattle.shop_model.specs.Shop.{Shop, greatest_below}
+use Rattle.std.proofs.{Common.{All, ◌∙◌, add-one, ap, arith}, lemmas.List.{length-set, get_or-map}}
+use Rattle.std.specs.{Prelude.{Vec, vec_capacity}, declared.alloc.Global.Global}
+use Rattle.shop_bound.specs.{declared.triples.Triple.Triple, Bound.{waiting, triples_on, lb}, OneMachine.{one, IsSmall}}
+use Rattle.shop_bound.specs.{declared.lower.BoundRoom.BoundRoom, inner.BoundRooms.IsRoomFor}
+use Rattle.shop_bound.specs.{inner.MachineLists.{rows_in, visits_in, HaveRoom}, inner.Unplaced.{bound_on, AreUnplaced}}
+use Rattle.shop_model.specs.{Limits.IsWithinLimits, Shop.{Shop, greatest_below}, Word.{IsWord, Placing, placing}}
 use Rattle.shop_model.specs.Placements.{PlacementState, IsPlacement}
-use Rattle.shop_model.specs.Word.{IsWord, Placing, placing}
-use Rattle.shop_bound.specs.Bound.{waiting, triples_on, lb}
-use Rattle.shop_bound.specs.OneMachine.{one, IsSmall}
-use Rattle.shop_bound.specs.declared.lower.BoundRoom.{BoundRoom}
-use Rattle.shop_bound.specs.inner.BoundRooms.{IsRoomFor}
-use Rattle.shop_bound.specs.inner.MachineLists.{rows_in, visits_in, HaveRoom}
-use Rattle.shop_bound.specs.inner.Unplaced.{bound_on, AreUnplaced}
 pub use Rattle.shop_model.proofs.Greatest.{greatest_below-both, greatest_below-equal}
 use Rattle.shop_bound.proofs.MachineListTurns.{row_read, row_other, keeps_room, keep_have_room}
-use Rattle.shop_bound.proofs.PlacedEnds.{placed_end-free}
-use Rattle.shop_bound.proofs.SmallSums.{triples_small}
+use Rattle.shop_bound.proofs.{PlacedEnds.placed_end-free, SmallSums.triples_small}
 
 -- the greatest of what machines and what waits for them say is the bound of the word
 pub lower_bound_is : (shop : Shop) (w : List ℕ) → IsWithinLimits shop → IsWord shop w

@@ -1,23 +1,16 @@
 -- The lists of the machines' operations, and their room, as they are filled.
-use Rattle.std.proofs.Common.{◌≡◌, ◌≢◌, ℕ, zero, suc, ◌+◌, ◌≤◌, ◌<◌, max, inl, inr, List, [], ◌∷◌, ◌++◌, length}
-use Rattle.std.proofs.Common.{◌*◌, length-take, drop, take, get_or, set, refl, sym, ◌∙◌, ap, arith, eqb, eq-eqb, cond}
-use Rattle.std.specs.List.{flat_map, range_with_len, sum_by}
-use Rattle.std.specs.Prelude.{Vec, vec_capacity}
-use Rattle.std.specs.declared.alloc.Global.{Global}
-use Rattle.std.proofs.lemmas.Bool.{cases_eq, ne_eqb}
-use Rattle.std.proofs.lemmas.List.{length-append, length-map, length-set, get_or-map}
-use Rattle.std.proofs.lemmas.List.{get_or-set_same, get_or-set_other, map-set, drop_all, append-nil, take_all}
+use Rattle.std.proofs.Common.{◌≡◌, ◌≢◌, ℕ, zero, suc, ◌+◌, ◌≤◌, ◌<◌, max, inl, inr, List, [], ◌∷◌, ◌++◌, length, ◌*◌}
+use Rattle.std.proofs.Common.{length-take, drop, take, get_or, set, refl, sym, ◌∙◌, ap, arith, eqb, eq-eqb, cond}
+use Rattle.std.proofs.{lemmas.Bool.{cases_eq, ne_eqb}, lemmas.List.{map-set, drop_all, append-nil, take_all}}
+use Rattle.std.proofs.lemmas.List.{length-append, length-map, length-set, get_or-map, get_or-set_same, get_or-set_other}
 use Rattle.std.proofs.lemmas.List.Sums.{sum_by-cons, sum_by-take-drop, sum_by-take-le, sum_by_more, sum_by-drop_more}
-use Rattle.shop_model.specs.declared.ops.Op.{Op}
-use Rattle.shop_model.specs.Limits.{IsWithinLimits}
-use Rattle.shop_model.specs.Shop.{Shop, no_op, no_job, route_of}
-use Rattle.shop_bound.specs.declared.triples.Triple.{Triple}
-use Rattle.shop_model.specs.Placements.{PlacementState, IsPlacement}
-use Rattle.shop_model.specs.Word.{Placing}
-use Rattle.shop_bound.specs.Bound.{waiting_from, waiting_of, triples_on}
-use Rattle.shop_bound.specs.Heads.{tail_in}
+use Rattle.std.specs.{List.{flat_map, range_with_len, sum_by}, Prelude.{Vec, vec_capacity}}
+use Rattle.std.specs.declared.alloc.Global.{Global}
+use Rattle.shop_model.specs.{declared.ops.Op.Op, Limits.IsWithinLimits, Shop.{Shop, no_op, no_job, route_of}}
+use Rattle.shop_model.specs.{Placements.{PlacementState, IsPlacement}, Word.Placing}
+use Rattle.shop_bound.specs.{declared.triples.Triple.Triple, Bound.{waiting_from, waiting_of, triples_on}}
+use Rattle.shop_bound.specs.{Heads.tail_in, inner.Unplaced.{unplaced_from, Adds}}
 use Rattle.shop_bound.specs.inner.MachineLists.{visits, rows_in, rooms_in, HaveRoom, HaveRoomFor, KeepRoom}
-use Rattle.shop_bound.specs.inner.Unplaced.{unplaced_from, Adds}
 use Rattle.shop_bound.proofs.UnplacedTurns.{first_on, first_off, added_on, added_off, job_listed}
 
 -- whether an operation is on the machine, as a number

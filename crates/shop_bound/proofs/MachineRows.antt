@@ -1,7 +1,6 @@
 -- Worked rows, computed from the definitions.
 use Rattle.std.proofs.Common.{◌≡◌, ℕ, [], ◌∷◌, map, refl}
-use Rattle.shop_bound.specs.declared.triples.Triple.{Triple}
-use Rattle.shop_bound.specs.OneMachine.{span_of, one}
+use Rattle.shop_bound.specs.{declared.triples.Triple.Triple, OneMachine.{span_of, one}}
 
 triple : ℕ → ℕ → ℕ → Triple
 triple h p q = record { head = h; time = p; tail = q }

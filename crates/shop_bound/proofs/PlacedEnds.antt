@@ -1,14 +1,10 @@
 -- The greatest of the placed ends: it is when the last machine is free, and it never gets less.
-use Rattle.std.proofs.Common.{◌≡◌, ℕ, ◌≤◌, ◌<◌, List, length, arith}
-use Rattle.std.proofs.lemmas.Bool.{cases_eq}
-use Rattle.shop_model.specs.Limits.{IsWithinLimits}
-use Rattle.shop_model.specs.Shop.{Shop, machine_of, finish_of, greatest_below}
+use Rattle.std.proofs.{Common.{◌≡◌, ℕ, ◌≤◌, ◌<◌, List, length, arith}, lemmas.Bool.cases_eq}
+use Rattle.shop_model.specs.{Limits.IsWithinLimits, Shop.{Shop, machine_of, finish_of, greatest_below}}
 use Rattle.shop_model.specs.Word.{Placing, count_of, IsWord, placing, place_next}
-use Rattle.shop_model.proofs.Ends.{IsOperation-job}
-use Rattle.shop_model.proofs.Greatest.{le-greatest_below, greatest_below-le}
-use Rattle.shop_model.proofs.Placings.{IsNext, place_next-is, steps_grow}
+use Rattle.shop_model.proofs.{Ends.IsOperation-job, Greatest.{le-greatest_below, greatest_below-le}}
+use Rattle.shop_model.proofs.{Placings.{IsNext, place_next-is, steps_grow}, WordLemmas.{snoc_induct, IsWord-init}}
 use Rattle.shop_model.proofs.Unders.{after_word, next_operation, placing-snoc}
-use Rattle.shop_model.proofs.WordLemmas.{snoc_induct, IsWord-init}
 use Rattle.shop_bound.specs.Bound.{placed_end}
 
 -- what is placed ends by then

@@ -1,28 +1,18 @@
 -- What a turn of a schedule does to the operations that are not done.
 use Rattle.std.proofs.Common.{rules, ◌≡◌, ◌≢◌, ℕ, zero, suc, ◌+◌, ◌≤◌, ◌<◌, min, inl, inr, true, false, cond, ◌==◌}
 use Rattle.std.proofs.Common.{List, [], ◌∷◌, length, get_or, map, Option, Some, None, refl, sym, ◌∙◌, ap, subst, arith}
-use Rattle.std.proofs.Common.{eq-eqb}
-use Rattle.std.specs.BinaryHeap.{heap_items, heap_len, heap_capacity}
-use Rattle.std.specs.List.{All}
-use Rattle.std.specs.Prelude.{IsPermutation}
-use Rattle.std.proofs.Math.ListN.{set}
-use Rattle.std.specs.Option.{MatchOption, is_some}
-use Rattle.std.proofs.lemmas.Bool.{cases_Bool, cases_lt, cases_eq, ne_eqb, true≢false}
+use Rattle.std.proofs.{Common.eq-eqb, Math.ListN.set, lemmas.Bool.{cases_Bool, cases_lt, cases_eq, ne_eqb, true≢false}}
 use Rattle.std.proofs.lemmas.List.{get_or-set_same, get_or-set_other, length-set, length-map}
-use Rattle.std.proofs.lemmas.List.Elements.{All-cons, All-head, All-tail}
-use Rattle.std.proofs.lemmas.List.Sums.{sum_by-cons}
+use Rattle.std.proofs.{lemmas.List.Elements.{All-cons, All-head, All-tail}, lemmas.List.Sums.sum_by-cons}
 use Rattle.std.proofs.lemmas.List.Sorted.{All-permutation, sum_by-IsPermutation}
-use Rattle.shop_bound.specs.declared.triples.Triple.{Triple}
-use Rattle.shop_bound.specs.declared.works.Work.{Work}
-use Rattle.shop_bound.specs.inner.Thresholds.{no_triple}
+use Rattle.std.specs.{BinaryHeap.{heap_items, heap_len, heap_capacity}, List.All, Prelude.IsPermutation}
+use Rattle.std.specs.Option.{MatchOption, is_some}
+use Rattle.shop_bound.specs.{declared.triples.Triple.Triple, declared.queues.Work.Work, inner.Thresholds.no_triple}
 use Rattle.shop_bound.specs.inner.Serving.{work_at, fresh, undone_of, Waits, IsServed, IsStop, IsReady}
-use Rattle.shop_bound.specs.inner.HeapOrders.{Coming, Waiting}
-use Rattle.shop_bound.specs.inner.Queues.{coming_place, waiting_place, times, IsToCome, IsInLine}
-use Rattle.shop_bound.specs.inner.Queues.{AreQueued, ComeLater, IsNextRelease, IsBehind, IsFirst, TakesReleased}
-use Rattle.shop_bound.specs.inner.Queues.{IsQueue, IsWithoutFirst, KeepsRoom}
-use Rattle.shop_bound.specs.declared.queues.Queue.{Queue}
-use Rattle.shop_bound.proofs.TurnCounts.{undone_of-one}
-use Rattle.shop_bound.proofs.WorkSums.{triple_at, fresh-undone}
+use Rattle.shop_bound.specs.{inner.HeapOrders.{Coming, Waiting}, inner.Queues.KeepsRoom, declared.queues.Queue.Queue}
+use Rattle.shop_bound.specs.inner.Queues.{coming_place, waiting_place, times, IsToCome, IsInLine, AreQueued, ComeLater}
+use Rattle.shop_bound.specs.inner.Queues.{IsNextRelease, IsBehind, IsFirst, TakesReleased, IsQueue, IsWithoutFirst}
+use Rattle.shop_bound.proofs.{TurnCounts.undone_of-one, WorkSums.{triple_at, fresh-undone}}
 
 -- how often a position stands in a list
 module _ {A : Type 0} (place : A → ℕ) where

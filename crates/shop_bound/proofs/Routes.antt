@@ -1,7 +1,6 @@
 -- The number of operations of all jobs before a job.
-use Rattle.std.proofs.Common.{◌≡◌, ℕ, ◌+◌, ◌≤◌, ◌<◌, length, take}
+use Rattle.std.proofs.{Common.{◌≡◌, ℕ, ◌+◌, ◌≤◌, ◌<◌, length, take}, lemmas.List.Sums.{sum_by_more, sum_by-take-le}}
 use Rattle.std.specs.List.{sum_by}
-use Rattle.std.proofs.lemmas.List.Sums.{sum_by_more, sum_by-take-le}
 use Rattle.shop_model.specs.Shop.{Shop, no_job, route_of, operation_count}
 
 abbrev pub operations_before : Shop → ℕ → ℕ

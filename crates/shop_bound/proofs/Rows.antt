@@ -1,11 +1,8 @@
 -- Worked rows, computed from the definitions.
 use Rattle.std.proofs.Common.{◌≡◌, ℕ, [], ◌∷◌, map, refl, Option, Some, None}
 use Rattle.shop_model.proofs.Rows.{op, job, shop_a, shop_g, shop_z, shop_r}
-use Rattle.shop_model.specs.Shop.{Shop}
-use Rattle.shop_model.specs.Word.{placing, rows_of}
-use Rattle.shop_bound.specs.Bound.{waiting, triples_on, lb}
-use Rattle.shop_bound.specs.Heads.{head_if_left, tail_of}
-use Rattle.shop_bound.specs.OneMachine.{one}
+use Rattle.shop_model.specs.{Shop.Shop, Word.{placing, rows_of}}
+use Rattle.shop_bound.specs.{Bound.{waiting, triples_on, lb}, Heads.{head_if_left, tail_of}, OneMachine.one}
 
 -- two jobs that cross: tails, heads once job 1's first step is placed, and bounds
 tails_a : rows_of shop_a (tail_of shop_a) ≡ (2 ∷ 0 ∷ []) ∷ (4 ∷ 0 ∷ []) ∷ []

@@ -1,9 +1,7 @@
 -- Jobs of words are small.
 use Rattle.std.proofs.Common.{ℕ, ◌<◌, List, [], ◌∷◌, ◌++◌, length, arith}
 use Rattle.std.specs.List.{AllByRecursion}
-use Rattle.shop_model.specs.Limits.{IsWithinLimits}
-use Rattle.shop_model.specs.Shop.{Shop}
-use Rattle.shop_model.specs.Word.{IsWord}
+use Rattle.shop_model.specs.{Limits.IsWithinLimits, Shop.Shop, Word.IsWord}
 use Rattle.shop_model.proofs.WordLemmas.{jobs_below}
 
 last_of : (P : ℕ → Type 0) (w : List ℕ) (j : ℕ) → AllByRecursion P (w ++ j ∷ []) → P j

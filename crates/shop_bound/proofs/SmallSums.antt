@@ -1,25 +1,15 @@
 -- Within the limits no sum of what a word leaves is large.
-use Rattle.std.proofs.Common.{ℕ, zero, suc, ◌+◌, ◌*◌, ◌^◌, ◌≤◌, ◌<◌, max, List, [], ◌∷◌, length, rules}
-use Rattle.std.proofs.Common.{length-append, map, drop, get_or, eqb, arith}
-use Rattle.std.specs.List.{AllByRecursion, filter, flat_map, range_with_len, sum_by}
-use Rattle.std.proofs.lemmas.List.{get_or-drop, length-drop, length-map}
+use Rattle.std.proofs.Common.{ℕ, zero, suc, ◌+◌, ◌*◌, ◌^◌, ◌≤◌, ◌<◌, max, List, [], ◌∷◌, length, rules, length-append}
+use Rattle.std.proofs.{Common.{map, drop, get_or, eqb, arith}, lemmas.List.{get_or-drop, length-drop, length-map}}
 use Rattle.std.proofs.lemmas.List.Sums.{sum_by-cons, sum_by-take-drop, length-filter, count_by-le-length}
-use Rattle.shop_model.specs.declared.ops.Op.{Op}
-use Rattle.shop_model.specs.Limits.{IsWithinLimits}
-use Rattle.shop_model.specs.Shop.{Shop, no_op, route_of, machine_of}
+use Rattle.std.specs.List.{AllByRecursion, filter, flat_map, range_with_len, sum_by}
+use Rattle.shop_model.specs.{declared.ops.Op.Op, Limits.IsWithinLimits, Shop.{Shop, no_op, route_of, machine_of}}
 use Rattle.shop_model.specs.Word.{IsWord, placing}
-use Rattle.shop_model.proofs.Greatest.{greatest_below-le}
-use Rattle.shop_model.proofs.Unders.{after_word}
-use Rattle.shop_bound.specs.declared.triples.Triple.{Triple}
+use Rattle.shop_model.proofs.{Greatest.greatest_below-le, Unders.after_word, WordLengths.{word_length, ready_word}}
+use Rattle.shop_bound.specs.{declared.triples.Triple.Triple, Laws.AreSumsSmall, OneMachine.{one, extent}}
 use Rattle.shop_bound.specs.Bound.{Waiting, waiting_from, waiting_of, waiting, triples_on, placed_end}
-use Rattle.shop_bound.specs.Laws.{AreSumsSmall}
-use Rattle.shop_bound.specs.OneMachine.{one, extent}
-use Rattle.shop_bound.proofs.Lists.{all_map, all_append, all_filter, greatest_of-le}
-use Rattle.shop_bound.proofs.PlacedEnds.{placed_end-le}
-use Rattle.shop_bound.proofs.ThresholdLemmas.{one-le-extent}
-use Rattle.shop_bound.proofs.TimeSums.{route_times}
-use Rattle.shop_bound.proofs.UnplacedTurns.{length-waiting_from}
-use Rattle.shop_model.proofs.WordLengths.{word_length, ready_word}
+use Rattle.shop_bound.proofs.{Lists.{all_map, all_append, all_filter, greatest_of-le}, PlacedEnds.placed_end-le}
+use Rattle.shop_bound.proofs.{ThresholdLemmas.one-le-extent, TimeSums.route_times, UnplacedTurns.length-waiting_from}
 
 -- a head, a time and a tail of at most these
 record IsSmallTriple (h t : ℕ) (x : Triple) : Type 0 where

@@ -1,9 +1,7 @@
 -- How many turns are left, and how many works are not done.
 use Rattle.std.proofs.Common.{◌≡◌, ℕ, zero, suc, ◌+◌, ◌≤◌, ◌<◌, true, false, List, [], ◌∷◌, length, refl, arith}
-use Rattle.std.proofs.Math.ListN.{set}
-use Rattle.std.proofs.lemmas.Bool.Decides.{nat_tests}
-use Rattle.std.proofs.lemmas.List.Sums.{sum_by-cons, sum_by-set}
-use Rattle.shop_bound.specs.declared.works.Work.{Work}
+use Rattle.std.proofs.{Math.ListN.set, lemmas.Bool.Decides.nat_tests, lemmas.List.Sums.{sum_by-cons, sum_by-set}}
+use Rattle.shop_bound.specs.declared.queues.Work.{Work}
 use Rattle.shop_bound.specs.inner.Serving.{no_work, work_at, IsFresh, IsReady, turns_of, turns_left, undone_of, undone}
 
 -- the turns left

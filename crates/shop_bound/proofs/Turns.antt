@@ -1,21 +1,17 @@
 -- What a turn of Jackson's schedule keeps, and why the schedule ends at the one-machine bound.
-use Rattle.std.proofs.Common.{◌≡◌, ◌≢◌, ℕ, ◌+◌, ◌-◌, ◌^◌, ◌≤◌, ◌<◌, max, ◌⊎◌, inl, inr, Bool, true, false}
-use Rattle.std.proofs.Common.{cond, List, length, refl, sym, ◌∙◌, ap, subst, arith}
-use Rattle.std.specs.List.{filter, sum_by}
-use Rattle.std.proofs.Math.ListN.{set}
+use Rattle.std.proofs.Common.{◌≡◌, ◌≢◌, ℕ, ◌+◌, ◌-◌, ◌^◌, ◌≤◌, ◌<◌, max, ◌⊎◌, inl, inr, Bool, true, false, cond, List}
+use Rattle.std.proofs.{Common.{length, refl, sym, ◌∙◌, ap, subst, arith}, Math.ListN.set}
 use Rattle.std.proofs.lemmas.Bool.{cases_Bool, cases_lt, cases_eq, true≢false}
 use Rattle.std.proofs.lemmas.List.{get_or-set_same, get_or-set_other, length-set}
-use Rattle.shop_bound.specs.declared.triples.Triple.{Triple}
-use Rattle.shop_bound.specs.declared.works.Work.{Work}
-use Rattle.shop_bound.specs.OneMachine.{one, greatest_of, IsSmall}
-use Rattle.shop_bound.specs.inner.Thresholds.{is_above, span_above}
+use Rattle.std.specs.List.{filter, sum_by}
+use Rattle.shop_bound.specs.{declared.triples.Triple.Triple, declared.queues.Work.Work}
+use Rattle.shop_bound.specs.{OneMachine.{one, greatest_of, IsSmall}, inner.Thresholds.{is_above, span_above}}
 use Rattle.shop_bound.specs.inner.Serving.{no_work, work_at, triples_of, Waits, IsFresh, fresh, IsServed, IsStop}
 use Rattle.shop_bound.specs.inner.Serving.{IsRelease, IsReady, worked, IsBusy, IsRun, turns_left, undone}
-use Rattle.shop_bound.proofs.Lists.{get_or-le-greatest_of}
+use Rattle.shop_bound.proofs.{Lists.get_or-le-greatest_of, WorkSums.{span_above-parts, worked-none, none_above}}
 use Rattle.shop_bound.proofs.ThresholdLemmas.{one-le, span_above-some, span_above-le, is_above-from, is_above-true}
 use Rattle.shop_bound.proofs.ThresholdLemmas.{sublist_sum, sublist_filter, greatest_of-map}
-use Rattle.shop_bound.proofs.WorkSums.{triple_at, triples-set, set_all, worked-set, some_above}
-use Rattle.shop_bound.proofs.WorkSums.{worked-le, worked-all, span_above-parts, worked-none, none_above}
+use Rattle.shop_bound.proofs.WorkSums.{triple_at, triples-set, set_all, worked-set, some_above, worked-le, worked-all}
 use Rattle.shop_bound.proofs.TurnCounts.{turns_left-le, turns_left-release, turns_left-same, turns_left-done}
 
 -- An operation that is served until the clock and d more: v is what becomes of it.

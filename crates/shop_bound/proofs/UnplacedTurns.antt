@@ -1,24 +1,16 @@
 -- The operations that a word leaves, as a walk along the routes lists them.
 use Rattle.std.proofs.Common.{◌≡◌, ◌≢◌, ℕ, zero, suc, ◌+◌, ◌-◌, ◌≤◌, ◌<◌, max, List, [], ◌∷◌, ◌++◌, length, take, drop}
 use Rattle.std.proofs.Common.{get_or, refl, sym, ◌∙◌, ap, arith, append_assoc, add-one, add-zero, zero-add, eq-eqb}
-use Rattle.std.specs.List.{flat_map, range_with_len, sum_by}
-use Rattle.std.proofs.lemmas.Bool.{cases_eq, ne_eqb}
-use Rattle.std.proofs.lemmas.List.Elements.{filter-append}
+use Rattle.std.proofs.{lemmas.Bool.{cases_eq, ne_eqb}, lemmas.List.Elements.filter-append, lemmas.Grind.flat_map-append}
 use Rattle.std.proofs.lemmas.List.{append-nil, take_all, drop_more, get_or-drop, length-drop, map-append}
-use Rattle.std.proofs.lemmas.Grind.{flat_map-append}
-use Rattle.shop_model.specs.declared.ops.Op.{Op}
-use Rattle.shop_model.specs.Limits.{IsWithinLimits}
-use Rattle.shop_model.specs.Shop.{Shop, no_op, route_of}
-use Rattle.shop_model.specs.Word.{Placing}
-use Rattle.shop_model.proofs.Unders.{after_word}
-use Rattle.shop_bound.specs.declared.triples.Triple.{Triple}
-use Rattle.shop_bound.specs.Bound.{Waiting, waiting_from, waiting_of, triples_on}
-use Rattle.shop_bound.specs.Heads.{tail_in, AreTimesSmall}
+use Rattle.std.specs.List.{flat_map, range_with_len, sum_by}
+use Rattle.shop_model.specs.{declared.ops.Op.Op, Limits.IsWithinLimits, Shop.{Shop, no_op, route_of}, Word.Placing}
 use Rattle.shop_model.specs.Placements.{PlacementState, IsPlacement}
-use Rattle.shop_bound.specs.inner.PlacedWords.{IsOfWord}
+use Rattle.shop_model.proofs.Unders.{after_word}
+use Rattle.shop_bound.specs.{declared.triples.Triple.Triple, Bound.{Waiting, waiting_from, waiting_of, triples_on}}
+use Rattle.shop_bound.specs.{Heads.{tail_in, AreTimesSmall}, inner.PlacedWords.IsOfWord}
 use Rattle.shop_bound.specs.inner.Unplaced.{unplaced_from, CanGoOn}
-use Rattle.shop_bound.proofs.HeadTurns.{ends_of_word}
-use Rattle.shop_bound.proofs.TimeSums.{sum_by-le-each}
+use Rattle.shop_bound.proofs.{HeadTurns.ends_of_word, TimeSums.sum_by-le-each}
 
 -- the first of a route, where it is on the machine and where it isn't
 pub first_on : (m : ℕ) (free : ℕ → ℕ) (j k ready : ℕ) (o : Op) (os : List Op) (head : ℕ)

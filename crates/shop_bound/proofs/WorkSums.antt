@@ -1,14 +1,10 @@
 -- The time spent on works, as they change.
-use Rattle.std.proofs.Common.{◌≡◌, ℕ, zero, suc, ◌+◌, ◌≤◌, ◌<◌, Bool, true, false}
-use Rattle.std.proofs.Common.{cond, List, [], ◌∷◌, length, map, refl, ap, arith}
-use Rattle.std.specs.List.{filter, sum_by}
-use Rattle.std.proofs.Math.ListN.{set}
-use Rattle.std.proofs.Math.Seq.{map-set_same}
-use Rattle.std.proofs.lemmas.Bool.{cases_lt, cases_eq}
-use Rattle.std.proofs.lemmas.List.{get_or-set_same, get_or-set_other, length-set}
+use Rattle.std.proofs.Common.{◌≡◌, ℕ, zero, suc, ◌+◌, ◌≤◌, ◌<◌, Bool, true, false, cond, List, [], ◌∷◌, length, map}
+use Rattle.std.proofs.{Common.{refl, ap, arith}, Math.ListN.set, Math.Seq.map-set_same}
+use Rattle.std.proofs.{lemmas.Bool.{cases_lt, cases_eq}, lemmas.List.{get_or-set_same, get_or-set_other, length-set}}
 use Rattle.std.proofs.lemmas.List.Sums.{sum_by-cons, sum_by-set}
-use Rattle.shop_bound.specs.declared.triples.Triple.{Triple}
-use Rattle.shop_bound.specs.declared.works.Work.{Work}
+use Rattle.std.specs.List.{filter, sum_by}
+use Rattle.shop_bound.specs.{declared.triples.Triple.Triple, declared.queues.Work.Work}
 use Rattle.shop_bound.specs.inner.Thresholds.{is_above, span_above}
 use Rattle.shop_bound.specs.inner.Serving.{no_work, work_at, triples_of, IsFresh, fresh, worked, undone}
 use Rattle.shop_bound.proofs.ThresholdLemmas.{span_above-some}

@@ -1,8 +1,7 @@
 // `Desk`: dispatches and undoes a word operation by operation, and bounds it.
 ghost use Rattle.std.specs.Prelude.{◌≡◌, ◌++◌, ◌∷◌, [], ◌<◌, IfOk, length};
 ghost use Rattle.shop_model.specs.Word.{IsWord};
-ghost use Rattle.shop_bound.specs.Bound.{lb};
-ghost use Rattle.shop_bound.specs.Desks.{IsUndone, IsWordOfShop, with_dispatch, nothing_dispatched};
+ghost use Rattle.shop_bound.specs.{Bound.lb, Desks.{IsUndone, IsWordOfShop, with_dispatch, nothing_dispatched}};
 
 use crate::lower::BoundRoom;
 use shop_model::{Instance, Placement};

@@ -1,8 +1,7 @@
 // Heads: when each operation that a word has not dispatched could begin at the earliest.
-ghost use Rattle.std.specs.Prelude.{◌≡◌, ◌<◌, IfOk, length, map};
+ghost use Rattle.std.specs.Prelude.{◌≡◌, ◌<◌, IfOk, length};
 ghost use Rattle.shop_model.specs.Word.{IsWord};
-ghost use Rattle.shop_bound.specs.Heads.{heads_at, TellsHeads};
-ghost use Rattle.shop_bound.specs.inner.HeadRows.{AreHeadsOfJob, AreHeadsOf};
+ghost use Rattle.shop_bound.specs.{Heads.{heads_at, TellsHeads}, inner.HeadRows.AreHeadsOfJob};
 ghost use Rattle.shop_bound.specs.inner.PlacedWords.{IsOfWord};
 
 use shop_model::{Instance, Placement, Word};
@@ -37,24 +36,6 @@ fn heads_of_job(
     Ok(heads)
 }
 
-/// Computes the heads of all operations, one row for each job; `None` for each operation that is placed. Fails with
-/// `NoMemory` if memory runs out.
-fn heads_of_jobs(
-    alloc: Global,
-    instance: &Instance,
-    placement: &Placement,
-) -> Result<Vec<Vec<Option<u64>>>, NoMemory>
-    requires { IsOfWord instance.now placement.now }
-    ensures { IfOk result (λ v. AreHeadsOf instance.now placement.now (map (λ row. row.items) v.items)) }
-{
-    let mut rows = Vec::with_capacity(alloc, instance.jobs())?;
-    for j in 0..instance.jobs() {
-        rows.push(heads_of_job(alloc, instance, placement, j)?)
-            .unwrap();
-    }
-    Ok(rows)
-}
-
 /// The head of each operation that a word has not dispatched: the length of the longest path to the operation in the
 /// disjunctive model. For library callers: the program doesn't use `Heads`.
 #[derive(Drop)]
@@ -78,7 +59,11 @@ impl Heads {
         ensures { IfOk result (λ h. TellsHeads instance.now word.now h) }
     {
         let placement = Placement::of(alloc, instance, word)?;
-        let rows = heads_of_jobs(alloc, instance, &placement)?;
+        let mut rows = Vec::with_capacity(alloc, instance.jobs())?;
+        for j in 0..instance.jobs() {
+            rows.push(heads_of_job(alloc, instance, &placement, j)?)
+                .unwrap();
+        }
         Ok(Heads { rows })
     }
 
@@ -86,10 +71,6 @@ impl Heads {
     pub fn head(&self, j: usize, k: usize) -> Option<u64>
         ensures { result ≡ heads_at self.now j k }
     {
-        if j < self.rows.len() && k < self.rows[j].len() {
-            self.rows[j][k]
-        } else {
-            None
-        }
+        *self.rows.get(j)?.get(k)?
     }
 }

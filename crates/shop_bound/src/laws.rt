@@ -1,7 +1,6 @@
 // Laws of the heads, tails and bounds of words, stated on their definitions alone.
-ghost use Rattle.shop_bound.specs.Heads.{WaitingIsWhatIsLeft};
+ghost use Rattle.shop_bound.specs.{Heads.WaitingIsWhatIsLeft, Renumbered.NumbersDontMatter};
 ghost use Rattle.shop_bound.specs.Laws.{BoundsAreLower, BoundsNeverFall, FullWordsEndAtTheirBound, SumsStaySmall};
-ghost use Rattle.shop_bound.specs.Renumbered.{NumbersDontMatter};
 
 /// A feasible schedule that begins each machine with a word's operations, in order, ends at the word's bound or later.
 pub fn bounds_are_lower()

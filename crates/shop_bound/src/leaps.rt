@@ -1,7 +1,6 @@
 // Tells by a few passes, without Jackson's schedule, that the one-machine bound of some operations is at most a number.
 ghost use Rattle.std.specs.Prelude.{◌≡◌, ℕ, ◌+◌, ◌^◌, ◌<◌, ◌≤◌, IsTrue, IsPermutation, false, sum_by};
-ghost use Rattle.shop_bound.specs.OneMachine.{one, greatest_of, IsSmall};
-ghost use Rattle.shop_bound.specs.inner.Thresholds.{span_above};
+ghost use Rattle.shop_bound.specs.{OneMachine.{one, greatest_of, IsSmall}, inner.Thresholds.span_above};
 
 use crate::triples::Triple;
 use std::cmp::Reverse;
@@ -15,11 +14,7 @@ fn time_of(triples: &[Triple]) -> u64
     requires { sum_by (λ t. t.time) triples.now < 2 ^ 50 }
     ensures { result ≡ sum_by (λ t. t.time) triples.now }
 {
-    let mut sum = 0;
-    for t in triples {
-        sum += t.time;
-    }
-    sum
+    triples.iter().map(|t| t.time).sum()
 }
 
 /// Answers the greatest head in `triples`; 0 if `triples` is empty.

@@ -13,8 +13,6 @@ mod schedules;
 mod tail_rows;
 mod thresholds;
 mod triples;
-mod unplaced;
-mod works;
 
 pub use desks::Desk;
 pub use head_rows::Heads;

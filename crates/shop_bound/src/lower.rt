@@ -1,18 +1,14 @@
 // The lower bound of a word: the greatest of the ends of its operations and of the machines' one-machine bounds.
-ghost use Rattle.std.specs.Prelude.{◌≡◌, ℕ, ◌<◌, ◌≤◌, ◌^◌, max, length, map, slice_index, vec_len, All, IfOk};
+ghost use Rattle.std.specs.Prelude.{◌≡◌, ℕ, ◌<◌, ◌≤◌, ◌^◌, max, length, slice_index, vec_len, IfOk};
 ghost use Rattle.shop_model.specs.Word.{IsWord, placing};
-ghost use Rattle.shop_bound.specs.Bound.{lb, triples_on, waiting};
-ghost use Rattle.shop_bound.specs.Laws.{IsLower, EndsThereIfFull};
-ghost use Rattle.shop_bound.specs.OneMachine.{one, IsSmall};
-ghost use Rattle.shop_bound.specs.inner.BoundRooms.{IsRoomFor};
-ghost use Rattle.shop_bound.specs.inner.PlacedWords.{IsOfWord};
+ghost use Rattle.shop_bound.specs.{Bound.{lb, triples_on, waiting}, Laws.{IsLower, EndsThereIfFull}};
+ghost use Rattle.shop_bound.specs.{OneMachine.{one, IsSmall}, inner.BoundRooms.IsRoomFor, inner.PlacedWords.IsOfWord};
 ghost use Rattle.shop_bound.specs.inner.Unplaced.{IsGreatestBound};
 
 use crate::leaps::may_exceed;
-use crate::machine_lists::{count_visits, greatest, lists_with_room};
+use crate::machine_lists::{count_visits, greatest, list_unplaced, lists_with_room};
 use crate::schedules::Jackson;
 use crate::triples::Triple;
-use crate::unplaced::list_unplaced;
 use shop_model::{Instance, Placement, Word};
 use std::alloc::{AllocError as NoMemory, Global};
 
@@ -85,23 +81,6 @@ pub fn lower_bound(alloc: Global, instance: &Instance, word: &Word) -> Result<u6
     Ok(room.bound(instance, &placement))
 }
 
-/// Computes the one-machine bound of each of `lists`, in order. Fails with `NoMemory` if memory runs out.
-fn bound_each(
-    alloc: Global,
-    jackson: &mut Jackson,
-    lists: &[Vec<Triple>],
-) -> Result<Vec<u64>, NoMemory>
-    requires room { All (λ list. length list.items ≤ jackson.old.room) lists.now }
-    requires small { All (λ list. IsSmall list.items) lists.now }
-    ensures { IfOk result (λ v. v.items ≡ map (λ list. one list.items) lists.now) }
-{
-    let mut bounds = Vec::with_capacity(alloc, lists.len())?;
-    for list in lists {
-        bounds.push(jackson.bound(list.as_slice())).unwrap();
-    }
-    Ok(bounds)
-}
-
 /// Computes for each machine the one-machine bound (Carlier 1982), in units of time, of the operations that `word`, a
 /// word of `instance`, has not dispatched: the greatest end, tail included, of Jackson's preemptive schedule of them; 0
 /// for a machine with none of them. Fails with `NoMemory` if memory runs out.
@@ -113,8 +92,15 @@ pub fn machine_bounds(alloc: Global, instance: &Instance, word: &Word) -> Result
 {
     instance.keeps_limits();
     let placement = Placement::of(alloc, instance, word)?;
-    let mut room = BoundRoom::of(alloc, instance)?;
-    let lists = room.lists.as_mut_slice();
+    let BoundRoom {
+        mut lists,
+        mut jackson,
+    } = BoundRoom::of(alloc, instance)?;
+    let lists = lists.as_mut_slice();
     list_unplaced(lists, instance, &placement);
-    bound_each(alloc, &mut room.jackson, lists)
+    let mut bounds = Vec::with_capacity(alloc, lists.len())?;
+    for m in 0..lists.len() {
+        bounds.push(jackson.bound(lists[m].as_slice())).unwrap();
+    }
+    Ok(bounds)
 }

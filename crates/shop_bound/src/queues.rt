@@ -5,10 +5,17 @@ ghost use Rattle.std.proofs.Props.{props};
 ghost use Rattle.shop_bound.specs.inner.HeapOrders.{by_head, by_tail};
 
 use crate::triples::Triple;
-use crate::works::Work;
 use std::alloc::{AllocError as NoMemory, Global};
 use std::cmp::Reverse;
 use std::collections::BinaryHeap;
+
+/// An operation, the time for which the machine has served it, and whether it has ended.
+#[derive(Clone, Copy)]
+pub(crate) struct Work {
+    pub(crate) triple: Triple,
+    pub(crate) spent: u64,
+    pub(crate) done: bool,
+}
 
 /// Two heaps of operations, each operation named by its position in the list of triples.
 #[derive(Drop)]
@@ -22,9 +29,8 @@ pub(crate) struct Queue {
 }
 
 impl Queue {
-    ghost use Rattle.shop_bound.specs.inner.Serving.{fresh};
-    ghost use Rattle.shop_bound.specs.inner.Queues.{ComeLater, HasRoom, IsFirst, IsNextRelease};
-    ghost use Rattle.shop_bound.specs.inner.Queues.{IsQueue, IsWithoutFirst, KeepsRoom, TakesReleased};
+    ghost use Rattle.shop_bound.specs.{inner.Serving.fresh, inner.Queues.{IsWithoutFirst, KeepsRoom, TakesReleased}};
+    ghost use Rattle.shop_bound.specs.inner.Queues.{ComeLater, HasRoom, IsFirst, IsNextRelease, IsQueue};
 
     /// Makes an empty queue with room for `n` operations. Fails with `NoMemory` if memory runs out.
     pub(crate) fn with_room(alloc: Global, n: usize) -> Result<Queue, NoMemory>
@@ -52,20 +58,16 @@ impl Queue {
     pub(crate) fn next_release(&self) -> Option<u64>
         ensures { IsNextRelease (heap_items self.now.coming) result }
     {
-        match self.coming.peek() {
-            Some(next) => Some(next.0.0),
-            None => None,
-        }
+        let next = self.coming.peek()?;
+        Some(next.0.0)
     }
 
     /// The waiting operation to serve: the one of greatest tail, of lowest position on ties; `None` if none waits.
     pub(crate) fn next_to_serve(&self) -> Option<usize>
         ensures { IsFirst (heap_items self.now.waiting) result }
     {
-        match self.waiting.peek() {
-            Some(first) => Some(first.1.0),
-            None => None,
-        }
+        let first = self.waiting.peek()?;
+        Some(first.1.0)
     }
 
     /// Takes out the operation to come of least head, and answers its position; `None` if none is released by `clock`.

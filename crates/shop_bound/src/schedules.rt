@@ -1,16 +1,12 @@
 // Jackson's preemptive schedule of one machine: its greatest end is the one-machine bound.
 ghost use Rattle.std.specs.Prelude.{◌≡◌, ℕ, ◌+◌, ◌*◌, ◌^◌, ◌<◌, ◌≤◌, List, length, map, vec_len, IfOk};
 ghost use Rattle.std.specs.BinaryHeap.{heap_items};
-ghost use Rattle.shop_bound.specs.OneMachine.{one, IsSmall};
-ghost use Rattle.shop_bound.specs.Schedules.{JacksonState};
-ghost use Rattle.shop_bound.specs.declared.works.Work.{Work};
+ghost use Rattle.shop_bound.specs.{OneMachine.{one, IsSmall}, Schedules.JacksonState, declared.queues.Work.Work};
 ghost use Rattle.shop_bound.specs.inner.Queues.{ComeLater, HasRoom, IsFirst, IsQueue, KeepsRoom};
-ghost use Rattle.shop_bound.specs.inner.Serving.{IsFresh, IsReady, IsRun, IsStop, fresh};
-ghost use Rattle.shop_bound.specs.inner.Serving.{triples_of, turns_left, undone};
+ghost use Rattle.shop_bound.specs.inner.Serving.{IsReady, IsRun, IsStop, fresh, triples_of, turns_left, undone};
 
-use crate::queues::Queue;
+use crate::queues::{Queue, Work};
 use crate::triples::{NO_TRIPLE, Triple};
-use crate::works::Work;
 use std::alloc::{AllocError as NoMemory, Global};
 use std::marker::Model;
 
@@ -90,28 +86,6 @@ struct Outcome {
     turns: u64,
 }
 
-/// Makes the whole preemptive schedule, turn by turn. `queue` holds all operations of `works`, and none is served yet.
-fn schedule(works: &mut [Work], queue: &mut Queue) -> Outcome
-    requires fresh { IsFresh works.old }
-    requires queue { IsQueue works.old 0 queue.old }
-    requires small { IsSmall (triples_of works.old) }
-    requires few { length works.old < 2 ^ 63 }
-    ensures bound { result.bound ≡ one (triples_of works.old) }
-    ensures turns { result.turns ≤ 2 * length works.old }
-    ensures each { length works.old ≤ result.turns }
-    ensures room { KeepsRoom queue.old queue.new }
-{
-    let mut best = 0;
-    let mut turns = 0;
-    let mut clock = ready_at(works, queue, 0);
-    while let Some(chosen) = queue.next_to_serve() {
-        let stop = serve(works, queue, clock, chosen, &mut best);
-        clock = ready_at(works, queue, stop);
-        turns += 1;
-    }
-    Outcome { bound: best, turns }
-}
-
 /// Writes the operations of `triples` over `works`, none of them served.
 fn fill(works: &mut [Work], triples: &[Triple])
     requires { length works.old ≡ length triples.now }
@@ -126,8 +100,9 @@ fn fill(works: &mut [Work], triples: &[Triple])
     }
 }
 
-/// Makes the preemptive schedule of the operations of `triples`. `works` and `queue` have room for them.
-fn schedule_list(works: &mut [Work], queue: &mut Queue, triples: &[Triple]) -> Outcome
+/// Makes the whole preemptive schedule of the operations of `triples`, turn by turn. `works` and `queue` have room for
+/// these operations.
+fn schedule(works: &mut [Work], queue: &mut Queue, triples: &[Triple]) -> Outcome
     requires works { length triples.now ≤ length works.old }
     requires queue { HasRoom (length triples.now) queue.old }
     requires small { IsSmall triples.now }
@@ -139,7 +114,15 @@ fn schedule_list(works: &mut [Work], queue: &mut Queue, triples: &[Triple]) -> O
     let works = &mut works[..triples.len()];
     fill(works, triples);
     queue.fill(triples);
-    schedule(works, queue)
+    let mut best = 0;
+    let mut turns = 0;
+    let mut clock = ready_at(works, queue, 0);
+    while let Some(chosen) = queue.next_to_serve() {
+        let stop = serve(works, queue, clock, chosen, &mut best);
+        clock = ready_at(works, queue, stop);
+        turns += 1;
+    }
+    Outcome { bound: best, turns }
 }
 
 /// Jackson's preemptive schedule of one machine (Carlier 1982): at each moment it serves the released operation of
@@ -154,8 +137,7 @@ pub struct Jackson {
 
 impl Model for Jackson {
     ghost use Rattle.std.specs.Prelude.{vec_len};
-    ghost use Rattle.shop_bound.specs.Schedules.{JacksonState};
-    ghost use Rattle.shop_bound.specs.inner.Queues.{HasRoom};
+    ghost use Rattle.shop_bound.specs.{Schedules.JacksonState, inner.Queues.HasRoom};
 
     ghost Value = { JacksonState };
 
@@ -170,16 +152,12 @@ impl Jackson {
         ensures { IfOk result (λ j. j ≡ record { room = n; turns = 0 }) }
     {
         let queue = Queue::with_room(alloc, n)?;
-        let mut works = Vec::with_capacity(alloc, n)?;
-        for _ in 0..n {
-            works
-                .push(Work {
-                    triple: NO_TRIPLE,
-                    spent: 0,
-                    done: true,
-                })
-                .unwrap();
-        }
+        let idle = Work {
+            triple: NO_TRIPLE,
+            spent: 0,
+            done: true,
+        };
+        let works = vec![in alloc; idle; n]?;
         Ok(Jackson {
             works,
             queue,
@@ -197,7 +175,7 @@ impl Jackson {
         ensures each { length triples.now ≤ self.new.turns }
         ensures room { self.new.room ≡ self.old.room }
     {
-        let outcome = schedule_list(self.works.as_mut_slice(), &mut self.queue, triples);
+        let outcome = schedule(self.works.as_mut_slice(), &mut self.queue, triples);
         self.last_turns = outcome.turns;
         outcome.bound
     }

@@ -1,6 +1,5 @@
 // Tails: the total time of the operations behind an operation on its route.
-ghost use Rattle.std.specs.Prelude.{◌≡◌, IfOk, length, map, sum_by};
-ghost use Rattle.std.specs.List.{range_with_len};
+ghost use Rattle.std.specs.{Prelude.{◌≡◌, IfOk, length, map, sum_by}, List.range_with_len};
 ghost use Rattle.shop_bound.specs.Heads.{tail_in, AreTails, AreTimesSmall};
 
 use shop_model::{Instance, Op};
@@ -11,11 +10,7 @@ pub fn total_time(route: &[Op]) -> u64
     requires { AreTimesSmall route.now }
     ensures { result ≡ sum_by (λ o. o.time) route.now }
 {
-    let mut total = 0;
-    for op in route {
-        total += op.time;
-    }
-    total
+    route.iter().map(|op| op.time).sum()
 }
 
 /// Computes the tail of each operation of `route`, in order. Fails with `NoMemory` if memory runs out.

@@ -1,7 +1,6 @@
 // The one-machine bound by thresholds: tries each head as least head with each tail as least tail.
 ghost use Rattle.std.specs.Prelude.{◌≡◌, ◌+◌, ◌^◌, ◌<◌, sum_by};
-ghost use Rattle.shop_bound.specs.OneMachine.{one, IsSmall};
-ghost use Rattle.shop_bound.specs.inner.Thresholds.{span_above};
+ghost use Rattle.shop_bound.specs.{OneMachine.{one, IsSmall}, inner.Thresholds.span_above};
 
 use crate::triples::Triple;
 

@@ -1,15 +1,12 @@
 -- The lists of the machines one after another, each down the columns of its blocks.
-use Rattle.std.proofs.Common.{◌≡◌, ℕ, ◌+◌, ◌-◌, ◌*◌, ◌/◌, ◌%◌, ◌^◌, ◌≤◌, ◌<◌, List, [], ◌∷◌, ◌++◌}
-use Rattle.std.proofs.Common.{length, get_or, sym, ◌∙◌, ap, arith}
-use Rattle.std.specs.Int.{div_ceil}
-use Rattle.std.proofs.lemmas.Bool.{cases_eq}
-use Rattle.std.proofs.lemmas.Grind.{div_ceil_times}
+use Rattle.std.proofs.Common.{◌≡◌, ℕ, ◌+◌, ◌-◌, ◌*◌, ◌/◌, ◌%◌, ◌^◌, ◌≤◌, ◌<◌, List, [], ◌∷◌, ◌++◌, length, get_or, sym}
+use Rattle.std.proofs.{Common.{◌∙◌, ap, arith}, lemmas.Bool.cases_eq, lemmas.Grind.div_ceil_times}
 use Rattle.std.proofs.lemmas.List.{get_or_append_left, get_or_default, get_or_past, length-append}
 use Rattle.std.proofs.Math.Seq.{get_or-append_seam}
+use Rattle.std.specs.Int.{div_ceil}
 use Rattle.shop_lanes.specs.Rows.{place_at_rank}
 use Rattle.shop_lanes.proofs.Columns.{place_fits, rank_of_place}
-use Rattle.shop_layout.specs.declared.slots.Slot.{Slot}
-use Rattle.shop_layout.specs.Positions.{position_at_rank}
+use Rattle.shop_layout.specs.{declared.slots.Slot.Slot, Positions.position_at_rank}
 use Rattle.shop_layout.specs.inner.Layings.{AreAdded, AreCells, AreShorter, no_slot}
 use Rattle.shop_layout.proofs.Ranks.{position_within}
 

@@ -1,9 +1,7 @@
 -- What blocks add up to, read down their columns.
-use Rattle.std.proofs.Common.{◌≡◌, ℕ, zero, suc, ◌+◌, ◌*◌, ◌≤◌, ◌<◌, List, [], ◌∷◌, length, take, get_or}
-use Rattle.std.proofs.Common.{refl, sym, ◌∙◌, ap, arith}
+use Rattle.std.proofs.Common.{◌≡◌, ℕ, zero, suc, ◌+◌, ◌*◌, ◌≤◌, ◌<◌, List, [], ◌∷◌, length, take, get_or, refl, sym}
+use Rattle.std.proofs.{Common.{◌∙◌, ap, arith}, lemmas.List.{take_all, take_more}, lemmas.List.Sums.sum_by_push}
 use Rattle.std.specs.List.{sum_by}
-use Rattle.std.proofs.lemmas.List.{take_all, take_more}
-use Rattle.std.proofs.lemmas.List.Sums.{sum_by_push}
 use Rattle.shop_lanes.specs.Rows.{by_columns, place_at_rank}
 use Rattle.shop_lanes.proofs.Columns.{by_columns-at, length-by_columns, place_of_rank}
 

@@ -1,19 +1,13 @@
 -- The lists of the machines, laid out.
-use Rattle.std.proofs.Common.{◌≡◌, ℕ, zero, suc, ◌+◌, ◌-◌, ◌*◌, ◌≤◌, ◌<◌, inl, inr, List, []}
-use Rattle.std.proofs.Common.{length, map, get_or, refl, arith}
-use Rattle.std.specs.List.{All}
-use Rattle.std.proofs.lemmas.Bool.{cases_eq, cases_lt}
+use Rattle.std.proofs.Common.{◌≡◌, ℕ, zero, suc, ◌+◌, ◌-◌, ◌*◌, ◌≤◌, ◌<◌, inl, inr, List, [], length, map, get_or, refl}
+use Rattle.std.proofs.{Common.arith, lemmas.Bool.{cases_eq, cases_lt}}
 use Rattle.std.proofs.lemmas.List.{get_or-map, get_or_past, get_or_default, length-map}
-use Rattle.shop_model.specs.Limits.{IsWithinLimits}
-use Rattle.shop_model.specs.Shop.{Shop}
-use Rattle.shop_layout.specs.declared.slots.Slot.{Slot}
-use Rattle.shop_layout.specs.Slots.{AreMachineSlots, AreSlotsOf}
-use Rattle.shop_layout.specs.inner.Layings.{AreCells, AreNoted, ArePlaces, AreShorter, HasRoutes}
-use Rattle.shop_layout.specs.inner.Layings.{IsInRows, no_slot, place_after}
+use Rattle.std.specs.List.{All}
+use Rattle.shop_model.specs.{Limits.IsWithinLimits, Shop.Shop}
+use Rattle.shop_layout.specs.{declared.slots.Slot.Slot, Slots.{AreMachineSlots, AreSlotsOf}, inner.Layings.place_after}
+use Rattle.shop_layout.specs.inner.Layings.{AreCells, AreNoted, ArePlaces, AreShorter, HasRoutes, IsInRows, no_slot}
 use Rattle.shop_layout.specs.Positions.{AreMachinesOf, IsLaidOut, LayoutState}
-use Rattle.shop_layout.proofs.ApartSlots.{slots_few}
-use Rattle.shop_layout.proofs.Ranks.{rank_at}
-use Rattle.shop_layout.proofs.SlotFacts.{slots_are_operations}
+use Rattle.shop_layout.proofs.{ApartSlots.slots_few, Ranks.rank_at, SlotFacts.slots_are_operations}
 
 pub machine_few : (shop : Shop) → IsWithinLimits shop → (lists : List (List Slot)) → AreMachineSlots shop lists
     → AreShorter 100000 lists

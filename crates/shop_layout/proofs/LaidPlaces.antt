@@ -1,17 +1,12 @@
 -- Where the operations of an instance stand by position.
-use Rattle.std.proofs.lemmas.Grind.{common_steps}
-use Rattle.std.proofs.Common.{◌≡◌, ℕ, zero, suc, ◌+◌, ◌-◌, ◌≤◌, ◌<◌, ◌⊎◌, inl, inr, [], length}
-use Rattle.std.proofs.Common.{get_or, refl, sym, ◌∙◌, ap, subst, arith}
-use Rattle.std.proofs.lemmas.Bool.{cases_eq, cases_lt}
-use Rattle.shop_model.specs.Limits.{IsWithinLimits}
-use Rattle.shop_model.specs.Shop.{Shop, IsOperation, route_of, machine_of, time_of}
+use Rattle.std.proofs.{lemmas.Grind.common_steps, Common.{ap, subst, arith}, lemmas.Bool.{cases_eq, cases_lt}}
+use Rattle.std.proofs.Common.{◌≡◌, ℕ, zero, suc, ◌+◌, ◌-◌, ◌≤◌, ◌<◌, ◌⊎◌, inl, inr, [], length, get_or, refl, sym, ◌∙◌}
+use Rattle.shop_model.specs.{Limits.IsWithinLimits, Shop.{Shop, IsOperation, route_of, machine_of, time_of}}
 use Rattle.shop_model.proofs.Ends.{IsOperation-job}
 use Rattle.shop_bound.specs.Heads.{tail_of}
-use Rattle.shop_layout.specs.Slots.{slot_at}
-use Rattle.shop_layout.specs.Positions.{IsFree, LayoutState, place, first_position, IsAt, IsLaidOut}
-use Rattle.shop_layout.specs.Positions.{IsPadding, position_at_rank}
-use Rattle.shop_layout.proofs.Ranks.{position_within, rank_at}
-use Rattle.shop_layout.proofs.SlotFacts.{slots_are_all, slots_are_operations}
+use Rattle.shop_layout.specs.{Slots.slot_at, Positions.position_at_rank}
+use Rattle.shop_layout.specs.Positions.{IsFree, LayoutState, place, first_position, IsAt, IsLaidOut, IsPadding}
+use Rattle.shop_layout.proofs.{Ranks.{position_within, rank_at}, SlotFacts.{slots_are_all, slots_are_operations}}
 
 pub record IsPlaceOf (shop : Shop) (l : LayoutState) (j k : ℕ) : Type 0 where
   pub job : get_or l.jobs (place l j k) 0 ≡ j

@@ -1,16 +1,12 @@
 -- Times and tails fit into lanes that hold the loads of all machines.
-use Rattle.std.proofs.Common.{◌≡◌, ℕ, ◌+◌, ◌-◌, ◌*◌, ◌≤◌, inl, inr, List, [], length, take}
-use Rattle.std.proofs.Common.{drop, get_or, sym, ◌∙◌, ap, arith}
-use Rattle.std.specs.List.{All}
+use Rattle.std.proofs.Common.{◌≡◌, ℕ, ◌+◌, ◌-◌, ◌*◌, ◌≤◌, inl, inr, List, [], length, take, drop, get_or, sym, ◌∙◌, ap}
+use Rattle.std.proofs.Common.{arith}
 use Rattle.std.proofs.lemmas.List.{get_or_default, get_or-take, get_or-drop, length-drop, length-take-le}
-use Rattle.shop_model.specs.Limits.{IsWithinLimits}
-use Rattle.shop_model.specs.Shop.{Shop}
-use Rattle.shop_model.specs.Word.{IsWord}
-use Rattle.shop_layout.specs.HeadLimits.{FitsLanes}
-use Rattle.shop_layout.proofs.LatestEnds.{latest_end_is}
+use Rattle.std.specs.List.{All}
+use Rattle.shop_model.specs.{Limits.IsWithinLimits, Shop.Shop, Word.IsWord}
+use Rattle.shop_layout.specs.{HeadLimits.FitsLanes, Positions.{LayoutState, place, first_position, IsLaidOut}}
+use Rattle.shop_layout.proofs.{LatestEnds.latest_end_is, LaidPlaces.{place_of, cell_at, machine_at, machines_rise}}
 use Rattle.shop_bound.proofs.Lists.{get_or-le-greatest_of}
-use Rattle.shop_layout.specs.Positions.{LayoutState, place, first_position, IsLaidOut}
-use Rattle.shop_layout.proofs.LaidPlaces.{place_of, cell_at, machine_at, machines_rise}
 
 no_word : (shop : Shop) → IsWord shop []
 no_word shop j = omega arith

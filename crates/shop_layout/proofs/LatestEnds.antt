@@ -1,17 +1,11 @@
 -- No operation ends later than the latest release and all times together.
 use Rattle.std.proofs.Common.{◌≡◌, ℕ, zero, suc, ◌+◌, ◌-◌, ◌≤◌, ◌<◌, List, length, take, ap, refl, arith}
+use Rattle.std.proofs.{lemmas.Bool.cases_eq, lemmas.List.take_more, lemmas.List.Sums.{sum_by_push, sum_by-take-le}}
 use Rattle.std.specs.List.{sum_by}
-use Rattle.std.proofs.lemmas.Bool.{cases_eq}
-use Rattle.std.proofs.lemmas.List.{take_more}
-use Rattle.std.proofs.lemmas.List.Sums.{sum_by_push, sum_by-take-le}
-use Rattle.shop_model.specs.declared.ops.Op.{Op}
+use Rattle.shop_model.specs.{declared.ops.Op.Op, Word.{Placing, IsWord, placing, place_next}}
 use Rattle.shop_model.specs.Shop.{Shop, no_op, route_of, release_of, machine_of, time_of, IsOperation}
-use Rattle.shop_model.specs.Word.{Placing, IsWord, placing, place_next}
-use Rattle.shop_model.proofs.Ends.{IsOperation-job}
-use Rattle.shop_model.proofs.Greatest.{le-greatest_below}
-use Rattle.shop_model.proofs.Placings.{IsNext, place_next-is}
-use Rattle.shop_model.proofs.Unders.{placing-snoc, next_operation, after_word}
-use Rattle.shop_model.proofs.WordLemmas.{snoc_induct, IsWord-init}
+use Rattle.shop_model.proofs.{Ends.IsOperation-job, Greatest.le-greatest_below, Placings.{IsNext, place_next-is}}
+use Rattle.shop_model.proofs.{Unders.{placing-snoc, next_operation, after_word}, WordLemmas.{snoc_induct, IsWord-init}}
 use Rattle.shop_bound.specs.Heads.{head_of, ready_after}
 use Rattle.shop_layout.specs.HeadLimits.{total_before, latest_release, latest_end}
 use Rattle.shop_bound.proofs.HeadTurns.{ready_first, ready_more}

@@ -1,11 +1,10 @@
 -- Places that are written one after another.
 use Rattle.std.proofs.Common.{◌≡◌, ℕ, ◌+◌, ◌<◌, inl, inr, List, [], length, get_or, set, ◌∙◌, ap, arith}
-use Rattle.std.specs.List.{All}
 use Rattle.std.proofs.lemmas.Bool.{cases_eq}
 use Rattle.std.proofs.lemmas.List.{get_or-set_same, get_or-set_other, length-set, get_or_default}
+use Rattle.std.specs.List.{All}
 use Rattle.shop_lanes.specs.Rows.{place_at_rank}
-use Rattle.shop_layout.specs.declared.slots.Slot.{Slot}
-use Rattle.shop_layout.specs.inner.Layings.{AreApart, AreNoted, IsInRows, no_slot}
+use Rattle.shop_layout.specs.{declared.slots.Slot.Slot, inner.Layings.{AreApart, AreNoted, IsInRows, no_slot}}
 use Rattle.shop_layout.specs.Positions.{place_in}
 
 module _ (now : List (List ℕ)) (j k x : ℕ) (job : j < length now) (step : k < length (get_or now j [])) where

@@ -1,17 +1,13 @@
 -- An instance whose machines are called by their ranks differs from it in their numbers alone.
 use Rattle.std.proofs.Common.{◌≡◌, ℕ, zero, suc, ◌≤◌, ◌<◌, List, [], ◌∷◌, length, map, get_or, refl, ◌∙◌, ap, arith}
-use Rattle.std.specs.List.{sum_by}
-use Rattle.std.proofs.lemmas.Bool.{cases_lt}
-use Rattle.std.proofs.lemmas.List.{drop-map, get_or-map, get_or_past, length-map}
+use Rattle.std.proofs.{lemmas.Bool.cases_lt, lemmas.List.{drop-map, get_or-map, get_or_past, length-map}}
 use Rattle.std.proofs.lemmas.List.Sums.{sum_by-cons}
-use Rattle.shop_model.specs.declared.ops.Op.{Op}
-use Rattle.shop_model.specs.Limits.{IsWithinLimits}
+use Rattle.std.specs.List.{sum_by}
+use Rattle.shop_model.specs.{declared.ops.Op.Op, Limits.IsWithinLimits}
 use Rattle.shop_model.specs.Shop.{Shop, ShopJob, IsOperation, greatest_below, machine_of, no_job, no_op}
 use Rattle.shop_model.specs.Shop.{operation_count, release_of, route_of, time_of}
-use Rattle.shop_bound.specs.Heads.{tail_in}
-use Rattle.shop_bound.specs.Renumbered.{IsRenumbered}
-use Rattle.shop_layout.specs.HeadLimits.{latest_end, total_before}
-use Rattle.shop_layout.specs.Ranks.{AreRanks, ranked, ranked_job, ranked_op}
+use Rattle.shop_bound.specs.{Heads.tail_in, Renumbered.IsRenumbered}
+use Rattle.shop_layout.specs.{HeadLimits.{latest_end, total_before}, Ranks.{AreRanks, ranked, ranked_job, ranked_op}}
 
 get_or_mapped : {A B : Type 0} (f : A → B) (xs : List A) (i : ℕ) (d : A)
     → get_or (map f xs) i (f d) ≡ f (get_or xs i d)

@@ -1,15 +1,11 @@
 -- Slots and places of an instance whose machines are called by their ranks.
 use Rattle.std.proofs.Common.{◌≡◌, ℕ, ◌+◌, ◌<◌, List, [], ◌∷◌, ◌++◌, length, map, get_or, set, arith}
 use Rattle.std.specs.List.{All}
-use Rattle.shop_model.specs.declared.ops.Op.{Op}
-use Rattle.shop_model.specs.Shop.{Shop, no_op}
+use Rattle.shop_model.specs.{declared.ops.Op.Op, Shop.{Shop, no_op}}
 use Rattle.shop_bound.specs.Heads.{tail_in}
-use Rattle.shop_layout.specs.Ranks.{ranked, ranked_op}
-use Rattle.shop_layout.specs.Slots.{AreSlotsOf}
-use Rattle.shop_layout.specs.declared.slots.Slot.{Slot}
+use Rattle.shop_layout.specs.{Ranks.{ranked, ranked_op}, Slots.AreSlotsOf, declared.slots.Slot.Slot}
 use Rattle.shop_layout.specs.inner.Layings.{ArePlaces, HasRoutes, IsInRows}
-use Rattle.shop_layout.proofs.LaidLists.{rows_in}
-use Rattle.shop_layout.proofs.RankedShops.{jobs_ranked, op_ranked, steps_ranked, tail_ranked}
+use Rattle.shop_layout.proofs.{LaidLists.rows_in, RankedShops.{jobs_ranked, op_ranked, steps_ranked, tail_ranked}}
 use Rattle.shop_layout.proofs.SlotLists.{IsAddedTo, added_set}
 
 -- step k goes to the list of its machine's rank

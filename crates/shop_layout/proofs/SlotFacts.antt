@@ -1,15 +1,12 @@
 -- The slots of a machine are its operations, each of them once at least.
-use Rattle.std.proofs.Common.{◌≡◌, ℕ, zero, suc, ◌+◌, ◌≤◌, ◌<◌, inl, inr, Bool, true, List, [], ◌∷◌, rules}
-use Rattle.std.proofs.Common.{length, map, get_or, refl, arith, eqb}
-use Rattle.std.specs.List.{AllByRecursion, All, Contains, filter, flat_map, range_with_len}
-use Rattle.std.proofs.lemmas.Bool.{cases_Bool, eq-eqb, eqb-true}
-use Rattle.std.proofs.lemmas.List.{length-map, get_or-map}
+use Rattle.std.proofs.Common.{◌≡◌, ℕ, zero, suc, ◌+◌, ◌≤◌, ◌<◌, inl, inr, Bool, true, List, [], ◌∷◌, rules, length, map}
+use Rattle.std.proofs.{Common.{get_or, refl, arith, eqb}, lemmas.Bool.{cases_Bool, eq-eqb, eqb-true}}
+use Rattle.std.proofs.{lemmas.List.{length-map, get_or-map}, lemmas.List.Sorted.{All-permutation, Contains-permutation}}
 use Rattle.std.proofs.lemmas.List.FromFn.{get_or-range_with_len, length-range_with_len}
 use Rattle.std.proofs.lemmas.List.Elements.{All-from_recursion, Contains-append_left, Contains-append_right}
-use Rattle.std.proofs.lemmas.List.Sorted.{All-permutation, Contains-permutation}
+use Rattle.std.specs.List.{AllByRecursion, All, Contains, filter, flat_map, range_with_len}
 use Rattle.shop_model.specs.Shop.{Shop, route_of, machine_of, IsOperation}
-use Rattle.shop_layout.specs.declared.slots.Slot.{Slot}
-use Rattle.shop_layout.specs.Slots.{slot_at, operations_in, operations_on, AreSlotsOf}
+use Rattle.shop_layout.specs.{declared.slots.Slot.Slot, Slots.{slot_at, operations_in, operations_on, AreSlotsOf}}
 use Rattle.shop_bound.proofs.Lists.{all_map, all_filter}
 use Rattle.shop_layout.proofs.FlatLists.{all_flat, all_mapped, range_within}
 

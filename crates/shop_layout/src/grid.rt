@@ -1,16 +1,12 @@
 // `Grid`: the operations of an instance by position, with their times and tails in lanes.
-ghost use Rattle.std.specs.Prelude.{◌≡◌, ◌<◌, IfOk, length, slice_index, slice_index_or, []};
-ghost use Rattle.std.specs.Prelude.{◌≤◌, ◌+◌, ◌-◌, ◌*◌, ◌^◌, map};
+ghost use Rattle.std.specs.Prelude.{◌≡◌, ◌<◌, IfOk, length, slice_index, slice_index_or, [], ◌≤◌, ◌+◌, ◌-◌, ◌*◌, ◌^◌};
+ghost use Rattle.std.specs.Prelude.{map};
 ghost use Rattle.shop_model.specs.Shop.{Shop};
-ghost use Rattle.shop_lanes.specs.Rows.{AreBlocks, lanes_between};
-ghost use Rattle.shop_lanes.specs.Spans.{AreOwnSpans, FitOwnSpans};
-ghost use Rattle.shop_layout.specs.Lanes.{rows_of};
-ghost use Rattle.shop_layout.specs.LaidOuts.{IsReady};
-ghost use Rattle.shop_layout.specs.Positions.{AreEven, HoldsMachines};
+ghost use Rattle.shop_lanes.specs.{Rows.{AreBlocks, lanes_between}, Spans.{AreOwnSpans, FitOwnSpans}};
+ghost use Rattle.shop_layout.specs.{Lanes.rows_of, LaidOuts.IsReady, Positions.{AreEven, HoldsMachines}};
 
-use crate::legs::{Leg, Legs, behind_of, legs_of};
+use crate::legs::{Leg, Legs, Routes, behind_of, legs_of};
 use crate::positions::Positions;
-use crate::routes::Routes;
 use shop_lanes::{LaneRows, StateLanes};
 use std::alloc::{AllocError as NoMemory, Global};
 use std::marker::Model;
@@ -33,9 +29,7 @@ pub struct Grid<L: StateLanes> {
 
 impl<L: StateLanes> Model for Grid<L> {
     ghost use Rattle.std.specs.Prelude.{◌≡◌};
-    ghost use Rattle.shop_layout.specs.Positions.{AreEven, LayoutState};
-    ghost use Rattle.shop_layout.specs.Legs.{all_legs};
-    ghost use Rattle.shop_layout.specs.inner.RouteRows.{IsBehind};
+    ghost use Rattle.shop_layout.specs.{Positions.{AreEven, LayoutState}, Legs.all_legs, inner.RouteRows.IsBehind};
 
     ghost Value = { LayoutState };
 

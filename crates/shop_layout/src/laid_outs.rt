@@ -1,14 +1,10 @@
 // `LaidOut`: an instance with its layout in lanes of one width.
 ghost use Rattle.std.specs.Prelude.{◌≡◌, ◌≤◌, ◌<◌, IfOk};
-ghost use Rattle.shop_model.specs.Limits.{IsWithinLimits};
-ghost use Rattle.shop_model.specs.Shop.{operation_count};
+ghost use Rattle.shop_model.specs.{Limits.IsWithinLimits, Shop.operation_count};
 ghost use Rattle.shop_bound.specs.Renumbered.{IsRenumbered};
-ghost use Rattle.shop_layout.specs.LaidOuts.{IsReady};
-ghost use Rattle.shop_layout.specs.Positions.{AreEven};
-ghost use Rattle.shop_layout.specs.Ranks.{AreRanks, ranked};
+ghost use Rattle.shop_layout.specs.{LaidOuts.IsReady, Positions.AreEven, Ranks.{AreRanks, ranked}};
 
 use crate::grid::Grid;
-use crate::machine_ranks::Ranks;
 use crate::positions::Positions;
 use shop_lanes::StateLanes;
 use shop_model::Instance;
@@ -20,7 +16,7 @@ use std::marker::Model;
 pub struct LaidOut<'a, L: StateLanes> {
     instance: &'a Instance,
     /// the number of each machine in the layout, which only contracts read
-    ranks: Ranks,
+    ranks: Vec<usize>,
     grid: Grid<L>,
 }
 
@@ -38,21 +34,20 @@ impl<L: StateLanes> Drop for LaidOut<'_, L> {
 impl<'a, L: StateLanes> Model for LaidOut<'a, L> {
     ghost use Rattle.std.specs.Prelude.{◌≤◌, ◌<◌};
     ghost use Rattle.shop_model.specs.Limits.{IsWithinLimits};
-    ghost use Rattle.shop_layout.specs.LaidOuts.{IsReady, LaidOutState};
-    ghost use Rattle.shop_layout.specs.Ranks.{AreRanks, ranked};
+    ghost use Rattle.shop_layout.specs.{LaidOuts.{IsReady, LaidOutState}, Ranks.{AreRanks, ranked}};
 
     ghost Value = { LaidOutState };
 
     ghost view = { λ l. record {
-      shop = ranked l.ranks l.instance.now;
+      shop = ranked l.ranks.items l.instance.now;
       asked = l.instance.now;
       layout = l.grid;
     } };
 
-    ghost invariant = { λ l. IsReady L.GREATEST (ranked l.ranks l.instance.now) l.grid
+    ghost invariant = { λ l. IsReady L.GREATEST (ranked l.ranks.items l.instance.now) l.grid
         × (0 < L.EACH → l.instance.now.machines ≤ 64)
         × IsWithinLimits l.instance.now
-        × AreRanks l.instance.now.machines l.ranks };
+        × AreRanks l.instance.now.machines l.ranks.items };
 }
 
 impl<'a, L: StateLanes> LaidOut<'a, L> {
@@ -61,11 +56,11 @@ impl<'a, L: StateLanes> LaidOut<'a, L> {
     pub(crate) fn of(
         alloc: Global,
         instance: &'a Instance,
-        ranks: Ranks,
+        ranks: Vec<usize>,
         positions: Positions,
     ) -> Result<LaidOut<'a, L>, NoMemory>
-        requires ranks { AreRanks instance.now.machines ranks }
-        requires ready { IsReady L.GREATEST (ranked ranks instance.now) positions }
+        requires ranks { AreRanks instance.now.machines ranks.items }
+        requires ready { IsReady L.GREATEST (ranked ranks.items instance.now) positions }
         requires even { AreEven positions.blocks L.EACH }
         requires few { 0 < L.EACH → instance.now.machines ≤ 64 }
         ensures { IfOk result (λ l. l.asked ≡ instance.now) }

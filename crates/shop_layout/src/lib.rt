@@ -3,18 +3,14 @@
 
 mod grid;
 mod laid_outs;
-mod latest_ends;
-mod layings;
 mod layouts;
 mod legs;
 mod machine_ranks;
 mod positions;
-mod routes;
 mod slots;
 
 pub use grid::Grid;
 pub use laid_outs::LaidOut;
 pub use layouts::{LaneLayout, Layout};
-pub use legs::Leg;
-pub use routes::Routes;
+pub use legs::{Leg, Routes};
 pub use slots::Slot;

@@ -1,13 +1,14 @@
 // `Positions`: the operations of an instance by position.
-ghost use Rattle.std.specs.Prelude.{◌≡◌, IfOk, length};
-ghost use Rattle.shop_layout.specs.Positions.{IsLaidOut};
-ghost use Rattle.shop_layout.specs.Ranks.{AreRanks, ranked};
+ghost use Rattle.std.specs.Prelude.{◌≡◌, ℕ, ◌+◌, ◌-◌, ◌*◌, ◌/◌, ◌%◌, ◌<◌, ◌≤◌, ◌^◌, All, IfOk, OnOk, List, length, map};
+ghost use Rattle.std.specs.Prelude.{slice_index};
+ghost use Rattle.shop_lanes.specs.Rows.{place_at_rank};
+ghost use Rattle.shop_model.specs.declared.limits.TheConstants.{MAX_JOBS, MAX_MACHINES, MAX_STEPS};
+ghost use Rattle.shop_layout.specs.{Positions.{AreMachinesOf, IsLaidOut}, Ranks.{AreRanks, ranked}};
+ghost use Rattle.shop_layout.specs.{Slots.AreMachineSlots, inner.Vectors.items_in};
+ghost use Rattle.shop_layout.specs.inner.Layings.{AreAdded, AreApart, AreCells, AreNoted, ArePlaces, AreShorter};
+ghost use Rattle.shop_layout.specs.inner.Layings.{HaveRoom, IsInRows, place_after};
 
-use crate::layings::{
-    Cells, cells_of, following_of, jobs_of, machines_of, places_of, steps_of, tails_of, times_of,
-};
-use crate::machine_ranks::Ranks;
-use crate::slots::machine_slots;
+use crate::slots::{Slot, machine_slots};
 use shop_model::Instance;
 use std::alloc::{AllocError as NoMemory, Global};
 use std::marker::Model;
@@ -55,8 +56,7 @@ impl Drop for Positions {
 
 impl Model for Positions {
     ghost use Rattle.std.specs.Prelude.{◌≡◌, length};
-    ghost use Rattle.shop_layout.specs.Positions.{LayoutState};
-    ghost use Rattle.shop_layout.specs.inner.Vectors.{items_in};
+    ghost use Rattle.shop_layout.specs.{Positions.LayoutState, inner.Vectors.items_in};
 
     ghost Value = { LayoutState };
 
@@ -74,13 +74,178 @@ impl Model for Positions {
     ghost invariant = { λ l. l.end ≡ length l.following.items };
 }
 
+/// The slot at padding: its time and tail are 0.
+const NO_SLOT: Slot = Slot {
+    job: 0,
+    step: 0,
+    time: 0,
+    tail: 0,
+};
+
+/// The slot at each position in `slots`; the first block of each machine, then the number of all blocks, in `blocks`.
+#[derive(Drop)]
+struct Cells {
+    slots: Vec<Slot>,
+    blocks: Vec<u32>,
+}
+
+/// Adds `count` blocks to `slots`, with the operations of `list` down their columns and padding behind. Fails with
+/// `NoMemory` if memory runs out.
+fn add_blocks(slots: &mut Vec<Slot>, list: &[Slot], count: usize) -> Result<(), NoMemory>
+    requires { 8 * count < 2 ^ 32 }
+    ensures { OnOk result (AreAdded list.now count (8 * count) slots.old.items slots.new.items) }
+{
+    for place in 0..8 * count {
+        // ranks run down the first lanes of all blocks, then down the second lanes
+        let rank = place % 8 * count + place / 8;
+        slots.push(list.get(rank).copied().unwrap_or(NO_SLOT))?;
+    }
+    Ok(())
+}
+
+/// Lays out `lists`, the operations of each machine, machine after machine. Each list gets whole blocks of eight: it
+/// runs down the first lanes of its blocks, then down the second lanes, and so on, and padding fills the rest.
+/// Fails with `NoMemory` if memory runs out.
+fn cells_of(alloc: Global, lists: &[Vec<Slot>]) -> Result<Cells, NoMemory>
+    requires few { length lists.now ≤ MAX_MACHINES }
+    requires short { AreShorter (MAX_JOBS * MAX_STEPS) (items_in lists.now) }
+    ensures { IfOk result (λ c. AreCells (items_in lists.now) (length lists.now)
+        c.slots.items c.blocks.items) }
+{
+    let mut slots = Vec::new(alloc);
+    let mut blocks = Vec::new(alloc);
+    blocks.push(0)?;
+    for m in 0..lists.len() {
+        let list = lists[m].as_slice();
+        add_blocks(&mut slots, list, list.len().div_ceil(8))?;
+        blocks.push((slots.len() / 8) as u32)?;
+    }
+    Ok(Cells { slots, blocks })
+}
+
+/// Lists the job of each slot, in order of position. Fails with `NoMemory` if memory runs out.
+fn jobs_of(alloc: Global, slots: &[Slot]) -> Result<Vec<u32>, NoMemory>
+    requires { All (λ s. s.job < 2 ^ 32) slots.now }
+    ensures { IfOk result (λ v. v.items ≡ map (λ s. s.job) slots.now) }
+{
+    slots.iter().map(|s| s.job as u32).collect(alloc)
+}
+
+/// Lists the step of each slot, in order of position. Fails with `NoMemory` if memory runs out.
+fn steps_of(alloc: Global, slots: &[Slot]) -> Result<Vec<u32>, NoMemory>
+    requires { All (λ s. s.step < 2 ^ 32) slots.now }
+    ensures { IfOk result (λ v. v.items ≡ map (λ s. s.step) slots.now) }
+{
+    slots.iter().map(|s| s.step as u32).collect(alloc)
+}
+
+/// Lists the time of each slot, in order of position. Fails with `NoMemory` if memory runs out.
+fn times_of(alloc: Global, slots: &[Slot]) -> Result<Vec<u64>, NoMemory>
+    ensures { IfOk result (λ v. v.items ≡ map (λ s. s.time) slots.now) }
+{
+    slots.iter().map(|s| s.time).collect(alloc)
+}
+
+/// Lists the tail of each slot, in order of position. Fails with `NoMemory` if memory runs out.
+fn tails_of(alloc: Global, slots: &[Slot]) -> Result<Vec<u64>, NoMemory>
+    ensures { IfOk result (λ v. v.items ≡ map (λ s. s.tail) slots.now) }
+{
+    slots.iter().map(|s| s.tail).collect(alloc)
+}
+
+/// Writes into `places` the positions of `slots`: down the columns of `count` blocks from position `first` on.
+fn note_places(places: &mut [Vec<u32>], slots: &[Slot], first: usize, count: usize)
+    requires rows { All (IsInRows (items_in places.old)) slots.now }
+    requires apart { AreApart slots.now }
+    requires room { length slots.now ≤ 8 * count }
+    requires small { first + 8 * count < 2 ^ 32 }
+    ensures long { length places.new ≡ length places.old }
+    ensures noted { AreNoted (length slots.now) first count slots.now
+        (items_in places.old) (items_in places.new) }
+{
+    for rank in 0..slots.len() {
+        let slot = slots[rank];
+        let place = 8 * (rank % count) + rank / count;
+        places[slot.job][slot.step] = (first + place) as u32;
+    }
+}
+
+/// Answers the position of each step of each job. `lists` has the operations of each machine, by any ranks, and
+/// those of `lists[m]` are in blocks `blocks[m]` up to `blocks[m + 1]` (excluded). Fails with `NoMemory` if memory
+/// runs out.
+fn places_of(
+    alloc: Global,
+    instance: &Instance,
+    lists: &[Vec<Slot>],
+    blocks: &[u32],
+) -> Result<Vec<Vec<u32>>, NoMemory>
+    requires slots { (ranks : List ℕ)
+        × AreMachineSlots (ranked ranks instance.now) (items_in lists.now) }
+    requires blocks { length blocks.now ≡ instance.now.machines + 1 }
+    requires room { HaveRoom (items_in lists.now) instance.now.machines blocks.now }
+    requires few { All (λ b. b ≤ MAX_MACHINES * (MAX_JOBS * MAX_STEPS + 8)) blocks.now }
+    ensures { IfOk result (λ v. ArePlaces instance.now (items_in lists.now) blocks.now
+        instance.now.machines (items_in v.items)) }
+{
+    instance.keeps_limits();
+    let mut places = Vec::new(alloc);
+    for j in 0..instance.jobs() {
+        places.push(vec![in alloc; 0; instance.route(j).len()]?)?;
+    }
+    for m in 0..lists.len() {
+        let (from, to) = (blocks[m] as usize, blocks[m + 1] as usize);
+        note_places(
+            places.as_mut_slice(),
+            lists[m].as_slice(),
+            8 * from,
+            to - from,
+        );
+    }
+    Ok(places)
+}
+
+/// Lists, for each slot, the position of the next step on its job's route, or the number of all positions if the route
+/// ends. Fails with `NoMemory` if memory runs out.
+fn following_of(alloc: Global, slots: &[Slot], places: &[Vec<u32>]) -> Result<Vec<u32>, NoMemory>
+    requires jobs { All (λ s. s.job < length places.now) slots.now }
+    requires steps { All (λ s. s.step < 2 ^ 32) slots.now }
+    requires few { length slots.now < 2 ^ 32 }
+    ensures { IfOk result (λ v. v.items
+        ≡ map (place_after (length slots.now) (items_in places.now)) slots.now) }
+{
+    let mut following = Vec::new(alloc);
+    for s in slots {
+        let next = places[s.job].get(s.step + 1).copied();
+        following.push(next.unwrap_or(slots.len() as u32))?;
+    }
+    Ok(following)
+}
+
+/// Lists the machine of each position. `blocks` holds the first block of each machine, then the number of all blocks.
+/// Fails with `NoMemory` if memory runs out.
+fn machines_of(alloc: Global, blocks: &[u32]) -> Result<Vec<u32>, NoMemory>
+    requires from_0 { slice_index blocks.now 0 ≡ 0 }
+    requires some { 0 < length blocks.now }
+    requires ordered { (m : ℕ) → m + 1 < length blocks.now
+        → slice_index blocks.now m ≤ slice_index blocks.now (m + 1) }
+    requires few { All (λ b. b ≤ MAX_MACHINES * (MAX_JOBS * MAX_STEPS + 8)) blocks.now }
+    requires small { length blocks.now ≤ MAX_MACHINES + 1 }
+    ensures { IfOk result (λ v. AreMachinesOf blocks.now (length blocks.now - 1) v.items) }
+{
+    let mut machines = Vec::new(alloc);
+    for machine in 0..blocks.len() - 1 {
+        machines.resize(8 * blocks[machine + 1] as usize, machine as u32)?;
+    }
+    Ok(machines)
+}
+
 impl Positions {
     /// Lays out the operations of `instance` by position, machine after machine by rank. Fails with `NoMemory` if
     /// memory runs out.
     pub(crate) fn of(
         alloc: Global,
         instance: &Instance,
-        ranks: &Ranks,
+        ranks: &[usize],
     ) -> Result<Positions, NoMemory>
         requires { AreRanks instance.now.machines ranks.now }
         ensures { IfOk result (λ l. IsLaidOut (ranked ranks.now instance.now) l) }

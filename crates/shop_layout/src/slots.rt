@@ -1,13 +1,10 @@
 // Lists the operations of each machine by nonincreasing tail. The list at index r is that of the machine of rank r.
-ghost use Rattle.std.specs.Prelude.{◌≡◌, ℕ, ◌<◌, [], slice_index_or, IfOk, OnOk, length, map, replicate};
+ghost use Rattle.std.specs.Prelude.{◌≡◌, ℕ, ◌<◌, slice_index_or, IfOk, OnOk, length, map};
 ghost use Rattle.shop_model.specs.Shop.{no_op};
 ghost use Rattle.shop_bound.specs.Heads.{AreTimesSmall};
-ghost use Rattle.shop_layout.specs.Ranks.{AreRanks, ranked, ranked_op};
-ghost use Rattle.shop_layout.specs.Slots.{AreMachineSlots};
+ghost use Rattle.shop_layout.specs.{Ranks.{AreRanks, ranked, ranked_op}, Slots.AreMachineSlots, inner.Vectors.items_in};
 ghost use Rattle.shop_layout.specs.inner.MachineLists.{AddsOperations, AreOperations};
-ghost use Rattle.shop_layout.specs.inner.Vectors.{items_in};
 
-use crate::machine_ranks::Ranks;
 use shop_bound::total_time;
 use shop_model::{Instance, Op};
 use std::alloc::{AllocError as NoMemory, Global};
@@ -28,7 +25,7 @@ fn add_operations(
     lists: &mut [Vec<Slot>],
     route: &[Op],
     job: usize,
-    ranks: &Ranks,
+    ranks: &[usize],
 ) -> Result<(), NoMemory>
     requires times { AreTimesSmall route.now }
     requires machines { (k : ℕ) → (slice_index_or route.now k no_op).machine < length lists.old }
@@ -40,7 +37,7 @@ fn add_operations(
     for k in 0..route.len() {
         let op = route[k];
         tail -= op.time;
-        let slots = &mut lists[ranks.rank(op.machine)];
+        let slots = &mut lists[ranks[op.machine]];
         slots.push(Slot {
             job,
             step: k,
@@ -51,10 +48,16 @@ fn add_operations(
     Ok(())
 }
 
-/// Makes an empty list for each machine, with room for one operation of each job. Fails with `NoMemory` if memory runs
-/// out.
-fn empty_lists(alloc: Global, instance: &Instance) -> Result<Vec<Vec<Slot>>, NoMemory>
-    ensures { IfOk result (λ v. items_in v.items ≡ replicate instance.now.machines []) }
+/// Lists the operations of each machine, job by job, the machines by rank. Each list begins with room for one operation
+/// of each job. Fails with `NoMemory` if memory runs out.
+fn operations_by_machine(
+    alloc: Global,
+    instance: &Instance,
+    ranks: &[usize],
+) -> Result<Vec<Vec<Slot>>, NoMemory>
+    requires { AreRanks instance.now.machines ranks.now }
+    ensures { IfOk result (λ v. AreOperations (ranked ranks.now instance.now)
+        (map (λ slots. slots.items) v.items)) }
 {
     let mut lists = Vec::with_capacity(alloc, instance.machines())?;
     for _ in 0..instance.machines() {
@@ -62,20 +65,6 @@ fn empty_lists(alloc: Global, instance: &Instance) -> Result<Vec<Vec<Slot>>, NoM
             .push(Vec::with_capacity(alloc, instance.jobs())?)
             .unwrap();
     }
-    Ok(lists)
-}
-
-/// Lists the operations of each machine, job by job, the machines by rank. Fails with `NoMemory` if memory runs out.
-fn operations_by_machine(
-    alloc: Global,
-    instance: &Instance,
-    ranks: &Ranks,
-) -> Result<Vec<Vec<Slot>>, NoMemory>
-    requires { AreRanks instance.now.machines ranks.now }
-    ensures { IfOk result (λ v. AreOperations (ranked ranks.now instance.now)
-        (map (λ slots. slots.items) v.items)) }
-{
-    let mut lists = empty_lists(alloc, instance)?;
     for j in 0..instance.jobs() {
         add_operations(lists.as_mut_slice(), instance.route(j), j, ranks)?;
     }
@@ -87,7 +76,7 @@ fn operations_by_machine(
 pub(crate) fn machine_slots(
     alloc: Global,
     instance: &Instance,
-    ranks: &Ranks,
+    ranks: &[usize],
 ) -> Result<Vec<Vec<Slot>>, NoMemory>
     requires { AreRanks instance.now.machines ranks.now }
     ensures { IfOk result (λ v. AreMachineSlots (ranked ranks.now instance.now)

@@ -1,12 +1,37 @@
-// The crew that searches on the calling thread alone.
-ghost use Rattle.std.specs.Prelude.{IfOk};
-ghost use Rattle.shop_runs.specs.Entries.{told};
-ghost use Rattle.shop_runs.specs.Crews.{OneForEach, StopsAtHit};
+// The crew that searches on the calling thread alone, and runs by this crew.
+ghost use Rattle.std.specs.Prelude.{◌≡◌, ◌+◌, ◌<◌, ◌^◌, length, IfOk, OnOk};
+ghost use Rattle.shop_runs.specs.{Crews.{OneForEach, StopsAtHit}, Entries.told, Runs.{SaysAnswer, IsTrusted}};
+ghost use Rattle.shop_round.specs.inner.Hits.{IsEntryUpToHit, IsFirstHitBelow};
 
-use crate::hit_search::entry_up_to_hit;
 use crate::piece_searchers::PieceSearcher;
-use shop_runs::{Crew, Entry, PieceSearch, Round};
+use shop_model::Instance;
+use shop_runs::{Answer, Crew, Entry, PieceSearch, Plan, Round, run};
 use std::alloc::{AllocError as NoMemory, Global};
+
+/// Answers the entry of piece `number`. Passes the piece if `hit` holds an earlier one. Otherwise searches it, and sets
+/// `hit` to `number` if the makespan of its sheet equals the opening bound. Fails with `NoMemory` if memory runs out.
+fn entry_up_to_hit<'r>(
+    alloc: Global,
+    searcher: &mut PieceSearcher<'r>,
+    number: usize,
+    hit: &mut Option<usize>,
+) -> Result<Entry<'r>, NoMemory>
+    requires piece { number < length searcher.old.pieces.items }
+    requires hit { IsFirstHitBelow (told searcher.old) number hit.old }
+    ensures entry { IfOk result (IsEntryUpToHit (told searcher.old) number) }
+    ensures hit { OnOk result (IsFirstHitBelow (told searcher.old) (number + 1) hit.new) }
+    ensures round { searcher.new ≡ searcher.old }
+{
+    if let Some(by) = *hit {
+        return Ok(Entry::passed(searcher.round(), number, by));
+    }
+    let sheet = searcher.search(alloc, number)?;
+    let round = searcher.round();
+    if sheet.makespan == round.bound {
+        *hit = Some(number);
+    }
+    Ok(Entry::done(round, sheet))
+}
 
 /// The crew of the calling thread alone. It searches the pieces of a round in order until one's makespan equals the
 /// opening bound, and passes the rest.
@@ -47,4 +72,13 @@ impl<R> Crew<R> for Alone {
     ) -> Result<Vec<Entry<'r>>, NoMemory> {
         self.search_round(alloc, round)
     }
+}
+
+/// Searches `instance` by `plan`, as `run` does, on the calling thread alone. Fails with `NoMemory` if memory runs out.
+pub fn run_alone(alloc: Global, instance: &Instance, plan: &Plan) -> Result<Answer, NoMemory>
+    ensures says { IfOk result (λ a. SaysAnswer instance.now plan.now a) }
+    ensures trust { IfOk result (λ a. IsTrusted instance.now a) }
+    ensures nodes { IfOk result (λ a. a.nodes < 2 ^ 50) }
+{
+    run(&(), alloc, instance, plan, &mut Alone)
 }

@@ -2,12 +2,9 @@
 #![tactic(auto)]
 
 mod alone;
-mod hit_search;
 mod piece_searchers;
-mod runs;
 
-pub use alone::Alone;
+pub use alone::{Alone, run_alone};
 pub use piece_searchers::PieceSearcher;
-pub use runs::run_alone;
 pub use shop_runs::{Answer, Crew, Entry, Kind, Order, Plan, Round, Standing, gather, run};
 pub use std::alloc::AllocError as NoMemory;

@@ -1,21 +1,14 @@
 -- Children put on a stack: open ones, and before them, if there are others, their number.
-use Rattle.std.proofs.Common.{rules}
-use Rattle.std.proofs.Common.{◌≡◌, ℕ, zero, suc, ◌+◌, ◌-◌, ◌≤◌, ◌<◌, List, [], ◌∷◌, ◌++◌, length, map, take}
-use Rattle.std.proofs.Common.{reverse, refl, ◌∙◌, ap, arith, append_assoc, append-nil}
-use Rattle.std.proofs.Math.Seq.{take-length}
+use Rattle.std.proofs.Common.{rules, ◌≡◌, ℕ, zero, suc, ◌+◌, ◌-◌, ◌≤◌, ◌<◌, List, [], ◌∷◌, ◌++◌, length, map, take}
+use Rattle.std.proofs.{Common.{reverse, refl, ◌∙◌, ap, arith, append_assoc, append-nil}, Math.Seq.take-length}
 use Rattle.std.proofs.lemmas.List.{length-map, length-reverse, length-append, drop_at}
-use Rattle.shop_model.specs.Shop.{Shop, operation_count}
-use Rattle.shop_model.specs.Word.{IsWord}
+use Rattle.shop_model.specs.{Shop.{Shop, operation_count}, Word.IsWord}
 use Rattle.shop_bound.specs.Bound.{lb}
-use Rattle.shop_nodes.specs.Branching.{branch, conflict, sort_by}
-use Rattle.shop_nodes.specs.Halts.{last_of, IsClosed, IsWaiting}
-use Rattle.shop_tree.specs.inner.Opens.{open_words, IsAt, AreChildren}
-use Rattle.shop_tree.proofs.Pushing.{with_opens, with_rest}
-use Rattle.shop_tree.specs.inner.Searching.{Adds}
-use Rattle.shop_nodes.specs.declared.halts.Open.{Open}
-use Rattle.shop_nodes.specs.declared.halts.Waiting.{Waiting}
+use Rattle.shop_nodes.specs.{Branching.{branch, conflict, sort_by}, Halts.{last_of, IsClosed, IsWaiting}}
+use Rattle.shop_nodes.specs.{declared.halts.Open.Open, declared.halts.Waiting.Waiting}
 use Rattle.shop_nodes.specs.declared.halts.Waiting.TheVariants.{Child, Rest}
-use Rattle.shop_tree.proofs.OpenLemmas.{opens-words, all-opens}
+use Rattle.shop_tree.specs.{inner.Opens.{open_words, IsAt, AreChildren}, inner.Searching.Adds}
+use Rattle.shop_tree.proofs.{Pushing.{with_opens, with_rest}, OpenLemmas.{opens-words, all-opens}}
 use Rattle.shop_nodes.proofs.WalkSteps.{branch_few, length-insert_by}
 
 -- the last elements are the second part

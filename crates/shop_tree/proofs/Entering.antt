@@ -1,12 +1,10 @@
 -- What a walk finds when it goes on from a word.
-use Rattle.std.proofs.Common.{◌≡◌, ℕ, zero, suc, ◌-◌, ◌≤◌, ◌<◌, false, Option, Some, List, [], ◌∷◌, ◌++◌}
-use Rattle.std.proofs.Common.{length, map, refl, ◌∙◌, ap, arith, leb, length-append}
+use Rattle.std.proofs.Common.{◌≡◌, ℕ, zero, suc, ◌-◌, ◌≤◌, ◌<◌, false, Option, Some, List, [], ◌∷◌, ◌++◌, length, map}
+use Rattle.std.proofs.{Common.{refl, ◌∙◌, ap, arith, leb, length-append}, lemmas.Bool.{cases_Bool, leb-true}}
 use Rattle.std.specs.List.{AllByRecursion, fold}
-use Rattle.std.proofs.lemmas.Bool.{cases_Bool, leb-true}
 use Rattle.shop_model.specs.Shop.{Shop, operation_count}
 use Rattle.shop_bound.specs.Bound.{lb}
-use Rattle.shop_nodes.specs.Branching.{branch, conflict}
-use Rattle.shop_nodes.specs.Walking.{Walk, walk, walk_within, operations_left}
+use Rattle.shop_nodes.specs.{Branching.{branch, conflict}, Walking.{Walk, walk, walk_within, operations_left}}
 use Rattle.shop_nodes.proofs.Members.{all_sort}
 use Rattle.shop_tree.specs.inner.Searching.{entered_within, entered}
 

@@ -1,31 +1,22 @@
 -- Where a walk goes on from the word that it came to.
-use Rattle.std.proofs.Common.{◌≡◌, ℕ, suc, ◌+◌, ◌-◌, ◌*◌, ◌≤◌, ◌<◌, Some, List, [], ◌∷◌, ◌++◌, length}
-use Rattle.std.proofs.Common.{map, refl, sym, ◌∙◌, ap, subst, arith, append-nil}
-use Rattle.std.specs.Prelude.{take}
-use Rattle.std.specs.List.{fold}
-use Rattle.std.proofs.lemmas.List.{length_push}
+use Rattle.std.proofs.Common.{◌≡◌, ℕ, suc, ◌+◌, ◌-◌, ◌*◌, ◌≤◌, ◌<◌, Some, List, [], ◌∷◌, ◌++◌, length, map, refl, sym}
+use Rattle.std.proofs.{Common.{◌∙◌, ap, subst, arith, append-nil}, lemmas.List.length_push}
 use Rattle.std.proofs.Math.Seq.{take-append_seam, take-length}
-use Rattle.shop_model.specs.Shop.{Shop, operation_count}
-use Rattle.shop_model.specs.Word.{IsWord}
-use Rattle.shop_bound.specs.Bound.{lb}
-use Rattle.shop_bound.specs.Conflicts.{SoleCandidateKeepsBound}
-use Rattle.shop_nodes.specs.Branching.{branch, conflict, sort_by}
-use Rattle.shop_nodes.specs.Walking.{Walk, walk}
-use Rattle.shop_nodes.specs.Halts.{word_at, IsWaiting}
-use Rattle.shop_tree.specs.inner.Opens.{AreChildren}
-use Rattle.shop_tree.proofs.Pushing.{with_opens, with_rest}
-use Rattle.shop_tree.specs.inner.Walkers.{Stage, HasFollowed, HasBranched, HasExpanded, IsInOrder}
-use Rattle.shop_tree.specs.inner.Walkers.{gone_on, on_top, spent_one}
-use Rattle.shop_tree.specs.inner.Searching.{walk_stack, Adds, entered}
-use Rattle.shop_nodes.specs.declared.halts.Open.{Open}
-use Rattle.shop_nodes.specs.declared.halts.Waiting.{Waiting}
+use Rattle.std.specs.{Prelude.take, List.fold}
+use Rattle.shop_model.specs.{Shop.{Shop, operation_count}, Word.IsWord}
+use Rattle.shop_bound.specs.{Bound.lb, Conflicts.SoleCandidateKeepsBound}
+use Rattle.shop_nodes.specs.{Branching.{branch, conflict, sort_by}, Walking.{Walk, walk}, Halts.{word_at, IsWaiting}}
+use Rattle.shop_nodes.specs.{declared.halts.Open.Open, declared.halts.Waiting.Waiting}
 use Rattle.shop_nodes.specs.declared.halts.Waiting.TheVariants.{Child}
-use Rattle.shop_tree.proofs.ListLemmas.{all_weaker}
+use Rattle.shop_tree.specs.{inner.Opens.AreChildren, inner.Walkers.spent_one}
+use Rattle.shop_tree.specs.inner.Walkers.{Stage, HasFollowed, HasBranched, HasExpanded, IsInOrder, gone_on, on_top}
+use Rattle.shop_tree.specs.inner.Searching.{walk_stack, Adds, entered}
+use Rattle.shop_tree.proofs.{Pushing.{with_opens, with_rest}, ListLemmas.all_weaker}
 use Rattle.shop_tree.proofs.OpenLemmas.{IsUpTo, adds-waits, all-same, all-lower, deep, words-same}
 use Rattle.shop_tree.proofs.TurnLemmas.{below_waits, child_walks, children_walk}
 use Rattle.shop_tree.proofs.AddLemmas.{adds-children, few-children, long_rest}
-use Rattle.shop_nodes.proofs.WalkSteps.{walk-cut}
 use Rattle.shop_tree.proofs.Entering.{entered-children, entered-full, walk-entered}
+use Rattle.shop_nodes.proofs.WalkSteps.{walk-cut}
 
 some_budget : (shop : Shop) (t : Walk) (w : List ℕ) → 0 < t.budget
     → walk shop t w ≡ walk shop (record t { budget = suc (t.budget - 1) }) w

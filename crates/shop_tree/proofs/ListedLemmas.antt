@@ -1,14 +1,11 @@
 -- Candidates that are listed beside closed ones.
-use Rattle.std.proofs.Common.{◌≡◌, ℕ, suc, ◌+◌, ◌≤◌, ◌<◌, List, [], ◌∷◌, ◌++◌, length, map, get_or, drop}
-use Rattle.std.proofs.Common.{refl, sym, ◌∙◌, ap, subst, arith, append-nil}
-use Rattle.shop_model.specs.Shop.{Shop}
-use Rattle.shop_model.specs.Word.{IsWord}
+use Rattle.std.proofs.Common.{◌≡◌, ℕ, suc, ◌+◌, ◌≤◌, ◌<◌, List, [], ◌∷◌, ◌++◌, length, map, get_or, drop, refl, sym}
+use Rattle.std.proofs.Common.{◌∙◌, ap, subst, arith, append-nil}
+use Rattle.shop_model.specs.{Shop.Shop, Word.IsWord}
 use Rattle.shop_bound.specs.Bound.{lb}
-use Rattle.shop_states.specs.States.{ListsBelow}
-use Rattle.shop_states.specs.States.ListsBelow.{none, listed, closed}
+use Rattle.shop_states.specs.{States.ListsBelow, States.ListsBelow.{none, listed, closed}}
 use Rattle.shop_states.specs.declared.dispatching.Candidate.{Candidate}
-use Rattle.shop_nodes.specs.Branching.{conflict}
-use Rattle.shop_nodes.specs.declared.halts.Open.{Open}
+use Rattle.shop_nodes.specs.{Branching.conflict, declared.halts.Open.Open}
 use Rattle.shop_nodes.proofs.ChildrenLemmas.{child-word}
 use Rattle.shop_tree.specs.inner.Opens.{AreChildren, IsPlaceAbove}
 use Rattle.shop_tree.proofs.AddLemmas.{conflict_few}

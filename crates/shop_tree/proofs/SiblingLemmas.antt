@@ -1,31 +1,20 @@
 -- Children that are settled without a trial, and the one on top of the stack, which is given the current state.
 use Rattle.std.proofs.Common.{◌≡◌, ℕ, zero, suc, ◌-◌, ◌≤◌, ◌<◌, List, [], ◌∷◌, ◌++◌, length, map, get_or, set, take}
 use Rattle.std.proofs.Common.{max, All, IfSome, None, Option, Some, inl, inr, sym, ◌∙◌, ap, subst, arith}
-use Rattle.std.proofs.Math.Seq.{map-set_same, take-length}
+use Rattle.std.proofs.{Math.Seq.{map-set_same, take-length}, lemmas.List.Elements.{All-set, All-from_recursion}}
 use Rattle.std.proofs.lemmas.List.{get_or-map, length-map, map-set, set-append_right}
-use Rattle.std.proofs.lemmas.List.Elements.{All-set, All-from_recursion}
-use Rattle.shop_model.specs.Shop.{Shop}
-use Rattle.shop_model.specs.Word.{IsWord}
+use Rattle.shop_model.specs.{Shop.Shop, Word.IsWord}
 use Rattle.shop_bound.specs.Bound.{lb}
-use Rattle.shop_states.specs.States.{CanDispatch, ListsBelow, Settles}
-use Rattle.shop_states.specs.States.ListsBelow.{none, listed, closed}
-use Rattle.shop_states.specs.declared.dispatching.Candidate.{Candidate}
-use Rattle.shop_nodes.specs.Branching.{conflict}
-use Rattle.shop_nodes.specs.Halts.{word_at}
-use Rattle.shop_nodes.specs.declared.halts.Open.{Open}
-use Rattle.shop_nodes.specs.declared.halts.Waiting.{Waiting}
-use Rattle.shop_nodes.specs.declared.halts.Waiting.TheVariants.{Child, Rest}
+use Rattle.shop_states.specs.{States.{CanDispatch, ListsBelow, Settles}, States.ListsBelow.{none, listed, closed}}
+use Rattle.shop_states.specs.{declared.dispatching.Candidate.Candidate, declared.dispatching.Dispatching.Ghosts}
+use Rattle.shop_nodes.specs.{Branching.conflict, Halts.word_at, declared.halts.Open.Open}
+use Rattle.shop_nodes.specs.{declared.halts.Waiting.Waiting, declared.halts.Waiting.TheVariants.{Child, Rest}}
 use Rattle.shop_nodes.proofs.ChildrenLemmas.{child-word}
-use Rattle.shop_states.specs.declared.dispatching.Dispatching.{Ghosts}
-use Rattle.shop_tree.specs.declared.branchings.Branching.{Branching}
-use Rattle.shop_tree.specs.declared.held.Held.{Held}
-use Rattle.shop_tree.specs.declared.walk_states.WalkStates.{WalkStates}
+use Rattle.shop_tree.specs.{declared.walk_states.Branching.Branching, declared.held.Held.Held, inner.Opens.AreChildren}
+use Rattle.shop_tree.specs.{declared.walk_states.WalkStates.WalkStates, inner.Tried.{HasGiven, HasPutChildren}}
 use Rattle.shop_tree.specs.inner.Held.{IsHeldOf, IsKept, Kept, held, opens_in}
-use Rattle.shop_tree.specs.inner.Opens.{AreChildren}
 use Rattle.shop_tree.specs.inner.Slots.{AreBounded, IsBranchingOf, IsStateIn, Lists}
-use Rattle.shop_tree.specs.inner.Tried.{HasGiven, HasPutChildren}
-use Rattle.shop_tree.proofs.StripLemmas.{at_kid, many}
-use Rattle.shop_tree.proofs.TrialLemmas.{IsChildBelow}
+use Rattle.shop_tree.proofs.{StripLemmas.{at_kid, many}, TrialLemmas.IsChildBelow}
 
 -- the bound of a settled child
 pub settled_bound : (shop : Shop) (word : List ℕ) (bound top : ℕ) (cs : List Candidate)

@@ -1,23 +1,14 @@
 -- States that wait, as a walk goes on to another word.
-use Rattle.std.proofs.Common.{rules}
-use Rattle.std.proofs.Common.{arith}
-use Rattle.std.proofs.Common.{◌≡◌, ℕ, Option, None, List, [], ◌∷◌, ◌++◌, length, take}
-use Rattle.std.proofs.Common.{get_or, set, refl, sym, ◌∙◌, ap, subst}
-use Rattle.std.specs.Global.{Box}
-use Rattle.std.specs.List.{AllByRecursion}
-use Rattle.std.proofs.Math.Seq.{map-set_same, take-append_seam, take-length}
-use Rattle.std.proofs.lemmas.List.{map-append}
-use Rattle.std.proofs.lemmas.List.Elements.{All-from_recursion, recursion_from_All}
+use Rattle.std.proofs.Common.{rules, arith, ◌≡◌, ℕ, Option, None, List, [], ◌∷◌, ◌++◌, length, take, get_or, set, refl}
+use Rattle.std.proofs.{Common.{sym, ◌∙◌, ap, subst}, Math.Seq.{map-set_same, take-append_seam, take-length}}
+use Rattle.std.proofs.{lemmas.List.map-append, lemmas.List.Elements.{All-from_recursion, recursion_from_All}}
+use Rattle.std.specs.{Global.Box, List.AllByRecursion}
 use Rattle.shop_model.specs.Shop.{Shop}
 use Rattle.shop_states.specs.declared.dispatching.Dispatching.{Ghosts}
-use Rattle.shop_tree.specs.declared.held.Held.{Held}
-use Rattle.shop_nodes.specs.declared.halts.Open.{Open}
-use Rattle.shop_nodes.specs.declared.halts.Waiting.{Waiting}
-use Rattle.shop_nodes.specs.declared.halts.Waiting.TheVariants.{Child, Rest}
-use Rattle.shop_tree.specs.inner.Held.{IsHeld, IsHeldAs, waiting_in}
-use Rattle.shop_nodes.specs.Halts.{word_at, IsWaiting}
-use Rattle.shop_tree.specs.inner.Opens.{AreWaiting}
+use Rattle.shop_tree.specs.{declared.held.Held.Held, inner.Held.{IsHeld, IsHeldAs, waiting_in}, inner.Opens.AreWaiting}
 use Rattle.shop_tree.specs.inner.StateWalkers.{AreHeld}
+use Rattle.shop_nodes.specs.{declared.halts.Open.Open, declared.halts.Waiting.Waiting, Halts.{word_at, IsWaiting}}
+use Rattle.shop_nodes.specs.declared.halts.Waiting.TheVariants.{Child, Rest}
 use Rattle.shop_tree.proofs.ListLemmas.{all_weaker}
 use Rattle.shop_tree.proofs.OpenLemmas.{IsUpTo, begins_alike, begins-child, deep, popped, rising-below}
 

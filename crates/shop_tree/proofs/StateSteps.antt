@@ -1,18 +1,14 @@
 -- Steps of a walk over states: where it stands before and after, and what waits.
-use Rattle.std.proofs.Common.{◌≡◌, ℕ, ◌<◌, List, ◌++◌, All, length, map}
-use Rattle.std.proofs.Common.{◌∙◌, refl, sym, ap, subst, arith, Option, Some, None}
+use Rattle.std.proofs.Common.{◌≡◌, ℕ, ◌<◌, List, ◌++◌, All, length, map, ◌∙◌, refl, sym, ap, subst, arith, Option, Some}
+use Rattle.std.proofs.Common.{None}
 use Rattle.shop_model.specs.Shop.{operation_count}
 use Rattle.shop_bound.specs.Bound.{lb}
-use Rattle.shop_tree.specs.declared.held.Held.{Held}
-use Rattle.shop_tree.specs.inner.Held.{IsKept, Kept, held, with_held_rest}
-use Rattle.shop_tree.specs.declared.walkers.Walker.{Walker}
-use Rattle.shop_tree.specs.inner.Slots.{HoldSlots, IsStateIn, Lists}
-use Rattle.shop_tree.specs.inner.StateWalkers.{stage_of, AreHeld, HasGoneOn, HasReached, HasStates}
-use Rattle.shop_tree.specs.inner.StateWalkers.{IsListedAt, StandsAs, StandsAt}
+use Rattle.shop_tree.specs.{declared.held.Held.Held, inner.Held.{IsKept, Kept, held, with_held_rest}}
+use Rattle.shop_tree.specs.{declared.walkers.Walker.Walker, inner.Slots.{HoldSlots, IsStateIn, Lists}}
+use Rattle.shop_tree.specs.inner.StateWalkers.{stage_of, AreHeld, HasGoneOn, HasReached, HasStates, IsListedAt}
+use Rattle.shop_tree.specs.{inner.StateWalkers.{StandsAs, StandsAt}, inner.Walkers.{Stage, HasExpanded, IsInOrder}}
 use Rattle.shop_states.specs.declared.dispatching.Dispatching.{Ghosts}
-use Rattle.shop_tree.specs.inner.Walkers.{Stage, HasExpanded, IsInOrder}
-use Rattle.shop_tree.proofs.ExpandLemmas.{HasGone}
-use Rattle.shop_tree.proofs.HeldLemmas.{states_moved, states_rest}
+use Rattle.shop_tree.proofs.{ExpandLemmas.HasGone, HeldLemmas.{states_moved, states_rest}}
 
 -- with their states
 pub held_branched : {S : Type 0} (is : List ℕ → S → Type 0) (word : List ℕ) (old new : List (Held S))

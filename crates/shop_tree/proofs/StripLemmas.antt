@@ -1,22 +1,15 @@
 -- A child that is kept stays so without its state, and each state has room for a word.
-use Rattle.std.proofs.Common.{◌≡◌, ℕ, ◌+◌, ◌-◌, ◌≤◌, ◌<◌, List, ◌++◌, ◌∷◌, [], length, map, get_or, set, inl, inr}
-use Rattle.std.proofs.Common.{All, None, Some, Option, refl, sym, ◌∙◌, ap, subst, arith}
-use Rattle.std.specs.Global.{Box}
-use Rattle.std.specs.List.{insert}
-use Rattle.std.specs.Prelude.{OnSome}
-use Rattle.std.proofs.Math.Seq.{map-set_same}
-use Rattle.std.proofs.lemmas.List.{get_or-append-add, get_or-map, length-append, length-map, map-set}
-use Rattle.std.proofs.lemmas.List.{set-append_right}
+use Rattle.std.proofs.Common.{◌≡◌, ℕ, ◌+◌, ◌-◌, ◌≤◌, ◌<◌, List, ◌++◌, ◌∷◌, [], length, map, get_or, set, inl, inr, All}
+use Rattle.std.proofs.{Common.{None, Some, Option, refl, sym, ◌∙◌, ap, subst, arith}, Math.Seq.map-set_same}
+use Rattle.std.proofs.lemmas.List.{get_or-append-add, get_or-map, length-append, length-map, map-set, set-append_right}
 use Rattle.std.proofs.lemmas.List.Elements.{All-set}
+use Rattle.std.specs.{Global.Box, List.insert, Prelude.OnSome}
 use Rattle.shop_nodes.specs.Halts.{word_at}
-use Rattle.shop_tree.specs.declared.held.Held.{Held}
-use Rattle.shop_tree.specs.inner.Held.{IsHeldOf, IsKept, Kept, held, opens_in}
+use Rattle.shop_tree.specs.{declared.held.Held.Held, inner.Held.{IsHeldOf, IsKept, Kept, held, opens_in}}
 use Rattle.shop_tree.specs.inner.Tried.{AreSlotsFrom, HasPutTried, HasStripped}
 use Rattle.shop_tree.proofs.TrialLemmas.{IsTrying, tried_child, turn_kept}
-use Rattle.shop_states.specs.States.{TellsBoundBelow}
-use Rattle.shop_states.specs.declared.dispatching.Candidate.{Candidate}
-use Rattle.shop_model.specs.Shop.{Shop}
-use Rattle.shop_model.specs.Word.{IsWord}
+use Rattle.shop_states.specs.{States.TellsBoundBelow, declared.dispatching.Candidate.Candidate}
+use Rattle.shop_model.specs.{Shop.Shop, Word.IsWord}
 use Rattle.shop_bound.specs.Bound.{lb}
 
 held_slot : {S : Type 0} (is : List ℕ → S → Type 0) (slot : S → Type 0) → ((w : List ℕ) (s : S) → is w s → slot s)

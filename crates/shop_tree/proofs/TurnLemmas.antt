@@ -1,18 +1,12 @@
 -- One turn of the walk of a stack: where the walk goes.
-use Rattle.std.proofs.Common.{arith}
-use Rattle.std.proofs.Common.{◌≡◌, ℕ, ◌<◌, List, [], ◌∷◌, ◌++◌, length, sym, ◌∙◌, ap}
+use Rattle.std.proofs.Common.{arith, ◌≡◌, ℕ, ◌<◌, List, [], ◌∷◌, ◌++◌, length, sym, ◌∙◌, ap}
 use Rattle.std.specs.List.{fold}
 use Rattle.shop_model.specs.Shop.{Shop, operation_count}
-use Rattle.shop_nodes.specs.Halts.{word_at}
-use Rattle.shop_tree.specs.inner.Opens.{AreWaiting}
-use Rattle.shop_tree.specs.inner.Searching.{walk_stack, Adds, entered}
-use Rattle.shop_nodes.specs.Walking.{Walk, walk}
-use Rattle.shop_nodes.specs.declared.halts.Open.{Open}
-use Rattle.shop_nodes.specs.declared.halts.Waiting.{Waiting}
-use Rattle.shop_nodes.specs.declared.halts.Waiting.TheVariants.{Child}
-use Rattle.shop_tree.proofs.OpenLemmas.{popped, stack-append, walk-top, words-below, waits-below}
-use Rattle.shop_tree.proofs.OpenLemmas.{begins-child, long-child}
-use Rattle.shop_tree.proofs.Entering.{entered-children}
+use Rattle.shop_nodes.specs.{Halts.word_at, Walking.{Walk, walk}, declared.halts.Open.Open}
+use Rattle.shop_nodes.specs.{declared.halts.Waiting.Waiting, declared.halts.Waiting.TheVariants.Child}
+use Rattle.shop_tree.specs.{inner.Opens.AreWaiting, inner.Searching.{walk_stack, Adds, entered}}
+use Rattle.shop_tree.proofs.OpenLemmas.{popped, stack-append, walk-top, words-below, waits-below, begins-child}
+use Rattle.shop_tree.proofs.{OpenLemmas.long-child, Entering.entered-children}
 
 module _ (shop : Shop) (best : ℕ) (word : List ℕ) (rest : List Waiting) (o : Open)
     (all : AreWaiting shop best word (rest ++ Child o ∷ [])) where

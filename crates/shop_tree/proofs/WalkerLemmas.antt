@@ -1,29 +1,18 @@
 -- The turns of a walk, told of where it stands before and after.
-use Rattle.std.proofs.Common.{◌≡◌, ℕ, zero, suc, ◌+◌, ◌-◌, ◌*◌, ◌≤◌, ◌<◌, Option, List, [], ◌∷◌, ◌++◌}
-use Rattle.std.proofs.Common.{length, refl, sym, ◌∙◌, ap, subst, arith}
-use Rattle.std.specs.Prelude.{take, drop}
-use Rattle.std.specs.List.{AllByRecursion, fold}
-use Rattle.std.proofs.lemmas.Bool.{cases_lt}
+use Rattle.std.proofs.Common.{◌≡◌, ℕ, zero, suc, ◌+◌, ◌-◌, ◌*◌, ◌≤◌, ◌<◌, Option, List, [], ◌∷◌, ◌++◌, length, refl}
+use Rattle.std.proofs.{Common.{sym, ◌∙◌, ap, subst, arith}, lemmas.Bool.cases_lt, lemmas.List.Sums.fold-append}
 use Rattle.std.proofs.lemmas.List.{length_push, length-drop, drop_all, drop-drop}
-use Rattle.std.proofs.lemmas.List.Sums.{fold-append}
-use Rattle.shop_model.specs.Shop.{Shop, operation_count}
-use Rattle.shop_model.specs.Word.{IsWord}
+use Rattle.std.specs.{Prelude.{take, drop}, List.{AllByRecursion, fold}}
+use Rattle.shop_model.specs.{Shop.{Shop, operation_count}, Word.IsWord}
 use Rattle.shop_bound.specs.Bound.{lb}
-use Rattle.shop_nodes.specs.Branching.{branch}
-use Rattle.shop_nodes.specs.Nodes.{words_of}
-use Rattle.shop_nodes.specs.Pieces.{walk_told}
-use Rattle.shop_nodes.specs.Walking.{walk, sheet}
-use Rattle.shop_nodes.specs.Halts.{word_at, last_of, waiting_words, stack_words, IsClosed}
-use Rattle.shop_tree.specs.inner.Opens.{AreChildren}
-use Rattle.shop_tree.specs.inner.Walkers.{Stage, HasExpanded, HasWalked, HasWalkedUpTo, IsInOrder, IsTurn}
-use Rattle.shop_tree.specs.inner.Walkers.{on_top, node_walk, spent_one, stack_walk, turns_left}
+use Rattle.shop_nodes.specs.{Branching.branch, Nodes.words_of, Pieces.walk_told, Walking.{walk, sheet}}
+use Rattle.shop_nodes.specs.{Halts.{word_at, last_of, waiting_words, stack_words, IsClosed}, declared.nodes.Node.Node}
+use Rattle.shop_nodes.specs.{declared.halts.Open.Open, declared.halts.Waiting.TheVariants.{Child, Rest}}
+use Rattle.shop_tree.specs.{inner.Opens.AreChildren, inner.Walkers.{node_walk, spent_one, stack_walk, turns_left}}
+use Rattle.shop_tree.specs.inner.Walkers.{Stage, HasExpanded, HasWalked, HasWalkedUpTo, IsInOrder, IsTurn, on_top}
 use Rattle.shop_tree.specs.inner.Searching.{walk_stack, opening_walk}
-use Rattle.shop_nodes.specs.declared.nodes.Node.{Node}
-use Rattle.shop_nodes.specs.declared.halts.Open.{Open}
-use Rattle.shop_nodes.specs.declared.halts.Waiting.TheVariants.{Child, Rest}
 use Rattle.shop_nodes.proofs.HighWalks.{high-taken, none-walked}
-use Rattle.shop_tree.proofs.OpenLemmas.{popped, replaced, walk-top}
-use Rattle.shop_tree.proofs.TurnLemmas.{below_waits, child_walks}
+use Rattle.shop_tree.proofs.{OpenLemmas.{popped, replaced, walk-top}, TurnLemmas.{below_waits, child_walks}}
 use Rattle.shop_tree.proofs.ExpandLemmas.{ends_closed, enters, cuts}
 
 -- turns over plain numbers

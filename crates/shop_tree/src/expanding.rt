@@ -1,15 +1,13 @@
 // Expands a walk's current word: follows sole candidates, then branches.
 ghost use Rattle.std.specs.Prelude.{◌≡◌, ◌≤◌, ◌<◌, ◌+◌, length, [], ◌∷◌, ◌++◌, OnOk, IfOk};
-ghost use Rattle.shop_model.specs.Limits.{IsWithinLimits};
-ghost use Rattle.shop_model.specs.Word.{IsWord};
-ghost use Rattle.shop_tree.specs.inner.Opens.{AreChildren};
-ghost use Rattle.shop_tree.specs.inner.Slots.{HoldSlots, IsStateIn};
-ghost use Rattle.shop_tree.specs.inner.StateWalkers.{stage_of, AreHeld, HasGoneOn, HasStates};
-ghost use Rattle.shop_tree.specs.inner.StateWalkers.{IsListedAt, StandsAs, StandsAt};
+ghost use Rattle.shop_model.specs.{Limits.IsWithinLimits, Word.IsWord};
+ghost use Rattle.shop_tree.specs.{inner.Opens.AreChildren, inner.Slots.{HoldSlots, IsStateIn}};
+ghost use Rattle.shop_tree.specs.inner.StateWalkers.{stage_of, AreHeld, HasGoneOn, HasStates, IsListedAt, StandsAs};
+ghost use Rattle.shop_tree.specs.inner.StateWalkers.{StandsAt};
 ghost use Rattle.shop_tree.specs.inner.Walkers.{gone_on, HasBranched, HasExpanded, IsInOrder};
 
-use crate::branchings::Branching;
-use crate::closed_children::{put_rest, set_rest_below};
+use crate::held::{put_rest, set_rest_below};
+use crate::walk_states::Branching;
 use crate::walkers::Walker;
 use shop_model::{SharedWord, Word};
 use shop_states::Dispatching;

@@ -51,7 +51,7 @@ impl<'a> Progress<'a> {
         self.budget = budget;
     }
 
-    /// Tells whether the children of a word of `depth` jobs with so many candidates are best bounded together.
+    /// Tells whether the children of a word of `depth` jobs and `candidates` candidates are best bounded together.
     #[inline(always)]
     pub(crate) fn is_together(&self, depth: usize, candidates: usize) -> bool
         requires { depth ≤ self.now.operations }

@@ -4,13 +4,29 @@ ghost use Rattle.shop_model.specs.Word.{IsWord};
 ghost use Rattle.shop_states.specs.States.{HasSoleCandidate, IsOfSomeWord};
 ghost use Rattle.shop_nodes.specs.Branching.{conflict};
 ghost use Rattle.shop_tree.specs.inner.Held.{IsHeldOf};
-ghost use Rattle.shop_tree.specs.inner.Slots.{CanTake, HasTaken, HaveStayed, HoldSlots, IsStateIn, Lists};
+ghost use Rattle.shop_tree.specs.inner.Slots.{CanTake, HasTaken, HaveStayed, HoldSlots, IsStateIn, KeepSlots, Lists};
 
 mod trials;
 
 use shop_states::{Candidate, Dispatching};
 use std::alloc::{AllocError as NoMemory, Global};
 use std::mem;
+
+/// The current word of a walk and its candidates, where its children are put on the stack.
+#[derive(Clone, Copy)]
+pub(crate) struct Branching<'w> {
+    pub(crate) word: &'w [u16],
+    /// the word's bound
+    pub(crate) bound: u64,
+    /// a child whose bound isn't below it is closed
+    pub(crate) limit: u64,
+    /// the candidates with `own` below `limit`
+    pub(crate) candidates: &'w [Candidate],
+    /// how many other children there are, all closed
+    pub(crate) closed: usize,
+    /// whether the children are best bounded together, before any of them is tried
+    pub(crate) is_together: bool,
+}
 
 /// The states of a walk: that of its current word, one in which it tries children, and spare ones for waiting children.
 #[derive(Drop)]
@@ -48,9 +64,8 @@ impl<'l, D: Dispatching<S>, S: Drop> WalkStates<'l, D, S> {
     pub(crate) fn fill(&mut self, path: &[u16])
         requires sound { HoldSlots D.Dispatching self.old }
         requires word { IsWord (D.shop self.old.dispatcher.now) path.now }
-        ensures sound { HoldSlots D.Dispatching self.new }
+        ensures sound { KeepSlots D.Dispatching self.old self.new }
         ensures state { IsStateIn D.Dispatching self.new path.now }
-        ensures dispatcher { self.new.dispatcher.now ≡ self.old.dispatcher.now }
     {
         self.dispatcher
             .fill(&mut self.scratch, path, &mut self.current);
@@ -62,12 +77,11 @@ impl<'l, D: Dispatching<S>, S: Drop> WalkStates<'l, D, S> {
         requires sound { HoldSlots D.Dispatching self.old }
         requires state { IsOfSomeWord (IsStateIn D.Dispatching self.old) }
         requires room { length (D.shop self.old.dispatcher.now).jobs ≤ vec_capacity candidates.old }
-        ensures sound { HoldSlots D.Dispatching self.new }
+        ensures sound { KeepSlots D.Dispatching self.old self.new }
         ensures listed { (w : List ℕ) → IsStateIn D.Dispatching self.old w
             → Lists D.Dispatching self.old w limit candidates.new.items result }
         ensures room { vec_capacity candidates.old ≤ vec_capacity candidates.new }
         ensures current { self.new.current.value ≡ self.old.current.value }
-        ensures dispatcher { self.new.dispatcher.now ≡ self.old.dispatcher.now }
     {
         self.dispatcher
             .list_candidates(&mut self.scratch, &self.current, limit, candidates)
@@ -77,11 +91,10 @@ impl<'l, D: Dispatching<S>, S: Drop> WalkStates<'l, D, S> {
     pub(crate) fn strike(&mut self, job: u16)
         requires sound { HoldSlots D.Dispatching self.old }
         requires sole { HasSoleCandidate (D.shop self.old.dispatcher.now) (IsStateIn D.Dispatching self.old) job }
-        ensures sound { HoldSlots D.Dispatching self.new }
+        ensures sound { KeepSlots D.Dispatching self.old self.new }
         ensures state { (w : List ℕ) → IsStateIn D.Dispatching self.old w
             → conflict (D.shop self.old.dispatcher.now) w ≡ job ∷ []
             → IsStateIn D.Dispatching self.new (w ++ job ∷ []) }
-        ensures dispatcher { self.new.dispatcher.now ≡ self.old.dispatcher.now }
     {
         self.dispatcher.strike(&mut self.current, job);
     }
@@ -92,9 +105,8 @@ impl<'l, D: Dispatching<S>, S: Drop> WalkStates<'l, D, S> {
     pub(crate) fn advance(&mut self, candidate: Candidate, bound: u64, limit: u64) -> Option<u64>
         requires sound { HoldSlots D.Dispatching self.old }
         requires can { CanTake D.Dispatching self.old candidate bound }
-        ensures sound { HoldSlots D.Dispatching self.new }
+        ensures sound { KeepSlots D.Dispatching self.old self.new }
         ensures taken { HasTaken D.Dispatching self.old candidate bound limit result self.new.current.value }
-        ensures dispatcher { self.new.dispatcher.now ≡ self.old.dispatcher.now }
     {
         let (scratch, state) = (&mut self.scratch, &mut self.current);
         self.dispatcher
@@ -110,9 +122,8 @@ impl<'l, D: Dispatching<S>, S: Drop> WalkStates<'l, D, S> {
     pub(crate) fn give_back(&mut self, state: Option<Box<S>>) -> Result<(), NoMemory>
         requires sound { HoldSlots D.Dispatching self.old }
         requires slot { IsHeldOf (λ _ s. D.IsSlot self.old.dispatcher.now s) [] state }
-        ensures sound { OnOk result (HoldSlots D.Dispatching self.new) }
+        ensures sound { KeepSlots D.Dispatching self.old self.new }
         ensures stayed { OnOk result (HaveStayed self.old self.new) }
-        ensures dispatcher { self.new.dispatcher.now ≡ self.old.dispatcher.now }
     {
         let Some(state) = state else {
             return Ok(());
@@ -127,9 +138,8 @@ impl<'l, D: Dispatching<S>, S: Drop> WalkStates<'l, D, S> {
         requires sound { HoldSlots D.Dispatching self.old }
         requires word { IsWord (D.shop self.old.dispatcher.now) word.now }
         requires state { IsHeldOf (D.IsStateOf self.old.dispatcher.now) word.now state }
-        ensures sound { OnOk result (HoldSlots D.Dispatching self.new) }
+        ensures sound { KeepSlots D.Dispatching self.old self.new }
         ensures state { OnOk result (IsStateIn D.Dispatching self.new word.now) }
-        ensures dispatcher { self.new.dispatcher.now ≡ self.old.dispatcher.now }
     {
         let Some(state) = state else {
             self.fill(word);
@@ -145,10 +155,9 @@ impl<'l, D: Dispatching<S>, S: Drop> WalkStates<'l, D, S> {
     #[inline(always)]
     fn spare_state(&mut self, alloc: Global) -> Result<Option<Box<S>>, NoMemory>
         requires sound { HoldSlots D.Dispatching self.old }
-        ensures sound { OnOk result (HoldSlots D.Dispatching self.new) }
+        ensures sound { KeepSlots D.Dispatching self.old self.new }
         ensures slot { IfOk result (IsHeldOf (λ _ s. D.IsSlot self.old.dispatcher.now s) []) }
         ensures stayed { HaveStayed self.old self.new }
-        ensures dispatcher { self.new.dispatcher.now ≡ self.old.dispatcher.now }
     {
         if let Some(state) = self.spare.pop() {
             return Ok(Some(state));
@@ -160,10 +169,9 @@ impl<'l, D: Dispatching<S>, S: Drop> WalkStates<'l, D, S> {
     #[inline(never)]
     fn new_state(&mut self, alloc: Global) -> Result<Option<Box<S>>, NoMemory>
         requires sound { HoldSlots D.Dispatching self.old }
-        ensures sound { OnOk result (HoldSlots D.Dispatching self.new) }
+        ensures sound { KeepSlots D.Dispatching self.old self.new }
         ensures slot { IfOk result (IsHeldOf (λ _ s. D.IsSlot self.old.dispatcher.now s) []) }
         ensures stayed { HaveStayed self.old self.new }
-        ensures dispatcher { self.new.dispatcher.now ≡ self.old.dispatcher.now }
     {
         if self.unmade == 0 {
             return Ok(None);
@@ -176,11 +184,10 @@ impl<'l, D: Dispatching<S>, S: Drop> WalkStates<'l, D, S> {
     /// Fails with `NoMemory` if memory runs out.
     pub(crate) fn take_trial(&mut self, alloc: Global) -> Result<Option<Box<S>>, NoMemory>
         requires sound { HoldSlots D.Dispatching self.old }
-        ensures sound { OnOk result (HoldSlots D.Dispatching self.new) }
+        ensures sound { KeepSlots D.Dispatching self.old self.new }
         ensures taken { IfOk result (IsHeldOf (λ _ s. s ≡ self.old.trial.value) []) }
         ensures current { self.new.current.value ≡ self.old.current.value }
         ensures scratch { self.new.scratch ≡ self.old.scratch }
-        ensures dispatcher { self.new.dispatcher.now ≡ self.old.dispatcher.now }
     {
         let Some(spare) = self.spare_state(alloc)? else {
             return Ok(None);
@@ -192,9 +199,8 @@ impl<'l, D: Dispatching<S>, S: Drop> WalkStates<'l, D, S> {
     /// Fails with `NoMemory` if memory runs out.
     pub(crate) fn take_current(&mut self, alloc: Global) -> Result<Option<Box<S>>, NoMemory>
         requires sound { HoldSlots D.Dispatching self.old }
-        ensures sound { OnOk result (HoldSlots D.Dispatching self.new) }
+        ensures sound { KeepSlots D.Dispatching self.old self.new }
         ensures taken { IfOk result (IsHeldOf (λ _ s. s ≡ self.old.current.value) []) }
-        ensures dispatcher { self.new.dispatcher.now ≡ self.old.dispatcher.now }
     {
         let Some(spare) = self.spare_state(alloc)? else {
             return Ok(None);

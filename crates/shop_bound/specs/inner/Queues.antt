@@ -6,7 +6,7 @@
 use Rattle.std.specs.Prelude.{◌≡◌, ℕ, ◌+◌, ◌<◌, ◌≤◌, ◌⊎◌, ◌==◌, true, cond, Option, Some, None, List, ◌∷◌, length}
 use Rattle.std.specs.Prelude.{sum_by, slice_index_or, All, IsPermutation}
 use Rattle.std.specs.BinaryHeap.{heap_items, heap_len, heap_capacity}
-use Rattle.shop_bound.specs.{declared.queues.Queue.Queue, declared.works.Work.Work, inner.HeapOrders.{Coming, Waiting}}
+use Rattle.shop_bound.specs.{declared.queues.Queue.Queue, declared.queues.Work.Work, inner.HeapOrders.{Coming, Waiting}}
 use Rattle.shop_bound.specs.inner.Serving.{work_at, undone_of}
 
 -- the position of an operation to come, and of one that waits

@@ -1,7 +1,7 @@
 -- Operations served by Jackson's rule: what was spent on each, and what a turn does.
 use Rattle.std.specs.Prelude.{◌≡◌, ℕ, ◌+◌, ◌<◌, ◌≤◌, ◌⊎◌, max, true, false, nat_le, cond, List, length, map, sum_by}
 use Rattle.std.specs.Prelude.{slice_index_or}
-use Rattle.shop_bound.specs.{declared.triples.Triple.Triple, declared.works.Work.Work, OneMachine.{one, greatest_of}}
+use Rattle.shop_bound.specs.{declared.triples.Triple.Triple, declared.queues.Work.Work, OneMachine.{one, greatest_of}}
 use Rattle.shop_bound.specs.inner.Thresholds.{no_triple, is_above, span_above}
 
 abbrev pub no_work : Work

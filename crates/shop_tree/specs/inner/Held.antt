@@ -6,8 +6,7 @@
 --     opens_in ks, waiting_in hs      kept children, and entries of the stack, without their states
 --     held k                          the entry of the stack for a kept child
 --     bound_of x                      the bound of an open child that waits, and 0 of closed ones
---     with_held_rest stack depth n    the stack with n closed children of a word of `depth` entries on top, if there
---                                     are any
+--     with_held_rest stack depth n    the stack with n closed children of a word of `depth` entries on top, if any
 --     HasSetRestBelow i depth n m ..  n closed children at place i, below some kids, become m
 --     AreStates slot is_scratch ..    what the states of a walk hold is room for states, and what a dispatch needs
 use Rattle.std.specs.Prelude.{◌≡◌, ℕ, zero, suc, [], ◌∷◌, ◌++◌, Option, Some, None, List, length, map, All}

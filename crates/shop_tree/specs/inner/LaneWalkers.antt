@@ -4,8 +4,8 @@
 --     IsWalkOf shop w      it searches this instance, and its states are kept
 use Rattle.std.specs.Prelude.{◌≡◌}
 use Rattle.shop_model.specs.Shop.{Shop}
-use Rattle.shop_tree.specs.declared.lane_walkers.LaneWalker.TheVariants.{In16By2, In16By3, In16By4, In16, In32, In64}
-use Rattle.shop_tree.specs.{declared.lane_walkers.LaneWalker.LaneWalker, inner.StateWalkers.HasStates}
+use Rattle.shop_tree.specs.declared.searchers.LaneWalker.TheVariants.{In16By2, In16By3, In16By4, In16, In32, In64}
+use Rattle.shop_tree.specs.{declared.searchers.LaneWalker.LaneWalker, inner.StateWalkers.HasStates}
 
 abbrev pub shop_walked : LaneWalker → Shop
 shop_walked (In16By2 w) = w.progress.instance.now

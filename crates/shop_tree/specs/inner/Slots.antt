@@ -2,6 +2,7 @@
 -- them is.
 --     HaveStayed old new        the current state, the trial's, and what a dispatch needs are the same
 --     HoldSlots g s             room for states of its dispatcher, and what a dispatch needs
+--     KeepSlots g old new       new holds its slots, and has the dispatcher of old
 --     IsStateIn g s w           the current state is that of word w
 --     Lists g s w limit cs n    the candidates of w with own numbers below the limit are cs, and there are n others
 --     CanTake g s c bound       the current state is that of some word of this bound, which can go on with candidate c
@@ -16,7 +17,7 @@ use Rattle.shop_bound.specs.Bound.{lb}
 use Rattle.shop_states.specs.States.{CanDispatch, ListsBelow, Settles, TellsBoundBelow}
 use Rattle.shop_states.specs.declared.dispatching.{Candidate.Candidate, Dispatching.Ghosts}
 use Rattle.shop_nodes.specs.Branching.{conflict}
-use Rattle.shop_tree.specs.{declared.branchings.Branching.Branching, declared.held.Held.Held, inner.Held.AreStates}
+use Rattle.shop_tree.specs.{declared.walk_states.Branching.Branching, declared.held.Held.Held, inner.Held.AreStates}
 use Rattle.shop_tree.specs.{declared.walk_states.WalkStates.WalkStates, inner.Tried.HasPutChildren}
 
 pub record HaveStayed {D S C : Type 0} (old new : WalkStates D S C) : Type 0 where
@@ -62,3 +63,7 @@ module _ {D S C : Type 0} (g : Ghosts D S C) (s : WalkStates D S C) where
   pub record HasPutAll (b : Branching) (old new : List (Held S)) (n : ℕ) : Type 0 where
     pub put : HasPutChildren (g.IsStateOf d) (g.shop d) b.limit b.word.now old new n
     pub more : b.closed ≤ n
+
+pub record KeepSlots {D S C : Type 0} (g : Ghosts D S C) (old new : WalkStates D S C) : Type 0 where
+  pub states : HoldSlots g new
+  pub dispatcher : new.dispatcher.now ≡ old.dispatcher.now

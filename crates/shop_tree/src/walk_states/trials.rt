@@ -1,13 +1,12 @@
-// Trials of a word's children: each in a copy of the state of the word, or in this state itself.
+// Trials of a word's children: each in a copy of the state of the word, or in this state itself. Once most children are
+// bounded together, settled ones go on the stack without a trial.
 ghost use Rattle.std.specs.Prelude.{◌≡◌, ℕ, ◌≤◌, false, IsTrue, List, [], ◌∷◌, ◌++◌, All, IfOk, IfSome, OnOk, length};
 ghost use Rattle.shop_tree.specs.inner.Slots.{AreBounded, CanTake, CanTakeKnown, HasPutAll, HasTaken, HaveStayed};
-ghost use Rattle.shop_tree.specs.inner.Slots.{HoldSlots, IsBranchingOf, IsStateIn};
-ghost use Rattle.shop_tree.specs.inner.Tried.{AreSlotsFrom, HasMadeRoom, HasPutTried};
+ghost use Rattle.shop_tree.specs.inner.Slots.{HoldSlots, IsBranchingOf, IsStateIn, KeepSlots};
+ghost use Rattle.shop_tree.specs.inner.Tried.{AreSlotsFrom, HasGiven, HasMadeRoom, HasPutTried};
 
-use super::WalkStates;
-use crate::branchings::Branching;
-use crate::held::Held;
-use crate::open_children::{put, strip_top};
+use super::{Branching, WalkStates};
+use crate::held::{Held, bare_top, put, strip_top};
 use shop_nodes::Open;
 use shop_states::{Candidate, Dispatching};
 use std::alloc::{AllocError as NoMemory, Global};
@@ -26,10 +25,9 @@ impl<'l, D: Dispatching<S>, S: Drop> WalkStates<'l, D, S> {
     ) -> Option<u64>
         requires sound { HoldSlots D.Dispatching self.old }
         requires can { CanTake D.Dispatching self.old candidate bound }
-        ensures sound { HoldSlots D.Dispatching self.new }
+        ensures sound { KeepSlots D.Dispatching self.old self.new }
         ensures taken { HasTaken D.Dispatching self.old candidate bound limit result self.new.trial.value }
         ensures current { is_last ≡ false → self.new.current.value ≡ self.old.current.value }
-        ensures dispatcher { self.new.dispatcher.now ≡ self.old.dispatcher.now }
     {
         if is_last {
             mem::swap(&mut self.current, &mut self.trial);
@@ -49,10 +47,9 @@ impl<'l, D: Dispatching<S>, S: Drop> WalkStates<'l, D, S> {
     fn bound_children(&mut self, branching: &Branching<'_>) -> Option<u64>
         requires sound { HoldSlots D.Dispatching self.old }
         requires branching { IsBranchingOf D.Dispatching self.old branching.now }
-        ensures sound { HoldSlots D.Dispatching self.new }
+        ensures sound { KeepSlots D.Dispatching self.old self.new }
         ensures branching { IsBranchingOf D.Dispatching self.new branching.now }
         ensures bounded { IfSome result (AreBounded D.Dispatching self.new branching.now) }
-        ensures dispatcher { self.new.dispatcher.now ≡ self.old.dispatcher.now }
     {
         if !branching.is_together {
             return None;
@@ -68,13 +65,12 @@ impl<'l, D: Dispatching<S>, S: Drop> WalkStates<'l, D, S> {
     pub(crate) fn try_child(&mut self, candidate: Candidate, bound: u64, limit: u64) -> Option<u64>
         requires sound { HoldSlots D.Dispatching self.old }
         requires can { CanTakeKnown D.Dispatching self.old candidate bound }
-        ensures sound { HoldSlots D.Dispatching self.new }
+        ensures sound { KeepSlots D.Dispatching self.old self.new }
         ensures taken { HasTaken D.Dispatching self.old candidate bound limit result self.new.trial.value }
         ensures kept { (w : List ℕ) (j : ℕ)
             → D.KnowsChild self.old.dispatcher.now self.old.scratch w j
             → D.KnowsChild self.old.dispatcher.now self.new.scratch w j }
         ensures current { self.new.current.value ≡ self.old.current.value }
-        ensures dispatcher { self.new.dispatcher.now ≡ self.old.dispatcher.now }
     {
         let (scratch, trial) = (&mut self.scratch, &mut self.trial);
         self.dispatcher
@@ -88,13 +84,14 @@ impl<'l, D: Dispatching<S>, S: Drop> WalkStates<'l, D, S> {
         requires sound { HoldSlots D.Dispatching self.old }
         requires can { All (λ c. CanTakeKnown D.Dispatching self.old c branching.now.bound)
             branching.now.candidates.now }
-        ensures sound { HoldSlots D.Dispatching self.new }
+        ensures sound { KeepSlots D.Dispatching self.old self.new }
         ensures state { IsTrue result → (w : List ℕ) → IsStateIn D.Dispatching self.old w
             → All (D.IsCandidate self.old.dispatcher.now w) branching.now.candidates.now
             → IsStateIn D.Dispatching self.new (w ++ job ∷ []) }
-        ensures dispatcher { self.new.dispatcher.now ≡ self.old.dispatcher.now }
     {
-        let (bound, limit, candidates) = (branching.bound, branching.limit, branching.candidates);
+        let bound = branching.bound;
+        let limit = branching.limit;
+        let candidates = branching.candidates;
         for index in 0..candidates.len() {
             let candidate = candidates[index];
             if candidate.job == job {
@@ -119,10 +116,9 @@ impl<'l, D: Dispatching<S>, S: Drop> WalkStates<'l, D, S> {
     ) -> Result<(), NoMemory>
         requires sound { HoldSlots D.Dispatching self.old }
         requires slots { AreSlotsFrom (D.IsSlot self.old.dispatcher.now) from stack.old.items }
-        ensures sound { OnOk result (HoldSlots D.Dispatching self.new) }
+        ensures sound { KeepSlots D.Dispatching self.old self.new }
         ensures stripped { HasMadeRoom from stack.old.items stack.new.items }
         ensures stayed { OnOk result (HaveStayed self.old self.new) }
-        ensures dispatcher { self.new.dispatcher.now ≡ self.old.dispatcher.now }
     {
         if self.free() > 0 {
             return Ok(());
@@ -145,12 +141,11 @@ impl<'l, D: Dispatching<S>, S: Drop> WalkStates<'l, D, S> {
         requires sound { HoldSlots D.Dispatching self.old }
         requires slots { AreSlotsFrom (D.IsSlot self.old.dispatcher.now) from stack.old.items }
         requires from { from ≤ length stack.old.items }
-        ensures sound { OnOk result (HoldSlots D.Dispatching self.new) }
+        ensures sound { KeepSlots D.Dispatching self.old self.new }
         ensures put { OnOk result
             (HasPutTried from child self.old.trial.value stack.old.items stack.new.items) }
         ensures current { OnOk result (self.new.current.value ≡ self.old.current.value) }
         ensures scratch { OnOk result (self.new.scratch ≡ self.old.scratch) }
-        ensures dispatcher { self.new.dispatcher.now ≡ self.old.dispatcher.now }
     {
         self.make_room(stack, from, child.bound)?;
         let state = self.take_trial(alloc)?;
@@ -170,18 +165,20 @@ impl<'l, D: Dispatching<S>, S: Drop> WalkStates<'l, D, S> {
     ) -> Result<usize, NoMemory>
         requires sound { HoldSlots D.Dispatching self.old }
         requires branching { IsBranchingOf D.Dispatching self.old branching.now }
-        ensures sound { OnOk result (HoldSlots D.Dispatching self.new) }
+        ensures sound { KeepSlots D.Dispatching self.old self.new }
         ensures children { IfOk result
             (HasPutAll D.Dispatching self.old branching.now stack.old.items stack.new.items) }
-        ensures dispatcher { self.new.dispatcher.now ≡ self.old.dispatcher.now }
     {
         if let Some(top) = self.bound_children(branching) {
             // A record of its own: the caller's is then never written to memory.
             let branching = *branching;
             return self.settle_candidates(alloc, stack, &branching, top);
         }
-        let (bound, limit, candidates) = (branching.bound, branching.limit, branching.candidates);
-        let (from, depth) = (stack.len(), branching.word.len() as u32);
+        let bound = branching.bound;
+        let limit = branching.limit;
+        let candidates = branching.candidates;
+        let from = stack.len();
+        let depth = branching.word.len() as u32;
         let mut others = branching.closed;
         // Tries the last job first, so that of equal bounds the lower job lies above.
         for index in (0..candidates.len()).rev() {
@@ -194,6 +191,89 @@ impl<'l, D: Dispatching<S>, S: Drop> WalkStates<'l, D, S> {
             let job = candidate.job;
             self.put_tried(alloc, stack, from, Open { depth, job, bound })?;
         }
+        Ok(others)
+    }
+
+    /// Gives the child on top of the stack a state, if the child lies from index `from` on and has none, and another
+    /// state can take the place of the current one: dispatches its job in the current state, which the walk no longer
+    /// needs. The child is one of `branching`, with a bound below its limit. Fails with `NoMemory` if memory runs out.
+    fn give_current(
+        &mut self,
+        alloc: Global,
+        stack: &mut Vec<Held<S>>,
+        from: usize,
+        branching: &Branching<'_>,
+    ) -> Result<(), NoMemory>
+        requires sound { HoldSlots D.Dispatching self.old }
+        requires branching { IsBranchingOf D.Dispatching self.old branching.now }
+        requires known { All (λ c. D.KnowsChild self.old.dispatcher.now self.old.scratch
+            branching.now.word.now c.job) branching.now.candidates.now }
+        ensures sound { KeepSlots D.Dispatching self.old self.new }
+        ensures given { OnOk result (HasGiven (D.IsStateOf self.old.dispatcher.now)
+            branching.now.word.now from stack.old.items stack.new.items) }
+    {
+        if self.free() == 0 {
+            return Ok(());
+        }
+        let Some(child) = bare_top(stack, from) else {
+            return Ok(());
+        };
+        if !self.advance_to(child.job, branching) {
+            return Ok(());
+        }
+        let top = stack.len() - 1;
+        stack[top].state = self.take_current(alloc)?;
+        Ok(())
+    }
+
+    /// Does what `try_candidates` does, after `bound_children` answered `top`. A child is settled if the bound of
+    /// `branching` or its own number reaches `top`: the greater of the two is then its bound, as a trial would find. A
+    /// settled child goes on the stack without a trial and without a state. Only the child that ends on top, which is
+    /// walked next, gets a state, by a dispatch in the current one; if another settled child's turn comes, its state is
+    /// filled from its word. The children that aren't settled are tried in copies, since the current state is needed to
+    /// the end. Fails with `NoMemory` if memory runs out.
+    #[inline(never)]
+    pub(crate) fn settle_candidates(
+        &mut self,
+        alloc: Global,
+        stack: &mut Vec<Held<S>>,
+        branching: &Branching<'_>,
+        top: u64,
+    ) -> Result<usize, NoMemory>
+        requires sound { HoldSlots D.Dispatching self.old }
+        requires branching { IsBranchingOf D.Dispatching self.old branching.now }
+        requires bounded { AreBounded D.Dispatching self.old branching.now top }
+        ensures sound { KeepSlots D.Dispatching self.old self.new }
+        ensures children { IfOk result
+            (HasPutAll D.Dispatching self.old branching.now stack.old.items stack.new.items) }
+    {
+        let bound = branching.bound;
+        let limit = branching.limit;
+        let candidates = branching.candidates;
+        let from = stack.len();
+        let depth = branching.word.len() as u32;
+        let mut others = branching.closed;
+        // The last job first, as in `try_candidates`.
+        for index in (0..candidates.len()).rev() {
+            let candidate = candidates[index];
+            let job = candidate.job;
+            let settled = bound.max(candidate.own);
+            if top <= settled {
+                if settled < limit {
+                    let bound = settled;
+                    put(stack, from, Open { depth, job, bound }, None)?;
+                } else {
+                    others += 1;
+                }
+                continue;
+            }
+            let Some(bound) = self.try_child(candidate, bound, limit) else {
+                others += 1;
+                continue;
+            };
+            self.put_tried(alloc, stack, from, Open { depth, job, bound })?;
+        }
+        self.give_current(alloc, stack, from, branching)?;
         Ok(others)
     }
 }

@@ -1,8 +1,7 @@
 use Rattle.std.proofs.Common.{◌≡◌, ◌+◌, ◌*◌, ◌-◌, ◌≤◌, length, map, vec_len, vec_capacity}
 use Rattle.std.specs.List.{range_with_len}
-use Rattle.shop_model.specs.Word.{Placing}
+use Rattle.shop_model.specs.{Word.Placing, Placements.IsPlacement}
 use Rattle.shop_bound.specs.Heads.{head_if_left, ready_after}
-use Rattle.shop_model.specs.Placements.{IsPlacement}
 use Rattle.shop_bound.proofs.head_rows.heads_of_job.Given as goal
 
 abbrev pub invariant-loop-k : goal.invariant-loop-k

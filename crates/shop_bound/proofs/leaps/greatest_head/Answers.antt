@@ -1,6 +1,5 @@
 use Rattle.std.proofs.Common.{◌≡◌, max, get_or, arith, rules}
-use Rattle.shop_bound.specs.declared.triples.Triple.{Triple}
-use Rattle.shop_bound.specs.inner.Thresholds.{no_triple}
+use Rattle.shop_bound.specs.{declared.triples.Triple.Triple, inner.Thresholds.no_triple}
 use Rattle.shop_bound.proofs.ThresholdLemmas.{greatest_of-more}
 use Rattle.shop_bound.proofs.leaps.greatest_head.Goals as goal
 

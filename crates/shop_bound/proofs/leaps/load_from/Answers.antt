@@ -1,10 +1,7 @@
-use Rattle.std.proofs.Common.{◌≡◌, ◌+◌, max, List, get_or, take, sym, subst, arith, rules}
-use Rattle.std.proofs.lemmas.List.{take_more}
+use Rattle.std.proofs.{Common.{◌≡◌, ◌+◌, max, List, get_or, take, sym, subst, arith, rules}, lemmas.List.take_more}
 use Rattle.std.proofs.lemmas.List.Sums.{sum_by_more_le}
-use Rattle.shop_bound.specs.declared.triples.Triple.{Triple}
-use Rattle.shop_bound.specs.inner.Thresholds.{no_triple}
-use Rattle.shop_bound.proofs.LeapTurns.{IsLoadOf, earlier, later}
-use Rattle.shop_bound.proofs.Lists.{get_or-le-greatest_of}
+use Rattle.shop_bound.specs.{declared.triples.Triple.Triple, inner.Thresholds.no_triple}
+use Rattle.shop_bound.proofs.{LeapTurns.{IsLoadOf, earlier, later}, Lists.get_or-le-greatest_of}
 use Rattle.shop_bound.proofs.leaps.load_from.Goals as goal
 use Rattle.shop_bound.proofs.leaps.load_from.Goals.{then-from-t, else-from-t}
 

@@ -1,5 +1,4 @@
-use Rattle.std.proofs.Common.{rules, arith}
-use Rattle.std.proofs.lemmas.Bool.{cases_Bool}
+use Rattle.std.proofs.{Common.{rules, arith}, lemmas.Bool.cases_Bool}
 use Rattle.shop_bound.proofs.LeapTurns.{small_in_order, one_in_order}
 use Rattle.shop_bound.proofs.leaps.may_exceed.Goals as goal
 

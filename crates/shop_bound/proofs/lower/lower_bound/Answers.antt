@@ -1,8 +1,6 @@
 use Rattle.std.proofs.Common.{◌∙◌, sym, arith}
 use Rattle.shop_model.specs.Word.{placing}
-use Rattle.shop_bound.proofs.BoundLaw.{lb-le-end, full_word}
-use Rattle.shop_bound.proofs.LowerBounds.{lower_bound_is}
-use Rattle.shop_bound.proofs.SmallSums.{sums_small}
+use Rattle.shop_bound.proofs.{BoundLaw.{lb-le-end, full_word}, LowerBounds.lower_bound_is, SmallSums.sums_small}
 use Rattle.shop_bound.proofs.lower.lower_bound.Goals as goal
 
 pub returns-clause-bound : goal.returns-clause-bound

@@ -1,5 +1,4 @@
-use Rattle.std.proofs.Common.{arith}
-use Rattle.std.proofs.lemmas.List.{length-set}
+use Rattle.std.proofs.{Common.arith, lemmas.List.length-set}
 use Rattle.shop_bound.proofs.MachineListTurns.{one_counted, visits_few}
 use Rattle.shop_bound.proofs.machine_lists.add_visits.Goals as goal
 

@@ -1,5 +1,4 @@
-use Rattle.std.proofs.Common.{◌<◌, ◌+◌, ℕ, List, ap, arith, get_or, length}
-use Rattle.std.proofs.lemmas.List.Elements.{All-from_get_or}
+use Rattle.std.proofs.{Common.{◌<◌, ◌+◌, ℕ, List, ap, arith, get_or, length}, lemmas.List.Elements.All-from_get_or}
 use Rattle.shop_model.specs.declared.ops.Op.{Op}
 use Rattle.shop_bound.proofs.MachineListTurns.{job_counted, visits_small, written_vec}
 use Rattle.shop_bound.proofs.machine_lists.count_visits.Goals as goal

@@ -1,13 +1,29 @@
-use Rattle.std.proofs.Common.{rules, inl, inr, arith, ap, ◌∙◌, List}
-use Rattle.shop_bound.specs.declared.triples.Triple.{Triple}
-use Rattle.shop_bound.specs.OneMachine.{one}
-use Rattle.shop_bound.proofs.QueueTurns.{none_waits, room_kept}
-use Rattle.shop_bound.proofs.Turns.{ready_or_done, ready_run, started, all_done}
+use Rattle.std.proofs.{Common.{rules, inl, inr, arith, ap, ◌≡◌, ◌∙◌, List, length}, lemmas.List.length-map}
+use Rattle.shop_bound.specs.{inner.Serving.{IsFresh, triples_of}, declared.triples.Triple.Triple, OneMachine.one}
+use Rattle.shop_bound.proofs.{QueueTurns.{none_waits, room_kept}, Turns.{ready_or_done, ready_run, started, all_done}}
 use Rattle.shop_bound.proofs.TurnCounts.{ready_turns, undone-none, undone-fresh, turns_left-two}
+use Rattle.shop_bound.proofs.WorkSums.{fresh-is, fresh-triples}
 use Rattle.shop_bound.proofs.schedules.schedule.Goals as goal
 
 pub loop-chosen-init : goal.loop-chosen-init
-loop-chosen-init c = search (rules, ready_run, started, ready_or_done, ready_turns, turns_left-two, undone-fresh)
+loop-chosen-init c =
+    let works = c.fill.new.works
+    in let fresh : IsFresh works = rw c.fill.ensures (fresh-is c.args.triples.now)
+    in let same : triples_of works ≡ c.args.triples.now = rw c.fill.ensures (fresh-triples c.args.triples.now)
+    in let long : length works ≡ length c.args.triples.now = rw c.fill.ensures (length-map _ _)
+    in let all = undone-fresh works fresh
+    in let two = turns_left-two works 0
+    in let less = ready_turns works 0 c.ready_at-clock.result c.ready_at-clock.ensures.ready
+    in record {
+      queue = c.ready_at-clock.ensures.queue;
+      later = c.ready_at-clock.ensures.later;
+      room = room_kept _ _ _ c.fill-2.ensures.room c.ready_at-clock.ensures.room;
+      run = ready_run works 0 _ 0 (started works fresh) c.ready_at-clock.ensures.ready;
+      same = same;
+      ready = ready_or_done works 0 _ c.ready_at-clock.ensures.ready;
+      turns = omega arith;
+      each = omega arith;
+    }
 
 pub loop-chosen-smaller : goal.loop-chosen-smaller
 loop-chosen-smaller c = grind (arith, ready_turns)

@@ -1,10 +1,8 @@
 use Rattle.std.proofs.Common.{arith, ◌∙◌, List, map, length, ap, rules}
 use Rattle.std.specs.List.{range_with_len}
-use Rattle.shop_model.specs.declared.ops.Op.{Op}
-use Rattle.shop_model.specs.Shop.{route_of}
+use Rattle.shop_model.specs.{declared.ops.Op.Op, Shop.route_of}
 use Rattle.shop_bound.specs.Heads.{tail_in, tail_of}
-use Rattle.shop_bound.proofs.Filled.{rows_more}
-use Rattle.shop_bound.proofs.TimeSums.{times_small}
+use Rattle.shop_bound.proofs.{Filled.rows_more, TimeSums.times_small}
 use Rattle.shop_bound.proofs.tail_rows.tails.Goals as goal
 
 pub tails_of_route-requires : goal.tails_of_route-requires

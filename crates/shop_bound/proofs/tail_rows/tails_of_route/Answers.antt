@@ -1,6 +1,5 @@
 use Rattle.std.proofs.Common.{arith}
-use Rattle.shop_bound.proofs.Filled.{filled_more}
-use Rattle.shop_bound.proofs.TimeSums.{times_from}
+use Rattle.shop_bound.proofs.{Filled.filled_more, TimeSums.times_from}
 use Rattle.shop_bound.proofs.tail_rows.tails_of_route.Goals as goal
 
 pub loop-op-preserved : goal.loop-op-preserved

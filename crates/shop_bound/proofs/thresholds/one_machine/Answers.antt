@@ -1,10 +1,7 @@
-use Rattle.std.proofs.Common.{◌≡◌, ◌∙◌, ℕ, List, max, get_or, take, ap, sym, arith, rules}
-use Rattle.std.proofs.lemmas.List.{take_all}
-use Rattle.shop_bound.specs.declared.triples.Triple.{Triple}
-use Rattle.shop_bound.specs.OneMachine.{greatest_of}
+use Rattle.std.proofs.{Common.{◌≡◌, ◌∙◌, ℕ, List, max, get_or, take, ap, sym, arith, rules}, lemmas.List.take_all}
+use Rattle.shop_bound.specs.{declared.triples.Triple.Triple, OneMachine.greatest_of}
 use Rattle.shop_bound.specs.inner.Thresholds.{no_triple, span_above}
-use Rattle.shop_bound.proofs.Lists.{get_or-le-greatest_of}
-use Rattle.shop_bound.proofs.ThresholdLemmas.{greatest_of-more, thresholds}
+use Rattle.shop_bound.proofs.{Lists.get_or-le-greatest_of, ThresholdLemmas.{greatest_of-more, thresholds}}
 use Rattle.shop_bound.proofs.thresholds.one_machine.Goals as goal
 
 pub span_of_above-requires : goal.span_of_above-requires

@@ -1,6 +1,5 @@
 use Rattle.std.proofs.Common.{◌≡◌, take}
-use Rattle.shop_bound.specs.OneMachine.{greatest_of}
-use Rattle.shop_bound.specs.inner.Thresholds.{span_above}
+use Rattle.shop_bound.specs.{OneMachine.greatest_of, inner.Thresholds.span_above}
 use Rattle.shop_bound.proofs.thresholds.one_machine.Given as goal
 
 abbrev pub invariant-loop-first : goal.invariant-loop-first

@@ -1,5 +1,4 @@
-use Rattle.std.proofs.Common.{arith}
-use Rattle.std.proofs.lemmas.List.Sums.{sum_by_more_le, sum_by-take-le}
+use Rattle.std.proofs.{Common.arith, lemmas.List.Sums.{sum_by_more_le, sum_by-take-le}}
 use Rattle.shop_bound.proofs.thresholds.span_of_above.Goals as goal
 
 pub overflow_add-sum : goal.overflow_add-sum

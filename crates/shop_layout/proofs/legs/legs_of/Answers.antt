@@ -1,5 +1,4 @@
-use Rattle.std.proofs.Common.{arith, rules}
-use Rattle.std.proofs.lemmas.List.{length_push}
+use Rattle.std.proofs.{Common.{arith, rules}, lemmas.List.length_push}
 use Rattle.shop_layout.specs.Legs.{route_legs}
 use Rattle.shop_layout.proofs.RouteLegs.{legs_more, row_below}
 use Rattle.shop_layout.proofs.legs.legs_of.Goals as goal

@@ -1,7 +1,5 @@
-use Rattle.std.proofs.Common.{arith}
-use Rattle.std.proofs.lemmas.List.{length-map, length-set}
-use Rattle.shop_layout.proofs.RankedSlots.{added_by_rank}
-use Rattle.shop_layout.proofs.SlotLists.{items_written, items_read}
+use Rattle.std.proofs.{Common.arith, lemmas.List.{length-map, length-set}}
+use Rattle.shop_layout.proofs.{RankedSlots.added_by_rank, SlotLists.{items_written, items_read}}
 use Rattle.shop_bound.proofs.TimeSums.{times_from}
 use Rattle.shop_layout.proofs.slots.add_operations.Goals as goal
 

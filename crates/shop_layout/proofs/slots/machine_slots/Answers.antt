@@ -1,9 +1,7 @@
 use Rattle.std.proofs.Common.{◌≡◌, ◌+◌, ◌<◌, List, length, get_or, map, arith, rules, sym, subst}
+use Rattle.std.proofs.{lemmas.Fn.always_returns_same, lemmas.List.length-map}
 use Rattle.std.specs.Prelude.{IsPermutation}
-use Rattle.std.proofs.lemmas.Fn.{always_returns_same}
-use Rattle.std.proofs.lemmas.List.{length-map}
-use Rattle.shop_layout.specs.declared.slots.Slot.{Slot}
-use Rattle.shop_layout.specs.Ranks.{ranked}
+use Rattle.shop_layout.specs.{declared.slots.Slot.Slot, Ranks.ranked}
 use Rattle.shop_bound.proofs.SortedTails.{falls_from_sort}
 use Rattle.shop_layout.proofs.SlotLists.{IsSortedUpTo, sorted_more, items_written, items_read}
 use Rattle.shop_layout.proofs.slots.machine_slots.Goals as goal

@@ -1,8 +1,6 @@
-use Rattle.std.proofs.Common.{◌∙◌, ap, map, sym, arith}
-use Rattle.std.proofs.lemmas.List.{length-map}
+use Rattle.std.proofs.{Common.{◌∙◌, ap, map, sym, arith}, lemmas.List.length-map}
 use Rattle.shop_layout.specs.Ranks.{ranked, ranked_op}
-use Rattle.shop_layout.proofs.RankedShops.{route_ranked}
-use Rattle.shop_layout.proofs.SlotLists.{jobs_written}
+use Rattle.shop_layout.proofs.{RankedShops.route_ranked, SlotLists.jobs_written}
 use Rattle.shop_bound.proofs.TimeSums.{times_small}
 use Rattle.shop_layout.proofs.slots.operations_by_machine.Goals as goal
 

@@ -1,9 +1,7 @@
 use Rattle.std.proofs.Common.{◌++◌, ◌∷◌, [], List, ap, arith, length, refl, subst, sym}
-use Rattle.shop_model.specs.Word.{IsWord, none_placed}
-use Rattle.shop_model.specs.declared.ops.Op.{Op}
+use Rattle.shop_model.specs.{Word.{IsWord, none_placed}, declared.ops.Op.Op}
 use Rattle.shop_bound.specs.Desks.{DeskState}
-use Rattle.shop_bound.proofs.DeskTurns.{can_dispatch, dispatched, replaced_is, replaced_many}
-use Rattle.shop_bound.proofs.SmallJobs.{small_last}
+use Rattle.shop_bound.proofs.{DeskTurns.{can_dispatch, dispatched, replaced_is, replaced_many}, SmallJobs.small_last}
 use Rattle.shop_bound.proofs.WordLengths.{room_left}
 use Rattle.shop_bound.proofs.desks.Desk.dispatch.Goals as goal
 

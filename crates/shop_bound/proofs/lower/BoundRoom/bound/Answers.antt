@@ -1,9 +1,7 @@
 use Rattle.std.proofs.Common.{◌≡◌, ◌<◌, ◌∙◌, List, ap, arith, length, max, refl, subst, sym, rules}
-use Rattle.shop_bound.specs.declared.triples.Triple.{Triple}
-use Rattle.shop_bound.specs.OneMachine.{IsSmall}
+use Rattle.shop_bound.specs.{declared.triples.Triple.Triple, OneMachine.IsSmall}
 use Rattle.shop_model.specs.Word.{placing}
-use Rattle.shop_bound.proofs.LowerBounds.{row_of_machine, one_bounded}
-use Rattle.shop_bound.proofs.SmallSums.{triples_small}
+use Rattle.shop_bound.proofs.{LowerBounds.{row_of_machine, one_bounded}, SmallSums.triples_small}
 use Rattle.shop_bound.proofs.lower.BoundRoom.bound.Goals as goal
 
 pub raise-bound-requires-clause-room : goal.raise-bound-requires-clause-room

@@ -1,5 +1,4 @@
-use Rattle.std.proofs.Common.{arith}
-use Rattle.std.proofs.lemmas.List.{length-map}
+use Rattle.std.proofs.{Common.arith, lemmas.List.length-map}
 use Rattle.shop_bound.proofs.Lists.{get_or-le-greatest_of}
 use Rattle.shop_bound.proofs.lower.BoundRoom.of.Goals as goal
 

@@ -1,18 +1,11 @@
 use Rattle.std.proofs.Common.{rules, ◌≡◌, ◌∙◌, ℕ, ◌+◌, ◌-◌, ◌≤◌, ◌<◌, List, length, map, refl, ap, sym, subst, arith}
-use Rattle.std.specs.List.{All}
-use Rattle.std.specs.Prelude.{Vec}
-use Rattle.std.specs.declared.alloc.Global.{Global}
 use Rattle.std.proofs.lemmas.List.{length-map}
-use Rattle.shop_model.specs.Limits.{IsWithinLimits}
-use Rattle.shop_model.specs.Shop.{Shop}
-use Rattle.shop_layout.specs.declared.slots.Slot.{Slot}
-use Rattle.shop_layout.specs.Ranks.{AreRanks, ranked}
-use Rattle.shop_layout.specs.Slots.{AreMachineSlots}
-use Rattle.shop_layout.specs.inner.Layings.{AreCells, ArePlaces, AreShorter, place_after}
-use Rattle.shop_layout.specs.Positions.{AreMachinesOf}
-use Rattle.shop_layout.proofs.LaidLists.{blocks_few, cells_known, laid_out, machine_few}
+use Rattle.std.specs.{List.All, Prelude.Vec, declared.alloc.Global.Global}
+use Rattle.shop_model.specs.{Limits.IsWithinLimits, Shop.Shop}
+use Rattle.shop_layout.specs.{declared.slots.Slot.Slot, Ranks.{AreRanks, ranked}, Slots.AreMachineSlots}
+use Rattle.shop_layout.specs.{inner.Layings.{AreCells, ArePlaces, AreShorter, place_after}, Positions.AreMachinesOf}
+use Rattle.shop_layout.proofs.{LaidLists.{blocks_few, cells_known, laid_out, machine_few}, RankedSlots.places_ranked}
 use Rattle.shop_layout.proofs.RankedShops.{jobs_ranked, limits_ranked}
-use Rattle.shop_layout.proofs.RankedSlots.{places_ranked}
 use Rattle.shop_layout.proofs.positions.Positions.of.Goals as goal
 
 -- the slots of the machines, as they were lent, and the cells that they make

@@ -1,5 +1,4 @@
-use Rattle.std.proofs.Common.{◌≡◌, ◌∙◌, ◌+◌, length, rules, subst, sym}
-use Rattle.std.proofs.lemmas.List.{length-map}
+use Rattle.std.proofs.{Common.{◌≡◌, ◌∙◌, ◌+◌, length, rules, subst, sym}, lemmas.List.length-map}
 use Rattle.shop_runs.specs.Entries.{told}
 use Rattle.shop_round.specs.inner.Hits.{IsEntryUpToHit, IsFirstHitBelow}
 use Rattle.shop_round.proofs.EntriesUpToHit.{one_entry_more, all_entries}

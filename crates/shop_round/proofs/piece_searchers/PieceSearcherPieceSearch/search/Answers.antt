@@ -1,6 +1,5 @@
-use Rattle.std.proofs.Common.{◌≡◌, ◌<◌, length, sym, subst}
+use Rattle.std.proofs.{Common.{◌≡◌, ◌<◌, length, sym, subst}, lemmas.Result.IfOk-weaker}
 use Rattle.std.specs.Prelude.{IfOk}
-use Rattle.std.proofs.lemmas.Result.{IfOk-weaker}
 use Rattle.shop_nodes.specs.Sheets.{IsSheetOf}
 use Rattle.shop_runs.specs.Entries.{told, IsOf}
 use Rattle.shop_runs.proofs.EntryLemmas.{sheets_at, sheets_of_piece}

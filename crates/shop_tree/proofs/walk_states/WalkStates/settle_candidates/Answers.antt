@@ -1,15 +1,14 @@
-use Rattle.std.proofs.Common.{◌≡◌, ◌+◌, ◌<◌, ◌≤◌, ◌-◌, [], ◌∷◌, ◌++◌, None, get_or, sym, ◌∙◌, subst}
-use Rattle.std.proofs.Common.{append-nil, arith, length, refl}
+use Rattle.std.proofs.Common.{◌≡◌, ◌+◌, ◌<◌, ◌≤◌, ◌-◌, [], ◌∷◌, ◌++◌, None, get_or, sym, ◌∙◌, subst, append-nil, arith}
+use Rattle.std.proofs.Common.{length, refl}
 use Rattle.std.specs.List.{insert}
 use Rattle.shop_model.proofs.WordLengths.{word_length}
 use Rattle.shop_bound.specs.Bound.{lb}
 use Rattle.shop_states.specs.declared.dispatching.Candidate.{Candidate}
 use Rattle.shop_tree.specs.inner.Tried.{AreSlotsFrom, HasPutChildren}
-use Rattle.shop_tree.proofs.AddLemmas.{conflict_few}
+use Rattle.shop_tree.proofs.{AddLemmas.conflict_few, StripLemmas.{are_slots, many, tried_kept}}
 use Rattle.shop_tree.proofs.SiblingLemmas.{bounded_stays, branching_stays, put_given, settled_bound, settled_child}
-use Rattle.shop_tree.proofs.StripLemmas.{are_slots, many, tried_kept}
-use Rattle.shop_tree.proofs.TrialLemmas.{IsTrying, trying_begins, next_own, next_fits, turn_counted}
-use Rattle.shop_tree.proofs.TrialLemmas.{turn_kept, told_high, all_tried}
+use Rattle.shop_tree.proofs.TrialLemmas.{IsTrying, trying_begins, next_own, next_fits, turn_counted, turn_kept}
+use Rattle.shop_tree.proofs.TrialLemmas.{told_high, all_tried}
 use Rattle.shop_tree.proofs.walk_states.WalkStates.settle_candidates.Goals as goal
 
 pub overflow_cast-depth : goal.overflow_cast-depth
@@ -137,7 +136,7 @@ loop-index-preserved-in_default g c =
     c.in_default.is (c.try_child.ensures.taken.told word now.branching.state (next_own some now.trying)
     now.branching.bound)
     in let left = c.try_child.new.self.current.value
-    in let same = c.try_child.ensures.dispatcher
+    in let same = c.try_child.ensures.sound.dispatcher
     in let state = subst (λ s. g.D.Dispatching.IsStateOf d word s) (sym c.try_child.ensures.current) now.branching.state
     in record {
       kids = now.kids;
@@ -148,7 +147,7 @@ loop-index-preserved-in_default g c =
       branching = branching_stays same c.try_child.ensures.current now.branching;
       bounded = bounded_stays same c.try_child.ensures.kept now.bounded;
       more = (let a = now.more in omega arith);
-      sound = c.try_child.ensures.sound;
+      sound = c.try_child.ensures.sound.states;
       same = same ∙ now.same;
     }
 
@@ -162,9 +161,9 @@ put_tried-requires g c =
     in omega arith)
     in let long = many old now.kids c.len-from.result e stack now.stack
     in record {
-      sound = c.try_child.ensures.sound;
+      sound = c.try_child.ensures.sound.states;
       slots = subst (λ x. AreSlotsFrom (g.D.Dispatching.IsSlot x) c.len-from.result stack)
-          (sym c.try_child.ensures.dispatcher)
+          (sym c.try_child.ensures.sound.dispatcher)
           (are_slots old now.kids c.len-from.result e stack now.stack (g.D.Dispatching.IsStateOf d)
           c.args.branching.now.word.now now.trying.states (g.D.Dispatching.IsSlot d)
           (λ w s. g.met.D.Dispatching.state_is_slot d w s));
@@ -183,7 +182,7 @@ loop-index-preserved g c =
     in let e : c.len-from.result ≡ length c.args.stack.now.items =
     (let a = c.len-from.ensures in let b = c.args.stack.now.ok.0 in omega arith)
     in let left = c.put_tried.new.self.current.value
-    in let same = c.put_tried.ensures.dispatcher ∙ c.try_child.ensures.dispatcher
+    in let same = c.put_tried.ensures.sound.dispatcher ∙ c.try_child.ensures.sound.dispatcher
     in let current = c.in_ok-put_tried.ensures.current ∙ c.try_child.ensures.current
     in let state = subst (g.D.Dispatching.IsStateOf d word) (sym current) now.branching.state
     in let kept = tried_kept some now.trying e now.stack c.in_ok-put_tried.ensures.put c.in-Some.is
@@ -200,7 +199,7 @@ loop-index-preserved g c =
       bounded = bounded_stays same (λ w j known. subst (λ x. g.D.Dispatching.KnowsChild d x w j)
           (sym c.in_ok-put_tried.ensures.scratch) (c.try_child.ensures.kept w j known)) now.bounded;
       more = now.more;
-      sound = c.in_ok-put_tried.ensures.sound;
+      sound = c.put_tried.ensures.sound.states;
       same = same ∙ now.same;
     }
 

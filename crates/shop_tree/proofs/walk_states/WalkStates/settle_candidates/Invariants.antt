@@ -1,6 +1,5 @@
 use Rattle.std.proofs.Common.{◌≡◌, ◌≤◌, ◌++◌, List, map}
-use Rattle.shop_tree.specs.inner.Held.{Kept, held}
-use Rattle.shop_tree.specs.inner.Slots.{AreBounded, HoldSlots, IsBranchingOf}
+use Rattle.shop_tree.specs.{inner.Held.{Kept, held}, inner.Slots.{AreBounded, HoldSlots, IsBranchingOf}}
 use Rattle.shop_tree.proofs.TrialLemmas.{IsTrying}
 use Rattle.shop_tree.proofs.walk_states.WalkStates.settle_candidates.Given as goal
 

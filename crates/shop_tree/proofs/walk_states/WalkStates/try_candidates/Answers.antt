@@ -1,12 +1,10 @@
-use Rattle.std.proofs.Common.{◌≡◌, ◌+◌, ◌<◌, ◌-◌, [], ◌∷◌, ◌++◌, get_or, sym, ◌∙◌, ap, subst}
-use Rattle.std.proofs.Common.{append-nil, arith, length}
+use Rattle.std.proofs.Common.{◌≡◌, ◌+◌, ◌<◌, ◌-◌, [], ◌∷◌, ◌++◌, get_or, sym, ◌∙◌, ap, subst, append-nil, arith, length}
 use Rattle.shop_model.proofs.WordLengths.{word_length}
 use Rattle.shop_bound.specs.Bound.{lb}
 use Rattle.shop_tree.specs.inner.Tried.{AreSlotsFrom, HasPutChildren}
-use Rattle.shop_tree.proofs.StripLemmas.{are_slots, many, tried_kept}
-use Rattle.shop_tree.proofs.AddLemmas.{conflict_few}
-use Rattle.shop_tree.proofs.TrialLemmas.{IsTrying, trying_begins, next_own, next_fits, turn_counted}
-use Rattle.shop_tree.proofs.TrialLemmas.{told_high, still_wanted, all_tried}
+use Rattle.shop_tree.proofs.{StripLemmas.{are_slots, many, tried_kept}, AddLemmas.conflict_few}
+use Rattle.shop_tree.proofs.TrialLemmas.{IsTrying, trying_begins, next_own, next_fits, turn_counted, told_high}
+use Rattle.shop_tree.proofs.TrialLemmas.{still_wanted, all_tried}
 use Rattle.shop_tree.proofs.walk_states.WalkStates.try_candidates.Goals as goal
 
 pub overflow_cast-depth : goal.overflow_cast-depth
@@ -24,8 +22,8 @@ loop-index-init g c =
       trying = trying_begins branching.listed branching.state;
       bound = branching.bound;
       more = omega arith;
-      sound = c.bound_children.ensures.sound;
-      same = c.bound_children.ensures.dispatcher;
+      sound = c.bound_children.ensures.sound.states;
+      same = c.bound_children.ensures.sound.dispatcher;
     }
 
 pub overflow_add-others : goal.overflow_add-others
@@ -66,7 +64,7 @@ loop-index-preserved-in_default-try_candidate g c =
     in let high = told_high at.limit (lb (g.D.Dispatching.shop d) (word ++ job ∷ [])) c.try_candidate.result
     c.in_default-try_candidate.is (c.try_candidate.ensures.taken.told word state (next_own some now.trying) now.bound)
     in let left = c.try_candidate.new.self.current.value
-    in let same = c.try_candidate.ensures.dispatcher
+    in let same = c.try_candidate.ensures.sound.dispatcher
     in record {
       kids = now.kids;
       stack = now.stack;
@@ -76,7 +74,7 @@ loop-index-preserved-in_default-try_candidate g c =
           (still_wanted (g.D.Dispatching.IsStateOf d word) i c.try_candidate.ensures.current state));
       bound = now.bound ∙ ap (λ x. lb (g.D.Dispatching.shop x) word) (sym same);
       more = (let a = now.more in omega arith);
-      sound = c.try_candidate.ensures.sound;
+      sound = c.try_candidate.ensures.sound.states;
       same = same ∙ now.same;
     }
 
@@ -90,9 +88,9 @@ put_tried-requires g c =
     in omega arith)
     in let long = many old now.kids c.len-from.result e stack now.stack
     in record {
-      sound = c.try_candidate.ensures.sound;
+      sound = c.try_candidate.ensures.sound.states;
       slots = subst (λ x. AreSlotsFrom (g.D.Dispatching.IsSlot x) c.len-from.result stack)
-          (sym c.try_candidate.ensures.dispatcher)
+          (sym c.try_candidate.ensures.sound.dispatcher)
           (are_slots old now.kids c.len-from.result e stack now.stack (g.D.Dispatching.IsStateOf d)
           c.args.branching.now.word.now now.trying.states (g.D.Dispatching.IsSlot d)
           (λ w s. g.met.D.Dispatching.state_is_slot d w s));
@@ -117,7 +115,7 @@ loop-index-preserved g c =
     (c.try_candidate.ensures.taken.state word state (next_own some now.trying))
     (g.met.D.Dispatching.state_is_of_word d word _ state) left
     (still_wanted (is word) i (λ f. c.in_ok-put_tried.ensures.current ∙ c.try_candidate.ensures.current f) state)
-    in let same = c.put_tried.ensures.dispatcher ∙ c.try_candidate.ensures.dispatcher
+    in let same = c.put_tried.ensures.sound.dispatcher ∙ c.try_candidate.ensures.sound.dispatcher
     in record {
       kids = kept.kids;
       stack = kept.stack;
@@ -126,7 +124,7 @@ loop-index-preserved g c =
           c.loop-index.others left) (sym same) kept.trying;
       bound = now.bound ∙ ap (λ x. lb (g.D.Dispatching.shop x) word) (sym same);
       more = now.more;
-      sound = c.in_ok-put_tried.ensures.sound;
+      sound = c.put_tried.ensures.sound.states;
       same = same ∙ now.same;
     }
 

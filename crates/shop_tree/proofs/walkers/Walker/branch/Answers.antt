@@ -1,11 +1,8 @@
 use Rattle.std.proofs.Common.{◌≡◌, ◌<◌, [], length, subst, arith, rules}
 use Rattle.shop_model.specs.Shop.{Shop, operation_count}
-use Rattle.shop_tree.specs.inner.Opens.{AreChildren}
-use Rattle.shop_tree.specs.inner.StateWalkers.{stage_of}
+use Rattle.shop_tree.specs.{inner.Opens.AreChildren, inner.StateWalkers.stage_of}
 use Rattle.shop_tree.specs.inner.Walkers.{Stage, HasBranched, HasExpanded}
-use Rattle.shop_tree.proofs.ListLemmas.{on_ok}
-use Rattle.shop_tree.proofs.ExpandLemmas.{expands_branched}
-use Rattle.shop_tree.proofs.ListedLemmas.{no_items, none_kept}
+use Rattle.shop_tree.proofs.{ListLemmas.on_ok, ExpandLemmas.expands_branched, ListedLemmas.{no_items, none_kept}}
 use Rattle.shop_tree.proofs.StateSteps.{listed_stand}
 use Rattle.shop_tree.proofs.walkers.Walker.branch.Goals as goal
 

@@ -1,15 +1,9 @@
-use Rattle.std.proofs.Common.{rules}
-use Rattle.std.proofs.Common.{◌≡◌, ◌<◌, length, arith}
+use Rattle.std.proofs.Common.{rules, ◌≡◌, ◌<◌, length, arith}
 use Rattle.shop_model.specs.Shop.{operation_count}
 use Rattle.shop_model.proofs.WordLengths.{word_length}
-use Rattle.shop_tree.specs.inner.Held.{waiting_in}
-use Rattle.shop_tree.specs.inner.StateWalkers.{stage_of}
-use Rattle.shop_tree.specs.inner.Walkers.{HasExpanded}
-use Rattle.shop_tree.proofs.AddLemmas.{few_open}
-use Rattle.shop_tree.proofs.ExpandLemmas.{ends_closed}
-use Rattle.shop_tree.proofs.HeldLemmas.{rest_waits, states_rest}
-use Rattle.shop_tree.proofs.ListLemmas.{on_ok}
-use Rattle.shop_tree.proofs.WalkerLemmas.{ends_counted}
+use Rattle.shop_tree.specs.{inner.Held.waiting_in, inner.StateWalkers.stage_of, inner.Walkers.HasExpanded}
+use Rattle.shop_tree.proofs.{AddLemmas.few_open, ExpandLemmas.ends_closed, HeldLemmas.{rest_waits, states_rest}}
+use Rattle.shop_tree.proofs.{ListLemmas.on_ok, WalkerLemmas.ends_counted}
 use Rattle.shop_tree.proofs.walkers.Walker.close.Goals as goal
 
 pub returns-then-self-count-clause-expanded : goal.returns-then-self-count-clause-expanded

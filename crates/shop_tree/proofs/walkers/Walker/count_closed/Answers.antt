@@ -1,11 +1,7 @@
-use Rattle.std.proofs.Common.{rules}
-use Rattle.std.proofs.Common.{◌-◌, ◌≤◌, None, List, sym, subst, arith}
-use Rattle.shop_tree.specs.inner.StateWalkers.{stage_of}
-use Rattle.shop_tree.specs.inner.Walkers.{IsTurn, Stage}
-use Rattle.shop_nodes.specs.declared.halts.Waiting.{Waiting}
-use Rattle.shop_nodes.specs.declared.halts.Waiting.TheVariants.{Rest}
-use Rattle.shop_tree.proofs.StateLemmas.{waiting_pushed}
-use Rattle.shop_tree.proofs.WalkerLemmas.{turn_counted, turn_halted}
+use Rattle.std.proofs.Common.{rules, ◌-◌, ◌≤◌, None, List, sym, subst, arith}
+use Rattle.shop_tree.specs.{inner.StateWalkers.stage_of, inner.Walkers.{IsTurn, Stage}}
+use Rattle.shop_nodes.specs.{declared.halts.Waiting.Waiting, declared.halts.Waiting.TheVariants.Rest}
+use Rattle.shop_tree.proofs.{StateLemmas.waiting_pushed, WalkerLemmas.{turn_counted, turn_halted}}
 use Rattle.shop_tree.proofs.walkers.Walker.count_closed.Goals as goal
 
 pub returns-then-self-count-clause-turn : goal.returns-then-self-count-clause-turn

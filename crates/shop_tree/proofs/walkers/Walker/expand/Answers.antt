@@ -1,8 +1,6 @@
 use Rattle.std.proofs.Common.{◌<◌, length, refl, arith}
-use Rattle.shop_tree.specs.inner.StateWalkers.{stage_of}
-use Rattle.shop_tree.specs.inner.Walkers.{HasExpanded}
-use Rattle.shop_tree.proofs.ListLemmas.{on_ok}
-use Rattle.shop_tree.proofs.ExpandLemmas.{expands_followed, followed_same, followed_then}
+use Rattle.shop_tree.specs.{inner.StateWalkers.stage_of, inner.Walkers.HasExpanded}
+use Rattle.shop_tree.proofs.{ListLemmas.on_ok, ExpandLemmas.{expands_followed, followed_same, followed_then}}
 use Rattle.shop_tree.proofs.StateSteps.{ended, gone, listed_at}
 use Rattle.shop_tree.proofs.walkers.Walker.expand.Goals as goal
 
@@ -15,8 +13,8 @@ branch-self-requires g c =
     in let at = c.loop-self.invariant.at
     in let short : length self.path.items < self.progress.operations = grind arith
     in record {
-      listed = listed_at at refl refl c.list_candidates-closed.ensures.dispatcher
-          c.list_candidates-closed.ensures.current c.list_candidates-closed.ensures.sound short
+      listed = listed_at at refl refl c.list_candidates-closed.ensures.sound.dispatcher
+          c.list_candidates-closed.ensures.current c.list_candidates-closed.ensures.sound.states short
           (c.list_candidates-closed.ensures.listed self.path.items at.state);
     }
 
@@ -30,8 +28,9 @@ go_on-requires-clause-listed g c =
     let self = c.loop-self.self
     in let at = c.loop-self.invariant.at
     in let short : length self.path.items < self.progress.operations = grind arith
-    in listed_at at refl refl c.list_candidates-closed.ensures.dispatcher c.list_candidates-closed.ensures.current
-    c.list_candidates-closed.ensures.sound short (c.list_candidates-closed.ensures.listed self.path.items at.state)
+    in listed_at at refl refl c.list_candidates-closed.ensures.sound.dispatcher
+    c.list_candidates-closed.ensures.current c.list_candidates-closed.ensures.sound.states short
+    (c.list_candidates-closed.ensures.listed self.path.items at.state)
 
 pub returns-in_default-clause-expanded : goal.returns-in_default-clause-expanded
 returns-in_default-clause-expanded g c = grind (arith, expands_followed, followed_then, followed_same, ended)

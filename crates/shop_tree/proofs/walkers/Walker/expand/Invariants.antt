@@ -1,5 +1,4 @@
-use Rattle.shop_tree.specs.inner.StateWalkers.{stage_of, StandsAt}
-use Rattle.shop_tree.specs.inner.Walkers.{HasFollowed}
+use Rattle.shop_tree.specs.{inner.StateWalkers.{stage_of, StandsAt}, inner.Walkers.HasFollowed}
 use Rattle.shop_tree.proofs.walkers.Walker.expand.Given as goal
 
 abbrev pub invariant-loop-self : goal.invariant-loop-self

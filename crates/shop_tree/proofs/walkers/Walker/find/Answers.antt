@@ -2,8 +2,7 @@ use Rattle.std.proofs.Common.{◌≡◌, ◌≤◌, ◌<◌, length, sym, subst,
 use Rattle.shop_model.specs.Shop.{operation_count}
 use Rattle.shop_model.proofs.WordLengths.{word_length}
 use Rattle.shop_bound.specs.Bound.{lb}
-use Rattle.shop_tree.specs.inner.StateWalkers.{stage_of}
-use Rattle.shop_tree.specs.inner.Walkers.{HasExpanded}
+use Rattle.shop_tree.specs.{inner.StateWalkers.stage_of, inner.Walkers.HasExpanded}
 use Rattle.shop_tree.proofs.ExpandLemmas.{expands_found, found_at}
 use Rattle.shop_tree.proofs.walkers.Walker.find.Goals as goal
 

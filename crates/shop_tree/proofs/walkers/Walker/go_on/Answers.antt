@@ -1,22 +1,13 @@
 use Rattle.std.proofs.Common.{◌≡◌, ℕ, ◌+◌, ◌<◌, ◌++◌, ◌∷◌, ◌∙◌, [], length, refl, sym, ap, subst, arith}
-use Rattle.shop_model.specs.Limits.{IsWithinLimits}
-use Rattle.shop_model.specs.Shop.{Shop, operation_count}
-use Rattle.shop_model.specs.Word.{IsWord}
+use Rattle.shop_model.specs.{Limits.IsWithinLimits, Shop.{Shop, operation_count}, Word.IsWord}
 use Rattle.shop_model.proofs.WordLengths.{word_length}
-use Rattle.shop_bound.specs.Bound.{lb}
-use Rattle.shop_bound.specs.Conflicts.{SoleCandidateKeepsBound}
-use Rattle.shop_nodes.specs.Branching.{conflict}
-use Rattle.shop_nodes.specs.declared.halts.Open.{Open}
-use Rattle.shop_tree.specs.inner.Held.{waiting_in}
-use Rattle.shop_tree.specs.inner.Opens.{AreChildren}
-use Rattle.shop_tree.specs.inner.StateWalkers.{stage_of, AreHeld}
+use Rattle.shop_bound.specs.{Bound.lb, Conflicts.SoleCandidateKeepsBound}
+use Rattle.shop_nodes.specs.{Branching.conflict, declared.halts.Open.Open}
+use Rattle.shop_tree.specs.{inner.Held.waiting_in, inner.Opens.AreChildren, inner.StateWalkers.{stage_of, AreHeld}}
 use Rattle.shop_tree.specs.inner.Walkers.{Stage, gone_on}
-use Rattle.shop_tree.proofs.ExpandLemmas.{HasGone, follows_kept, follows_one}
-use Rattle.shop_tree.proofs.HeldLemmas.{rest_waits, states_rest}
+use Rattle.shop_tree.proofs.{ExpandLemmas.{HasGone, follows_kept, follows_one}, HeldLemmas.{rest_waits, states_rest}}
 use Rattle.shop_tree.proofs.ListedLemmas.{alone_closed, alone_fits, alone_kept, alone_own, few_closed, one_listed}
-use Rattle.shop_tree.proofs.ListedLemmas.{sole_listed}
-use Rattle.shop_tree.proofs.StateLemmas.{held_on}
-use Rattle.shop_tree.proofs.StateSteps.{reached}
+use Rattle.shop_tree.proofs.{ListedLemmas.sole_listed, StateLemmas.held_on, StateSteps.reached}
 use Rattle.shop_tree.proofs.TrialLemmas.{told_high, told_low, told_state}
 use Rattle.shop_tree.proofs.walkers.Walker.go_on.Goals as goal
 
@@ -35,7 +26,7 @@ take_job-requires-clause-held g c =
     in held_on (g.D.Dispatching.IsStateOf e) self.progress.instance.now self.progress.best self.path.items
     c.index-candidate.result.now.job self.stack.items c.requires.listed.at.in_order
     (subst (λ x. AreHeld (g.D.Dispatching.IsStateOf x) self.path.items self.stack.items)
-    (sym c.strike.ensures.dispatcher) c.requires.listed.at.states.held)
+    (sym c.strike.ensures.sound.dispatcher) c.requires.listed.at.states.held)
 
 pub take_job-requires-clause-state : goal.take_job-requires-clause-state
 take_job-requires-clause-state g c = c.strike.ensures.state c.args.self.now.path.items c.requires.listed.at.state
@@ -114,8 +105,8 @@ close-requires g c =
       in_order = at.in_order;
       states = record {
         held = subst (λ x. AreHeld (g.D.Dispatching.IsStateOf x) word self.stack.items)
-            (sym c.advance.ensures.dispatcher) at.states.held;
-        states = c.advance.ensures.sound;
+            (sym c.advance.ensures.sound.dispatcher) at.states.held;
+        states = c.advance.ensures.sound.states;
       };
     }
 
@@ -148,11 +139,12 @@ take_job-requires-2 g c =
       some = c.requires.some;
       short = c.requires.listed.short;
       held = subst (λ x. AreHeld (g.D.Dispatching.IsStateOf x) (word ++ cand.job ∷ []) c.put_rest.new.stack.items)
-          (sym c.advance.ensures.dispatcher)
+          (sym c.advance.ensures.sound.dispatcher)
           (subst (λ hs. AreHeld is (word ++ cand.job ∷ []) hs) (sym c.in_ok-put_rest.ensures)
           (states_rest self.stack.items is (word ++ cand.job ∷ []) c.len.result c.args.closed longer));
-      slots = c.advance.ensures.sound;
-      state = subst (λ x. g.D.Dispatching.IsStateOf x (word ++ cand.job ∷ []) after) (sym c.advance.ensures.dispatcher)
+      slots = c.advance.ensures.sound.states;
+      state = subst (λ x. g.D.Dispatching.IsStateOf x (word ++ cand.job ∷ []) after)
+          (sym c.advance.ensures.sound.dispatcher)
           (told_state (is (word ++ cand.job ∷ []) after) c.in-Some.bound c.advance.result c.in-Some.is
           (c.advance.ensures.taken.state word at.state (alone_own one c.requires.listed.candidates)));
     }

@@ -1,19 +1,10 @@
-use Rattle.std.proofs.Common.{◌≡◌, ◌<◌, ◌++◌, ◌∙◌, ℕ, List, ap, length, map, subst, arith}
-use Rattle.std.proofs.lemmas.List.{length-append}
-use Rattle.shop_model.specs.Shop.{Shop, operation_count}
-use Rattle.shop_model.specs.Word.{IsWord}
+use Rattle.std.proofs.{Common.{◌≡◌, ◌<◌, ◌++◌, ◌∙◌, ℕ, List, ap, length, map, subst, arith}, lemmas.List.length-append}
+use Rattle.shop_model.specs.{Shop.{Shop, operation_count}, Word.IsWord}
 use Rattle.shop_model.proofs.WordLengths.{word_length}
-use Rattle.shop_tree.specs.declared.held.Held.{Held}
-use Rattle.shop_tree.specs.inner.Held.{held, opens_in, waiting_in}
-use Rattle.shop_tree.specs.inner.Opens.{AreChildren}
-use Rattle.shop_tree.specs.inner.StateWalkers.{stage_of}
-use Rattle.shop_tree.specs.inner.Walkers.{HasBranched}
-use Rattle.shop_tree.proofs.ListLemmas.{on_ok}
-use Rattle.shop_tree.proofs.AddLemmas.{few_open}
-use Rattle.shop_tree.proofs.ExpandLemmas.{branched}
-use Rattle.shop_tree.proofs.HeldLemmas.{rest_long, waiting_put}
-use Rattle.shop_tree.proofs.ListedLemmas.{few_closed}
-use Rattle.shop_tree.proofs.StateSteps.{held_branched}
+use Rattle.shop_tree.specs.{declared.held.Held.Held, inner.Held.{held, opens_in, waiting_in}, inner.Opens.AreChildren}
+use Rattle.shop_tree.specs.{inner.StateWalkers.stage_of, inner.Walkers.HasBranched}
+use Rattle.shop_tree.proofs.{ListLemmas.on_ok, AddLemmas.few_open, ExpandLemmas.branched, ListedLemmas.few_closed}
+use Rattle.shop_tree.proofs.{HeldLemmas.{rest_long, waiting_put}, StateSteps.held_branched}
 use Rattle.shop_tree.proofs.walkers.Walker.push_children.Goals as goal
 
 pub put_rest-requires : goal.put_rest-requires

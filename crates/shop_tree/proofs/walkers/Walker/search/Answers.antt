@@ -1,17 +1,10 @@
-use Rattle.std.proofs.Common.{◌≡◌, ◌∙◌, refl, sym, ap, subst, arith}
-use Rattle.std.proofs.lemmas.List.{take_rest}
+use Rattle.std.proofs.{Common.{◌≡◌, ◌∙◌, refl, sym, ap, subst, arith}, lemmas.List.take_rest}
 use Rattle.shop_model.specs.Shop.{Shop}
-use Rattle.shop_nodes.specs.Left.{Leaving}
-use Rattle.shop_nodes.specs.Laws.{AreWords, KeepsPiece}
-use Rattle.shop_nodes.specs.Nodes.{words_of, AreNodes}
-use Rattle.shop_nodes.specs.Walking.{Walk}
+use Rattle.shop_nodes.specs.{Left.Leaving, Laws.{AreWords, KeepsPiece}, Nodes.{words_of, AreNodes}, Walking.Walk}
 use Rattle.shop_nodes.specs.Halts.{halted_words}
-use Rattle.shop_tree.specs.inner.Held.{waiting_in}
-use Rattle.shop_tree.specs.inner.Searching.{walked}
-use Rattle.shop_tree.specs.inner.StateWalkers.{stage_of}
+use Rattle.shop_tree.specs.{inner.Held.waiting_in, inner.Searching.walked, inner.StateWalkers.stage_of}
 use Rattle.shop_tree.specs.inner.Walkers.{Stage}
-use Rattle.shop_nodes.proofs.NodeLemmas.{are_words}
-use Rattle.shop_nodes.proofs.Found.{searches_keep}
+use Rattle.shop_nodes.proofs.{NodeLemmas.are_words, Found.searches_keep}
 use Rattle.shop_tree.proofs.WalkerLemmas.{sheet_told}
 use Rattle.shop_tree.proofs.walkers.Walker.search.Goals as goal
 

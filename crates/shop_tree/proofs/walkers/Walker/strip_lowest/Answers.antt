@@ -1,6 +1,5 @@
 use Rattle.std.proofs.Common.{arith}
-use Rattle.shop_tree.proofs.StateLemmas.{held_stripped, waiting_stripped}
-use Rattle.shop_tree.proofs.StateSteps.{stands_then, stands_where}
+use Rattle.shop_tree.proofs.{StateLemmas.{held_stripped, waiting_stripped}, StateSteps.{stands_then, stands_where}}
 use Rattle.shop_tree.proofs.walkers.Walker.strip_lowest.Goals as goal
 
 pub loop-self-init : goal.loop-self-init

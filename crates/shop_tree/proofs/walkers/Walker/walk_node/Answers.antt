@@ -1,12 +1,9 @@
 use Rattle.std.proofs.Common.{◌≡◌, ◌<◌, ℕ, List, [], ap, subst, arith}
 use Rattle.shop_model.proofs.WordLengths.{word_shared}
 use Rattle.shop_bound.specs.Bound.{lb}
-use Rattle.shop_tree.specs.inner.Held.{waiting_in}
-use Rattle.shop_tree.specs.inner.Searching.{walked}
-use Rattle.shop_tree.specs.inner.StateWalkers.{stage_of}
+use Rattle.shop_tree.specs.{inner.Held.waiting_in, inner.Searching.walked, inner.StateWalkers.stage_of}
 use Rattle.shop_tree.specs.inner.Walkers.{HasExpanded, HasWalked, node_walk, spent_one}
-use Rattle.shop_tree.proofs.ListLemmas.{on_ok}
-use Rattle.shop_tree.proofs.WalkerLemmas.{node_expanded}
+use Rattle.shop_tree.proofs.{ListLemmas.on_ok, WalkerLemmas.node_expanded}
 use Rattle.shop_tree.proofs.walkers.Walker.walk_node.Goals as goal
 
 pub write_to-requires : goal.write_to-requires

@@ -1,6 +1,5 @@
 use Rattle.std.proofs.Common.{◌-◌, length}
-use Rattle.shop_tree.specs.inner.StateWalkers.{stage_of, HasStates}
-use Rattle.shop_tree.specs.inner.Walkers.{HasWalkedUpTo}
+use Rattle.shop_tree.specs.{inner.StateWalkers.{stage_of, HasStates}, inner.Walkers.HasWalkedUpTo}
 use Rattle.shop_tree.proofs.walkers.Walker.walk_nodes.Given as goal
 
 abbrev pub invariant-loop-taken : goal.invariant-loop-taken

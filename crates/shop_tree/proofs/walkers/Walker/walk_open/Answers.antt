@@ -1,20 +1,13 @@
-use Rattle.std.proofs.Common.{◌≡◌, ◌∙◌, ◌<◌, ℕ, List, sym, subst, arith}
-use Rattle.std.proofs.lemmas.List.{length-take-le}
+use Rattle.std.proofs.{Common.{◌≡◌, ◌∙◌, ◌<◌, ℕ, List, sym, subst, arith}, lemmas.List.length-take-le}
 use Rattle.std.specs.Prelude.{take}
-use Rattle.shop_model.specs.Shop.{Shop}
-use Rattle.shop_model.specs.Word.{IsWord}
+use Rattle.shop_model.specs.{Shop.Shop, Word.IsWord}
 use Rattle.shop_bound.specs.Bound.{lb}
 use Rattle.shop_bound.proofs.WordLengths.{room_left}
-use Rattle.shop_tree.specs.inner.Held.{waiting_in}
-use Rattle.shop_nodes.specs.Halts.{word_at}
-use Rattle.shop_tree.specs.inner.Searching.{walked}
-use Rattle.shop_tree.specs.inner.Slots.{IsStateIn}
+use Rattle.shop_tree.specs.{inner.Held.waiting_in, inner.Searching.walked, inner.Slots.IsStateIn}
 use Rattle.shop_tree.specs.inner.StateWalkers.{stage_of, AreHeld}
 use Rattle.shop_tree.specs.inner.Walkers.{HasExpanded, IsInOrder, IsTurn, spent_one}
-use Rattle.shop_nodes.specs.declared.halts.Waiting.TheVariants.{Child}
-use Rattle.shop_tree.proofs.OpenLemmas.{popped}
-use Rattle.shop_tree.proofs.ListLemmas.{on_ok}
-use Rattle.shop_tree.proofs.StateLemmas.{held_below}
+use Rattle.shop_nodes.specs.{Halts.word_at, declared.halts.Waiting.TheVariants.Child}
+use Rattle.shop_tree.proofs.{OpenLemmas.popped, ListLemmas.on_ok, StateLemmas.held_below}
 use Rattle.shop_tree.proofs.WalkerLemmas.{turn_cut, turn_expanded, went_in_order}
 use Rattle.shop_tree.proofs.walkers.Walker.walk_open.Goals as goal
 
@@ -69,11 +62,11 @@ expand-requires g c =
         })) (sym went) (went_in_order (stage_of self) o c.requires.on);
         states = record {
           held = subst (λ x. AreHeld (g.D.Dispatching.IsStateOf x) c.push.new.self.items hs)
-              (sym c.in_ok-go_on_in.ensures.dispatcher)
+              (sym c.go_on_in.ensures.sound.dispatcher)
               (subst (λ (w : List ℕ). AreHeld (g.D.Dispatching.IsStateOf d) w hs) (sym went)
               (held_below (g.D.Dispatching.IsStateOf d) self.progress.instance.now self.progress.best word hs o
               c.requires.on c.requires.states.held));
-          states = c.in_ok-go_on_in.ensures.sound;
+          states = c.go_on_in.ensures.sound.states;
         };
         state = subst (IsStateIn g.D.Dispatching c.go_on_in.new.self) c.as_slice.ensures.value
             c.in_ok-go_on_in.ensures.state;

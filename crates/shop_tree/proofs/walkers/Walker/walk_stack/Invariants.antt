@@ -1,6 +1,5 @@
 use Rattle.std.proofs.Common.{◌≡◌, ◌≤◌}
-use Rattle.shop_tree.specs.inner.StateWalkers.{stage_of, HasStates}
-use Rattle.shop_tree.specs.inner.Walkers.{IsInOrder, stack_walk, turns_left}
+use Rattle.shop_tree.specs.{inner.StateWalkers.{stage_of, HasStates}, inner.Walkers.{IsInOrder, stack_walk, turns_left}}
 use Rattle.shop_tree.proofs.walkers.Walker.walk_stack.Given as goal
 
 abbrev pub invariant-loop-self : goal.invariant-loop-self

@@ -1,5 +1,0 @@
-use Rattle.shop_layout.specs.Positions.{AreMachinesOf}
-use Rattle.shop_layout.proofs.layings.machines_of.Given as goal
-
-abbrev pub invariant-loop-machine : goal.invariant-loop-machine
-invariant-loop-machine l = AreMachinesOf l.blocks l.machine l.machines.items

@@ -1,0 +1,23 @@
+use Rattle.std.proofs.Common.{◌≡◌, ℕ, ◌+◌, ◌<◌, List, [], length, get_or, set, map, refl, arith}
+use Rattle.std.proofs.lemmas.List.{map-set, get_or-map, length-map}
+use Rattle.std.specs.{Prelude.Vec, Vec.with_item, declared.alloc.Global.Global}
+use Rattle.shop_lanes.specs.Rows.{place_at_rank}
+use Rattle.shop_layout.specs.inner.Layings.{no_slot}
+use Rattle.shop_layout.proofs.NotedPlaces.{noted_more}
+use Rattle.shop_layout.proofs.positions.note_places.Goals as goal
+
+items_set : (now : List (Vec ℕ Global)) (j k x : ℕ) (d : Vec ℕ Global) → j < length now
+    → map (λ v. v.items) (set now j (with_item (get_or now j d) k x))
+    ≡ set (map (λ v. v.items) now) j (set (get_or (map (λ v. v.items) now) j []) k x)
+items_set now j k x d here = grind (arith, map-set, get_or-map)
+
+pub loop-rank-preserved : goal.loop-rank-preserved
+loop-rank-preserved c =
+    let s = get_or c.args.slots.now c.loop-rank.rank no_slot
+    in let x = c.args.first + place_at_rank c.args.count c.loop-rank.rank
+    in noted_more c.loop-rank.rank c.args.first c.args.count c.args.slots.now (map (λ v. v.items) c.args.places.now)
+    (map (λ v. v.items) c.loop-rank.places) _ c.loop-rank.invariant c.loop-rank-test.true c.requires.apart
+    c.requires.rows x refl
+    (items_set c.loop-rank.places s.job s.step x c.index-places-slot.result
+    (let a = (c.requires.rows c.loop-rank.rank no_slot c.loop-rank-test.true).job in let b = c.loop-rank.invariant.long
+    in omega (arith, length-map c.loop-rank.places (λ v. v.items), length-map c.args.places.now (λ v. v.items))))
