@@ -11,7 +11,7 @@ use lib.Count.{count_trailing_zeros}
 use lib.Lanes.{mask_l, zip2}
 use Rattle.shop_lanes.specs.Ends.{IsFirstLeast}
 use Rattle.shop_lanes.specs.Folds.{least_up_to}
-use Rattle.shop_lanes.specs.inner.Passes.{IsFirstOf}
+use Rattle.shop_lanes.specs.inner.Passes.{IsLeastFound}
 use Rattle.shop_lanes.proofs.Extremes.{least-append, least-lesser, least_le_top}
 use Rattle.shop_lanes.proofs.MarkLemmas.{odd_lowest, even_lowest}
 
@@ -57,8 +57,14 @@ odd_block p h xs few =
     in ap (λ n. mask_l (map p (take 8 (drop n xs)))) at
     ∙ ap (λ l. mask_l (map p l)) (take_all 8 (drop (16 * h) xs) (omega arith))
 
-pub mask_small : (p : ℕ → Bool) (xs : List ℕ) (k : ℕ) → length xs ≤ 64 → mask_l (map p (drop k xs)) < 2 ^ 64
+mask_small : (p : ℕ → Bool) (xs : List ℕ) (k : ℕ) → length xs ≤ 64 → mask_l (map p (drop k xs)) < 2 ^ 64
 mask_small p xs k le = search (rules, length-map, length-drop, mask_l-lt, pow_mono)
+
+pub mask_fits : (p : ℕ → Bool) (n : ℕ) (xs : List ℕ) → 0 < n → 16 * n ≤ length xs → length xs ≤ 64 → (pair rest : ℕ)
+    → pair ≡ mask_l (map p (take 16 (drop (16 * (n - 1)) xs))) → rest ≡ mask_l (map p (drop (16 * n) xs))
+    → pair + 65536 * rest < 2 ^ 64
+mask_fits p n xs some le few pair rest e f =
+    let all = mask_back p n xs some le pair rest e f in omega (arith, all, mask_small p xs (16 * (n - 1)) few)
 
 pub least_begins : (top : ℕ) (xs : List ℕ)
     → min (least_up_to top (replicate 8 top)) (least_up_to top xs) ≡ least_up_to top xs
@@ -99,13 +105,20 @@ equal_if number x e = grind (arith, nat_tests)
 different_if : (number x : ℕ) → (x == number) ≡ false → x ≢ number
 different_if number x e = grind (arith, nat_tests)
 
+-- i is the first position of `number`, or the length of the list if it is not in it
+pub record IsFirstOf (xs : List ℕ) (number i : ℕ) : Type 0 where
+  pub within : i ≤ length xs
+  pub found : i < length xs → get_or xs i 0 ≡ number
+  pub first : (k : ℕ) → k < i → get_or xs k 0 ≢ number
+
 -- the first number of block b that is `number`, where none before the block is
 pub position_in_block : (number b : ℕ) (xs : List ℕ) → 8 * (b + 1) ≤ length xs
     → ((k : ℕ) → k < 8 * b → get_or xs k 0 ≢ number)
-    → (bits : ℕ) → bits ≡ mask_l (map (λ x. x == number) (take 8 (drop (8 * b) xs))) → bits ≢ 0
-    → IsFirstOf xs number (8 * b + count_trailing_zeros 64 bits)
-position_in_block number b xs le before bits is some =
+    → {read : List ℕ} → read ≡ take 8 (drop (8 * b) xs) → {bits : ℕ} → bits ≡ mask_l (map (λ x. x == number) read)
+    → bits ≢ 0 → IsFirstOf xs number (8 * b + count_trailing_zeros 64 bits)
+position_in_block number b xs le before read_is {bits} told some =
     let block = take 8 (drop (8 * b) xs)
+    in let is = told ∙ ap (λ l. mask_l (map (λ x. x == number) l)) read_is
     in let long = length-block b xs le
     in let positive : 0 < mask_l (map (λ x. x == number) block) = omega (arith, is, some)
     in let r = first_passed (λ x. x == number) 64 block (omega (arith, long)) positive
@@ -132,10 +145,11 @@ position_in_block number b xs le before bits is some =
 
 pub none_in_block : (number b : ℕ) (xs : List ℕ) → 8 * (b + 1) ≤ length xs
     → ((k : ℕ) → k < 8 * b → get_or xs k 0 ≢ number)
-    → (bits : ℕ) → bits ≡ mask_l (map (λ x. x == number) (take 8 (drop (8 * b) xs))) → bits ≡ 0
-    → (k : ℕ) → k < 8 * (b + 1) → get_or xs k 0 ≢ number
-none_in_block number b xs le before bits is none k lt =
-    elim (cases_lt k (8 * b)) [
+    → {read : List ℕ} → read ≡ take 8 (drop (8 * b) xs) → {bits : ℕ} → bits ≡ mask_l (map (λ x. x == number) read)
+    → bits ≡ 0 → (k : ℕ) → k < 8 * (b + 1) → get_or xs k 0 ≢ number
+none_in_block number b xs le before read_is told none k lt =
+    let is = told ∙ ap (λ l. mask_l (map (λ x. x == number) l)) read_is
+    in elim (cases_lt k (8 * b)) [
       | inl early ↦ before k early
       | inr late ↦ different_if number (get_or xs k 0)
           (none_from_empty_mask (λ x. x == number) xs (8 * b) 8 0 (omega arith) (sym is ∙ none) k late (omega arith))
@@ -157,10 +171,16 @@ least_reached top x (y ∷ xs) small =
       | inr le ↦ (0, omega arith, omega arith)
     ]
 
-pub first_of_least : (top : ℕ) (xs : List ℕ) (least i : ℕ) → 0 < length xs → ((k : ℕ) → get_or xs k 0 ≤ top)
+first_of_least : (top : ℕ) (xs : List ℕ) (least i : ℕ) → 0 < length xs → ((k : ℕ) → get_or xs k 0 ≤ top)
     → least ≡ least_up_to top xs → IsFirstOf xs least i → IsFirstLeast xs i
 first_of_least top [] least i some small is h = absurd (omega arith)
 first_of_least top (x ∷ xs) least i some small is h = grind (arith, least_reached, cases_lt, least_le)
+
+pub least_found : (top : ℕ) (xs : List ℕ) (least i : ℕ) → 0 < length xs → ((k : ℕ) → get_or xs k 0 ≤ top)
+    → least ≡ least_up_to top xs → IsFirstOf xs least i → IsLeastFound xs (i, least)
+least_found top xs least i some small is h =
+    let first = first_of_least top xs least i some small is h
+    in record { first = first; least = sym (h.found first.within) }
 
 -- of the bits of those that are the least, the lowest
 pub least_by_mask : (top : ℕ) (xs : List ℕ) (least bits : ℕ) → 0 < length xs → length xs ≤ 64

@@ -5,7 +5,7 @@ use mir.Syntax.{Width}
 use mir.Val.{Fits, bits}
 use Rattle.std.proofs.lemmas.Nat.{pow_pos}
 use Rattle.shop_lanes.specs.Eights.{added, up_one, up_two, up_four, AddsFit}
-use Rattle.shop_lanes.specs.Folds.{running, sums_before}
+use Rattle.shop_lanes.specs.Folds.{sums_before}
 
 one_more : (P : List ℕ → Type 0) (n : ℕ) → ((x : ℕ) (xs : List ℕ) → length xs ≡ n → P (x ∷ xs))
     → (v : List ℕ) → length v ≡ suc n → P v
@@ -36,6 +36,11 @@ fours v = added (pairs v) (up_two (pairs v))
 abbrev pub eights : List ℕ → List ℕ
 eights v = added (fours v) (up_four (fours v))
 
+-- for each number `start` plus all numbers up to it
+abbrev pub running : ℕ → List ℕ → List ℕ
+running start [] = []
+running start (x ∷ xs) = (start + x) ∷ running (start + x) xs
+
 -- sums that fit a width are what its additions ask for
 pub lanes_fit : (w : Width) (xs ys : List ℕ) → AddsFit (2 ^ bits w - 1) xs ys → Each2 (λ a b. Fits w (a + b)) xs ys
 lanes_fit w [] ys h = tt
@@ -43,7 +48,7 @@ lanes_fit w (x ∷ xs) [] h = tt
 lanes_fit w (x ∷ xs) (y ∷ ys) h = grind (arith, pow_pos, lanes_fit w xs ys h.1)
 
 -- the sums up to each one, moved by one
-pub sums_moved : (v : List ℕ) → length v ≡ 8 → up_one (running 0 v) ≡ sums_before 0 v
+sums_moved : (v : List ℕ) → length v ≡ 8 → up_one (running 0 v) ≡ sums_before 0 v
 sums_moved = on_eight (λ v. up_one (running 0 v) ≡ sums_before 0 v) (λ a b c d e f g h. refl)
 
 pub pairs_fit : (limit : ℕ) (v : List ℕ) → length v ≡ 8 → sum_l v ≤ limit → AddsFit limit v (up_one v)
@@ -96,5 +101,8 @@ module _ (limit : ℕ) (v ones : List ℕ) (eight : length v ≡ 8) (small : sum
       pub four_fits : AddsFit limit fs four
       four_fits = rw (are_fours, are_four) (eights_fit limit v eight small)
 
-      pub sums_run : (sums : List ℕ) → sums ≡ added fs four → sums ≡ running 0 v
+      sums_run : (sums : List ℕ) → sums ≡ added fs four → sums ≡ running 0 v
       sums_run sums e = grind (arith, are_fours, are_four, eights-running)
+
+      pub run_moved : (sums moved : List ℕ) → sums ≡ added fs four → moved ≡ up_one sums → moved ≡ sums_before 0 v
+      run_moved sums moved e f = f ∙ ap up_one (sums_run sums e) ∙ sums_moved v eight

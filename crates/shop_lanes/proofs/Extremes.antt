@@ -1,6 +1,5 @@
 -- The greatest and the least of lists and of vectors.
-use Rattle.std.proofs.Common.{◌≡◌, ℕ, ◌≤◌, min, max, List, [], ◌∷◌, ◌++◌, length, get_or, refl, ap, sym, ◌∙◌, arith}
-use Rattle.std.proofs.lemmas.Simd.{length-zip2}
+use Rattle.std.proofs.Common.{◌≡◌, ℕ, ◌≤◌, min, max, List, [], ◌∷◌, ◌++◌, length, get_or, refl, sym, ◌∙◌, arith}
 use lib.Lanes.{zip2, top}
 use Rattle.shop_lanes.specs.Eights.{halves, quarters, neighbours}
 use Rattle.shop_lanes.specs.Folds.{greatest, least_up_to}
@@ -68,6 +67,3 @@ folded-min top = on_eight (λ v. folded min v ≤ top → folded min v ≡ least
 pub folded_is : (f : ℕ → ℕ → ℕ) (v fours pairs all : List ℕ) → fours ≡ zip2 f v (halves v)
     → pairs ≡ zip2 f fours (quarters fours) → all ≡ zip2 f pairs (neighbours pairs) → get_or all 0 0 ≡ folded f v
 folded_is f v fours pairs all a b c = grind arith
-
-pub folded_long : (f : ℕ → ℕ → ℕ) (v u w : List ℕ) → length v ≡ 8 → length u ≡ 8 → w ≡ zip2 f v u → length w ≡ 8
-folded_long f v u w a b e = ap length e ∙ length-zip2 f v u (a ∙ sym b) ∙ a

@@ -1,15 +1,10 @@
 -- Sums and extremes of numbers in order.
---     running start xs            for each number `start` plus all numbers up to it
 --     sums_before start xs        for each number `start` plus all numbers before it
 --     greatest xs                 the greatest number, 0 if there is none
 --     greatest_before most xs     for each number the greatest of `most` and the numbers before it
 --     maxima_behind most xs       for each number the greatest of `most` and the numbers behind it
 --     least_up_to top xs          the least of the numbers and `top`
 use Rattle.std.specs.Prelude.{ℕ, ◌+◌, min, max, List, [], ◌∷◌}
-
-abbrev pub running : ℕ → List ℕ → List ℕ
-running start [] = []
-running start (x ∷ xs) = (start + x) ∷ running (start + x) xs
 
 abbrev pub sums_before : ℕ → List ℕ → List ℕ
 sums_before start [] = []

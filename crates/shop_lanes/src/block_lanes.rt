@@ -184,7 +184,8 @@ impl<B: Block, const EACH: usize> StateLanes for BlockLanes<B, EACH> {
 
     #[inline(always)]
     fn below(&self, from: usize, to: usize, limit: u64) -> Marks {
-        let (first, end) = (8 * from, 8 * to);
+        let first = 8 * from;
+        let end = 8 * to;
         Marks::new(
             first,
             bits_up_to::<B, EACH>(&self.heads()[first..end], limit.saturating_sub(1)),

@@ -1,21 +1,9 @@
 // Running sums, running maxima, and the greatest and least of the eight numbers of a block.
 ghost use Rattle.std.specs.Prelude.{◌≡◌, ◌≤◌, length};
 ghost use Rattle.std.specs.Simd.Lanes.{sum_l};
-ghost use Rattle.shop_lanes.specs.Folds.{running, sums_before, greatest, least_up_to, greatest_before, maxima_behind};
+ghost use Rattle.shop_lanes.specs.Folds.{sums_before, greatest, least_up_to, greatest_before, maxima_behind};
 
 use crate::blocks::Block;
-
-/// Answers in each lane the sum of this lane and of all lanes of `block` before it.
-#[inline(always)]
-fn sums_up_to<B: Block>(block: B) -> B
-    requires eight { length (B.numbers block) ≡ 8 }
-    requires fits { sum_l (B.numbers block) ≤ B.GREATEST }
-    ensures { B.numbers result ≡ running 0 (B.numbers block) }
-{
-    let pairs = B::sum(block, B::up_one(block));
-    let fours = B::sum(pairs, B::up_two(pairs));
-    B::sum(fours, B::up_four(fours))
-}
 
 /// Answers in each lane the sum of all lanes of `block` before it; 0 in the first lane.
 #[inline(always)]
@@ -24,7 +12,9 @@ pub fn sums_before<B: Block>(block: B) -> B
     requires fits { sum_l (B.numbers block) ≤ B.GREATEST }
     ensures { B.numbers result ≡ sums_before 0 (B.numbers block) }
 {
-    B::up_one(sums_up_to(block))
+    let pairs = B::sum(block, B::up_one(block));
+    let fours = B::sum(pairs, B::up_two(pairs));
+    B::up_one(B::sum(fours, B::up_four(fours)))
 }
 
 /// Answers in each lane the greatest number in the lanes of `block` before it; 0 in the first lane.

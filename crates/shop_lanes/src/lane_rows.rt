@@ -28,7 +28,8 @@ impl<'a, N> LaneRows<'a, N> {
         requires within { 8 * to ≤ length self.now.heads.now }
         ensures { AreCutFrom self.now from to result }
     {
-        let (first, end) = (8 * from, 8 * to);
+        let first = 8 * from;
+        let end = 8 * to;
         LaneRows {
             heads: &self.heads[first..end],
             times: &self.times[first..end],

@@ -69,31 +69,6 @@ pub(crate) fn leap<B: Block>(
     bound
 }
 
-/// Does `leap_over` for four or more blocks.
-#[inline(always)]
-fn leap_over_longer<B: Block>(
-    rows: &LaneRows<B::Number>,
-    range: HeadRange,
-    most: u64,
-    limit: u64,
-) -> u64
-    requires { CanRaiseBound B.value B.GREATEST range.upto rows.now }
-    ensures { IsRaisedBelow limit
-        (max most (spans_between range.above range.upto (lanes_in B.value rows.now))) result }
-{
-    if are_wide(B::GREATEST) {
-        return leap::<B>(rows.heads.len(), rows, range, most, limit);
-    }
-    match rows.heads.len() {
-        32 => leap::<B>(32, rows, range, most, limit),
-        40 => leap::<B>(40, rows, range, most, limit),
-        48 => leap::<B>(48, rows, range, most, limit),
-        56 => leap::<B>(56, rows, range, most, limit),
-        64 => leap::<B>(64, rows, range, most, limit),
-        _ => leap::<B>(rows.heads.len(), rows, range, most, limit),
-    }
-}
-
 /// Calls `leap` for any number of blocks, with a literal `count` for one to eight blocks (in lanes of 64 bits, for one
 /// to three). Kept out of line.
 #[inline(never)]
@@ -111,6 +86,12 @@ pub(crate) fn leap_over<B: Block>(
         8 => leap::<B>(8, rows, range, most, limit),
         16 => leap::<B>(16, rows, range, most, limit),
         24 => leap::<B>(24, rows, range, most, limit),
-        _ => leap_over_longer::<B>(rows, range, most, limit),
+        _ if are_wide(B::GREATEST) => leap::<B>(rows.heads.len(), rows, range, most, limit),
+        32 => leap::<B>(32, rows, range, most, limit),
+        40 => leap::<B>(40, rows, range, most, limit),
+        48 => leap::<B>(48, rows, range, most, limit),
+        56 => leap::<B>(56, rows, range, most, limit),
+        64 => leap::<B>(64, rows, range, most, limit),
+        _ => leap::<B>(rows.heads.len(), rows, range, most, limit),
     }
 }

@@ -92,8 +92,8 @@ fn write_back<B: Block>(
     ensures { WritesOwnSpans B.value rows.now owns.old owns.new }
 {
     let one = B::splat(1);
-    let (begins, before) = (ends.begins, ends.before);
-    let (mut clocks, mut behind) = (ends.clocks, ends.behind);
+    let mut clocks = ends.clocks;
+    let mut behind = ends.behind;
     let mut block = count / 8;
     while block > 0 {
         block -= 1;
@@ -101,7 +101,7 @@ fn write_back<B: Block>(
         let time = B::load(rows.times, block);
         let tail = B::load(rows.tails, block);
         let noted = B::load(owns, block);
-        let first = B::greater(before, B::sum(begins, noted));
+        let first = B::greater(ends.before, B::sum(ends.begins, noted));
         let late = B::sum(clocks, B::waiting(tail, head, one));
         B::store(own_ends(head, time, first, behind), owns, block);
         behind = B::greater(behind, late);
@@ -128,7 +128,8 @@ fn own_spans_of<B: Block>(count: usize, rows: &LaneRows<B::Number>, owns: &mut [
     write_back::<B>(count, rows, columns, owns);
 }
 
-/// Does `own_spans` for four or more blocks, out of line: only the code for up to three blocks is inlined.
+/// Does `own_spans` out of line, for numbers of blocks without inlined code: four and more, or five and more where `EACH`
+/// is 4.
 #[inline(never)]
 fn own_spans_of_longer<B: Block>(rows: &LaneRows<B::Number>, owns: &mut [B::Number])
     requires { CanOwn B.value B.GREATEST rows.now owns.old }

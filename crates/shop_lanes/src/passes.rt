@@ -6,7 +6,7 @@ ghost use Rattle.shop_lanes.specs.Rows.{lanes_in};
 ghost use Rattle.shop_lanes.specs.Spans.{span, FitsSpan};
 ghost use Rattle.shop_lanes.specs.Eights.{is_between};
 ghost use Rattle.shop_lanes.specs.Folds.{least_up_to};
-ghost use Rattle.shop_lanes.specs.inner.Passes.{AreColumns, CanFindLeast, IsFirstOf, IsLeastFound};
+ghost use Rattle.shop_lanes.specs.inner.Passes.{AreColumns, CanFindLeast, IsLeastFound};
 
 use crate::blocks::Block;
 use crate::folds::{greatest_of, least_of, sums_before};
@@ -99,7 +99,8 @@ pub fn are_wide(greatest: u64) -> bool {
     greatest > u32::MAX as u64
 }
 
-/// Does `bits_up_to` for four or more blocks, out of line: only the code for up to three blocks is inlined.
+/// Does `bits_up_to` out of line, for numbers of blocks without inlined code: four and more, or five and more where `EACH`
+/// is 4.
 #[inline(never)]
 fn bits_of_longer<B: Block>(heads: &[B::Number], upto: u64) -> u64
     requires whole_blocks { length heads.now % 8 ≡ 0 }
@@ -186,23 +187,6 @@ fn least_number<B: Block>(count: usize, numbers: &[B::Number]) -> u64
     least_of(least)
 }
 
-/// The position of the first number of `numbers` that equals `number`, or the length of `numbers` if there is none.
-#[inline(always)]
-fn position_of<B: Block>(numbers: &[B::Number], number: u64) -> usize
-    requires whole_blocks { length numbers.now % 8 ≡ 0 }
-    requires room { length numbers.now + 8 ≤ 2 ^ 64 }
-    requires fits { number ≤ B.GREATEST }
-    ensures { IsFirstOf (map B.value numbers.now) number result }
-{
-    for block in 0..numbers.len() / 8 {
-        let bits = B::bits_equal(B::load(numbers, block), number);
-        if bits != 0 {
-            return 8 * block + bits.trailing_zeros() as usize;
-        }
-    }
-    numbers.len()
-}
-
 /// Does `first_least` for at most 64 numbers. A literal length `count` unrolls the loops over blocks.
 #[inline(always)]
 fn first_least_of<B: Block>(count: usize, numbers: &[B::Number]) -> (usize, u64)
@@ -223,10 +207,17 @@ fn first_least_of_any<B: Block>(numbers: &[B::Number]) -> (usize, u64)
     ensures { IsLeastFound (map B.value numbers.now) result }
 {
     let least = least_number::<B>(numbers.len(), numbers);
-    (position_of::<B>(numbers, least), least)
+    for block in 0..numbers.len() / 8 {
+        let bits = B::bits_equal(B::load(numbers, block), least);
+        if bits != 0 {
+            return (8 * block + bits.trailing_zeros() as usize, least);
+        }
+    }
+    (numbers.len(), least)
 }
 
-/// Does `first_least` for four or more blocks, out of line: only the code for up to three blocks is inlined.
+/// Does `first_least` out of line, for numbers of blocks without inlined code: four and more, or five and more where `EACH`
+/// is 4.
 #[inline(never)]
 fn first_least_of_longer<B: Block>(numbers: &[B::Number]) -> (usize, u64)
     requires { CanFindLeast B.value B.GREATEST numbers.now }

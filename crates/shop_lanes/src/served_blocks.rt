@@ -1,26 +1,13 @@
 // Serves the operations of a block: adds their times to the clocks of their columns, and finds their ends with tails.
 ghost use Rattle.std.specs.Prelude.{◌≡◌, length};
 ghost use Rattle.shop_lanes.specs.Eights.{IsSplat};
-ghost use Rattle.shop_lanes.specs.inner.Passes.{FitServed, AreTailed, AreServed};
+ghost use Rattle.shop_lanes.specs.inner.Passes.{FitServed, AreServed};
 
 use crate::blocks::Block;
 
 /// Serves the operations of a block with a head of at least `least`: adds their times to `clocks`. Answers the new
-/// clock of each column, and the end of each served operation, tail included; 0 in the other lanes.
-#[inline(always)]
-pub(crate) fn tailed_ends<B: Block>(heads: B, times: B, tails: B, least: B, clocks: B) -> (B, B)
-    requires heads { length (B.numbers heads) ≡ 8 }
-    requires least { IsSplat (B.numbers least) }
-    requires fits { FitServed B.GREATEST B.numbers heads times tails least clocks }
-    ensures { AreTailed B.numbers heads times tails least clocks result }
-{
-    let after = B::sum(clocks, B::waiting(times, heads, least));
-    let late = B::waiting(B::sum(after, tails), heads, least);
-    (after, late)
-}
-
-/// Serves a block as `tailed_ends` does. Answers the new clock of each column, and in each lane the greater of `most`
-/// and the end of the operation served there, tail included.
+/// clock of each column, and in each lane the greater of `most` and the end of the operation served there, tail
+/// included.
 #[inline(always)]
 pub(crate) fn serve<B: Block>(heads: B, times: B, tails: B, least: B, clocks: B, most: B) -> (B, B)
     requires heads { length (B.numbers heads) ≡ 8 }
@@ -32,6 +19,7 @@ pub(crate) fn serve<B: Block>(heads: B, times: B, tails: B, least: B, clocks: B,
     requires fits { FitServed B.GREATEST B.numbers heads times tails least clocks }
     ensures { AreServed B.numbers heads times tails least clocks most result }
 {
-    let (after, late) = tailed_ends(heads, times, tails, least, clocks);
+    let after = B::sum(clocks, B::waiting(times, heads, least));
+    let late = B::waiting(B::sum(after, tails), heads, least);
     (after, B::greater(most, late))
 }

@@ -209,7 +209,7 @@ module _ {l : LayoutState} {first last end second : ℕ} where
         (low : first ≤ from) (ordered : from ≤ to) (within : 8 * to ≤ length old.heads) (earlier : second ≤ end)
         {marks : List ℕ} (are : marks ≡ positions_among now.heads from to end) where
       there : (q : ℕ) → IsIn marks q → IsBelow now.heads from to end q
-      there q here = in_is_below now from to end ordered (let a = raises.positions in omega arith) q
+      there q here = in_is_below now.heads from to end ordered (let a = raises.positions in omega arith) q
           (subst (λ (xs : List ℕ). IsIn xs q) are here)
 
       unmarked : (q : ℕ) → IsInBlocks from to q → (IsIn marks q → ⊥) → 0 < get_or now.heads q 0
@@ -217,7 +217,7 @@ module _ {l : LayoutState} {first last end second : ℕ} where
       unmarked q here none waits = elim (cases_lt (get_or now.heads q 0) end) [
         | inr high ↦ high
         | inl below ↦ absurd (none (subst (λ (xs : List ℕ). IsIn xs q) (sym are)
-            (below_is_in now from to end ordered (let a = raises.positions in omega arith) q
+            (below_is_in now.heads from to end ordered (let a = raises.positions in omega arith) q
             (record { there = here; waits = waits; below = below }))))
       ]
 
@@ -253,7 +253,7 @@ module _ {l : LayoutState} {first last end second : ℕ} where
                 | inr none ↦ (let rests = raises.raised.rests q (omega arith) in omega arith)
               ],
             );
-        rises = subst Rises (sym are) (below_rises now from to end ordered (let a = raises.positions in omega arith));
+        rises = subst Rises (sym are) (below_rises now.heads from to end ordered (let a = raises.positions in omega arith));
       }
 
     module _ {to : ℕ} {todo : List ℕ} (so_far : AreLateUpTo l first to last end second todo old now) where

@@ -1,7 +1,6 @@
 -- The conflict set gathered on the machine of the operation that can end first.
 use Rattle.std.proofs.Common.{rules, ◌≡◌, ℕ, ◌+◌, ◌*◌, ◌^◌, ◌≤◌, ◌<◌, List, [], ◌∷◌, length, get_or, subst, arith, refl}
-use Rattle.std.specs.List.{All}
-use Rattle.shop_lanes.specs.Marks.{positions_below}
+use Rattle.shop_lanes.specs.Marks.{positions_among}
 use Rattle.shop_lanes.specs.Spans.{AreOwnSpans}
 use Rattle.shop_model.specs.Shop.{Shop}
 use Rattle.shop_bound.specs.Conflicts.{conflict}
@@ -10,7 +9,7 @@ use Rattle.shop_layout.specs.Positions.{LayoutState}
 use Rattle.shop_states.specs.declared.candidate_lists.FirstEnd.{FirstEnd}
 use Rattle.shop_states.specs.declared.dispatching.Candidate.{Candidate}
 use Rattle.shop_states.specs.inner.Candidates.{AreCandidatesOf, CanList, IsChosenBy, ListsGathered, told_at}
-use Rattle.shop_states.specs.inner.LaneChoices.{AreNextPlaced, IsJobBelow}
+use Rattle.shop_states.specs.inner.LaneChoices.{AreNextPlaced, IsAlone, IsJobBelow}
 use Rattle.shop_states.specs.inner.LaneStates.{IsKeptInLanes}
 use Rattle.shop_states.specs.inner.Raises.{IsInBlocks}
 use Rattle.shop_states.specs.inner.RisingLists.{IsGatheredWith}
@@ -37,25 +36,21 @@ module _ {greatest : ℕ} {shop : Shop} {w : List ℕ} {l : LayoutState} {heads 
         (subst (λ (x : ℕ). AreGathered x behind js) from_is is))
 
     -- nothing else waits there
-    pub sole : {to : ℕ} → to ≡ behind
-        → All (λ p. p ≡ get_or nexts first.chosen 0) (positions_below (rows_of l heads ends) from to first.end)
-        → (limit : ℕ) {cs : List Candidate} → cs ≡ record { job = first.chosen; own = 0 } ∷ []
-        → AreCandidatesOf shop w l limit cs 0
-    sole {to} whole nothing limit {cs} are =
+    pub sole : IsAlone heads from behind first.end (get_or nexts first.chosen 0) → (limit : ℕ) {cs : List Candidate}
+        → cs ≡ record { job = first.chosen; own = 0 } ∷ [] → AreCandidatesOf shop w l limit cs 0
+    sole nothing limit {cs} are =
         let ordered = chosen.blocks.ordered
         in let within = chosen.blocks.within
-        in let is = alone_with l nexts (rows_of l heads ends) placed from to first.end first.chosen (omega arith)
-        (omega arith) chosen.known nothing
         in alone kept
-        (set_is (first.chosen ∷ []) (subst (λ (x : ℕ). AreGathered from x (first.chosen ∷ [])) whole is)) limit
-        first.chosen refl cs are
+        (set_is (first.chosen ∷ []) (alone_with l nexts heads placed from behind first.end first.chosen (omega arith)
+        (omega arith) chosen.known nothing)) limit first.chosen refl cs are
 
     pub tells : CanTell greatest (rows_of l heads ends) from behind
     tells = can_tell kept refl first.chosen chosen.has chosen.machine_is from_is behind_is
 
     -- it can be listed
     pub can_list : {to : ℕ} → from ≤ to → to ≤ behind → {below : List ℕ}
-        → below ≡ positions_below (rows_of l heads ends) from to first.end → {count : ℕ}
+        → below ≡ positions_among heads from to first.end → {count : ℕ}
         → 8 * behind ≤ 8 * from + count → length heads < 2 ^ 64
         → CanList greatest l (rows_of l heads ends) nexts (record {
           chosen = first.chosen;

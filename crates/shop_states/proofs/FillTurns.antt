@@ -11,13 +11,22 @@ use Rattle.shop_model.proofs.Ends.{IsOperation-job}
 use Rattle.shop_model.proofs.Unders.{after_word}
 use Rattle.shop_bound.specs.Heads.{ready_after, head_of}
 use Rattle.shop_model.specs.Placements.{PlacementState, IsPlacement}
-use Rattle.shop_states.specs.inner.Fills.{IsAtLeg, IsStored, CanFill, AreSameBeside, HasFilledJob, HasFilled}
+use Rattle.shop_states.specs.inner.Fills.{IsAtLeg, IsStored, CanFill, AreSameBeside, HasFilledJob}
+use Rattle.shop_states.specs.inner.LaneHeads.{AreHeadsAt}
 use Rattle.shop_layout.specs.declared.legs.Leg.{Leg}
 use Rattle.shop_layout.specs.Legs.{all_legs, end_of, leg_index}
 use Rattle.shop_layout.specs.Positions.{IsFree, LayoutState, place}
 use Rattle.shop_layout.proofs.LaidPlaces.{place_of}
 use Rattle.shop_states.proofs.JobLegs.{IsLegOf, index_there, leg_is, leg_small, step_past, step_there}
 use Rattle.shop_states.proofs.RowTurns.{open_turn}
+
+abbrev pub IsRested : List ℕ → Type 0
+IsRested heads = (q : ℕ) → get_or heads q 0 ≡ 0
+
+-- the heads of all jobs were set
+pub record HasFilled (shop : Shop) (l : LayoutState) (s : PlacementState) (old new : Rows) : Type 0 where
+  pub beside : AreSameBeside old new
+  pub filled : IsRested old.heads → (p : Placing) → IsPlacement shop p s → AreHeadsAt shop p l new.heads
 
 pub beside_both : (a b c : Rows) → AreSameBeside a b → AreSameBeside b c → AreSameBeside a c
 beside_both a b c x y = grind arith
@@ -127,7 +136,7 @@ module _ {greatest : ℕ} {shop : Shop} {l : LayoutState} {rows : Rows} (can : C
     leg_few = grind (arith, leg_small)
 
     module _ {leg : Leg} (is : leg ≡ get_or (all_legs read) index (end_of 0)) {n : ℕ}
-        (count : n ≡ length read.following) where
+        (count : n ≡ length l.following) where
       -- at the end of the route
       pub job_filled : n ≤ leg.position → HasFilledJob shop l s j rows now
       job_filled above =

@@ -5,21 +5,33 @@ use Rattle.std.proofs.lemmas.Grind.{get_or-set_at}
 use Rattle.std.proofs.lemmas.List.{get_or-set_other, length-set}
 use Rattle.shop_lanes.specs.Rows.{Rows}
 use Rattle.shop_model.specs.Placements.{PlacementState, IsPlacement}
-use Rattle.shop_model.specs.Shop.{Shop, route_of}
+use Rattle.shop_model.specs.Shop.{IsOperation, Shop, route_of}
 use Rattle.shop_model.specs.Word.{Placing, placing}
+use Rattle.shop_bound.specs.Conflicts.{next_end}
 use Rattle.shop_model.proofs.Unders.{after_word}
 use Rattle.shop_layout.specs.declared.legs.Leg.{Leg}
 use Rattle.shop_layout.specs.Legs.{all_legs, end_of, leg_index}
 use Rattle.shop_layout.specs.Positions.{LayoutState, first_position, place_or}
-use Rattle.shop_states.specs.inner.Fills.{AreNextsSet, CanFill, IsAtLeg, IsNextSet}
-use Rattle.shop_states.specs.inner.PlacedNexts.{IsWordAt, placement_at}
+use Rattle.shop_states.specs.inner.Fills.{CanFill, IsAtLeg, IsNextSet}
+use Rattle.shop_states.specs.inner.PlacedNexts.{IsWordAt}
 use Rattle.shop_states.proofs.JobLegs.{leg_is, position_or, step_past, step_there}
-use Rattle.shop_states.proofs.PlacedNexts.{of_word_at, placement_is, steps_are}
+use Rattle.shop_states.proofs.PlacedNexts.{of_word_at, placement_at, placement_is, steps_are}
+
+-- the next operations of the first n jobs are told, and their ends were set
+pub record AreNextsSet (shop : Shop) (l : LayoutState) (p : Placing) (n : ℕ)
+    (old new ends_before ends_after : List ℕ) : Type 0 where
+  pub jobs : length new ≡ length old
+  pub long : length ends_after ≡ length ends_before
+  pub are : (j : ℕ) → j < n → get_or new j 0 ≡ place_or (first_position l shop.machines) l.places j (p.steps j)
+  pub later : (j : ℕ) → n ≤ j → get_or new j 0 ≡ get_or old j 0
+  pub next : (j : ℕ) → j < n → IsOperation shop j (p.steps j) → get_or ends_after j 0 ≡ next_end shop p j + 1
+  pub none : (j : ℕ) → (j < n → length (route_of shop j) ≤ p.steps j)
+      → get_or ends_after j 0 ≡ get_or ends_before j 0
 
 module _ {greatest : ℕ} {shop : Shop} {l : LayoutState} {rows : Rows} (can : CanFill greatest shop l rows) {j : ℕ}
     (job : j < length shop.jobs) {s : PlacementState} {index ready : ℕ} {free : List ℕ}
     (at : IsAtLeg shop l s j index ready free) {read : LayoutState} (same : read ≡ l) {leg : Leg}
-    (is : leg ≡ get_or (all_legs read) index (end_of 0)) {n : ℕ} (count : n ≡ length read.following)
+    (is : leg ≡ get_or (all_legs read) index (end_of 0)) {n : ℕ} (count : n ≡ length l.following)
     (p : Placing) (placed : IsPlacement shop p s) where
   within : p.steps j ≤ length (route_of shop j)
   within = let of = at.of in let steps = of.placed.steps j job in let here = placed.steps j job in let most = of.fits j

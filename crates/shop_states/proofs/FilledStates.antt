@@ -10,12 +10,14 @@ use Rattle.shop_layout.specs.LaidOuts.{IsReady}
 use Rattle.shop_layout.specs.Lanes.{rows_of}
 use Rattle.shop_layout.specs.Positions.{LayoutState}
 use Rattle.shop_layout.proofs.LatestEnds.{latest_end_is}
-use Rattle.shop_states.specs.inner.Fills.{AreNextsSet, CanFill, HasFilled, IsRested}
+use Rattle.shop_states.specs.inner.Fills.{CanFill}
 use Rattle.shop_states.specs.inner.LaneStates.{HasRoom, IsKeptInLanes}
-use Rattle.shop_states.specs.inner.PlacedNexts.{IsPlacedAt, placement_at}
+use Rattle.shop_states.specs.inner.PlacedNexts.{IsPlacedAt}
 use Rattle.shop_states.proofs.HeadsFit.{heads_fit}
 use Rattle.shop_states.proofs.NextOperations.{head_first}
-use Rattle.shop_states.proofs.PlacedNexts.{placement_is}
+use Rattle.shop_states.proofs.FilledJobs.{AreNextsSet}
+use Rattle.shop_states.proofs.FillTurns.{HasFilled, IsRested}
+use Rattle.shop_states.proofs.PlacedNexts.{placement_at, placement_is}
 use Rattle.shop_states.proofs.SoleCandidates.{sole_keeps_bound}
 
 module _ {greatest : ℕ} {shop : Shop} {l : LayoutState} (is : IsReady greatest shop l) {hs es nexts : List ℕ}

@@ -91,8 +91,8 @@ module _ {shop : Shop} (limits : IsWithinLimits shop) {l : LayoutState} (laid : 
         pub position_or : leg.position ≡ place_or (first_position l shop.machines) l.places j k
         position_or = grind (arith, cases_lt, leg_is, place_there, end_there, place_past)
 
-        pub step_there : {n : ℕ} → n ≡ length read.following → leg.position < n → k < length (route_of shop j)
+        pub step_there : {n : ℕ} → n ≡ length l.following → leg.position < n → k < length (route_of shop j)
         step_there count below = grind (arith, cases_lt, end_there)
 
-        pub step_past : {n : ℕ} → n ≡ length read.following → n ≤ leg.position → length (route_of shop j) ≤ k
+        pub step_past : {n : ℕ} → n ≡ length l.following → n ≤ leg.position → length (route_of shop j) ≤ k
         step_past count above = search (rules, cases_lt, leg_is, place_of)

@@ -3,8 +3,7 @@ use Rattle.std.proofs.Common.{◌≡◌, ℕ, zero, suc, ◌+◌, ◌*◌, ◌-�
 use Rattle.std.proofs.Common.{List, [], ◌∷◌, length, get_or, take, drop, refl, ◌∙◌, ap, subst, arith, ltb}
 use Rattle.std.proofs.lemmas.Bool.{cases_Bool, and_from, and_parts, lt-ltb, ltb-true}
 use Rattle.std.proofs.lemmas.List.{get_or-take, get_or-drop, length-take-le, length-drop}
-use Rattle.shop_lanes.specs.Rows.{Rows}
-use Rattle.shop_lanes.specs.Marks.{marked, waits_below, positions_among, positions_below}
+use Rattle.shop_lanes.specs.Marks.{marked, waits_below, positions_among}
 use Rattle.shop_states.specs.inner.RisingLists.{IsIn, Rises}
 use Rattle.shop_states.specs.inner.Raises.{IsInBlocks}
 
@@ -45,22 +44,22 @@ pub record IsBelow (heads : List ℕ) (from to limit q : ℕ) : Type 0 where
   pub waits : 0 < get_or heads q 0
   pub below : get_or heads q 0 < limit
 
-module _ (rows : Rows) (from to limit : ℕ) (ordered : from ≤ to) (within : 8 * to ≤ length rows.heads) where
+module _ (heads : List ℕ) (from to limit : ℕ) (ordered : from ≤ to) (within : 8 * to ≤ length heads) where
   abbrev part : List ℕ
-  part = take (8 * to - 8 * from) (drop (8 * from) rows.heads)
+  part = take (8 * to - 8 * from) (drop (8 * from) heads)
 
   part_long : length part ≡ 8 * to - 8 * from
   part_long = grind (arith, length-take-le, length-drop)
 
-  part_at : (i : ℕ) → i < 8 * to - 8 * from → get_or part i 0 ≡ get_or rows.heads (8 * from + i) 0
+  part_at : (i : ℕ) → i < 8 * to - 8 * from → get_or part i 0 ≡ get_or heads (8 * from + i) 0
   part_at i below = grind (arith, get_or-take, get_or-drop)
 
-  pub below_is_in : (q : ℕ) → IsBelow rows.heads from to limit q → IsIn (positions_below rows from to limit) q
+  pub below_is_in : (q : ℕ) → IsBelow heads from to limit q → IsIn (positions_among heads from to limit) q
   below_is_in q is =
       let i = q - 8 * from
       in let a = is.there.0 in let b = is.there.1
       in let e_q : 8 * from + i ≡ q = omega arith
-      in let same = part_at i (omega arith) ∙ ap (λ (x : ℕ). get_or rows.heads x 0) e_q
+      in let same = part_at i (omega arith) ∙ ap (λ (x : ℕ). get_or heads x 0) e_q
       in let waits = is.waits in let below = is.below
       in let long = part_long
       in subst (IsIn (marked (waits_below limit) (8 * from) part)) e_q
@@ -68,8 +67,8 @@ module _ (rows : Rows) (from to limit : ℕ) (ordered : from ≤ to) (within : 8
       (and_from (ltb 0 (get_or part i 0)) (ltb (get_or part i 0) limit) (lt-ltb 0 (get_or part i 0) (omega arith))
       (lt-ltb (get_or part i 0) limit (omega arith))))
 
-  pub in_is_below : (q : ℕ) → IsIn (positions_below rows from to limit) q → IsBelow rows.heads from to limit q
+  pub in_is_below : (q : ℕ) → IsIn (positions_among heads from to limit) q → IsBelow heads from to limit q
   in_is_below q h = grind (arith, marked_out, part_long, part_at, and_parts, ltb-true)
 
-  pub below_rises : Rises (positions_below rows from to limit)
+  pub below_rises : Rises (positions_among heads from to limit)
   below_rises = marked_rises (waits_below limit) (8 * from) part

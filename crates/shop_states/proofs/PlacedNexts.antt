@@ -1,13 +1,13 @@
 -- Next legs, and when jobs are ready and machines free, while a word is placed.
-use Rattle.std.proofs.Common.{rules, ◌≡◌, ℕ, ◌+◌, ◌≤◌, ◌<◌, ◌^◌, max, List, [], length, map, take, get_or, set, sym}
-use Rattle.std.proofs.Common.{subst, arith}
+use Rattle.std.proofs.Common.{rules, ◌≡◌, ℕ, ◌+◌, ◌-◌, ◌≤◌, ◌<◌, ◌^◌, max, List, [], length, map, take, get_or, set}
+use Rattle.std.proofs.Common.{subst, sym, arith}
 use Rattle.std.proofs.lemmas.Bool.{cases_eq}
 use Rattle.std.proofs.lemmas.Grind.{get_or-set_at}
 use Rattle.std.proofs.lemmas.List.{get_or-set_other, length-set, take_more}
 use Rattle.std.proofs.lemmas.List.FromFn.{get_or-map-range_with_len, length-map-range_with_len}
 use Rattle.std.specs.List.{range_with_len}
 use Rattle.shop_model.specs.Limits.{IsWithinLimits}
-use Rattle.shop_model.specs.Placements.{IsPlacement}
+use Rattle.shop_model.specs.Placements.{IsPlacement, PlacementState}
 use Rattle.shop_model.specs.Shop.{Shop, IsOperation, machine_of, release_of, route_of, time_of}
 use Rattle.shop_model.specs.Word.{Placing, IsWord, none_placed, place_next, placing}
 use Rattle.shop_model.proofs.Ends.{IsOperation-job}
@@ -19,8 +19,26 @@ use Rattle.shop_bound.specs.inner.PlacedWords.{IsOfWord}
 use Rattle.shop_layout.specs.declared.legs.Leg.{Leg}
 use Rattle.shop_layout.specs.Legs.{all_legs, end_of, leg_index}
 use Rattle.shop_layout.specs.Positions.{IsLaidOut, LayoutState}
-use Rattle.shop_states.specs.inner.PlacedNexts.{AreBegun, IsPlacedAt, IsWordAt, placement_at, step_at}
+use Rattle.shop_states.specs.inner.PlacedNexts.{IsPlacedAt, IsWordAt}
 use Rattle.shop_states.proofs.JobLegs.{IsLegOf, first_small, index_there, leg_is, leg_small, next_first}
+
+-- the step of job j of which leg i is, or the number of its steps
+abbrev pub step_at : LayoutState → ℕ → ℕ → ℕ
+step_at l j i = i - leg_index l j 0
+
+abbrev pub placement_at : LayoutState → List ℕ → List ℕ → List ℕ → PlacementState
+placement_at l legs ready free = record {
+  steps = map (λ j. step_at l j (get_or legs j 0)) (range_with_len 0 (length legs));
+  ready = ready;
+  free = free;
+}
+
+-- the first n jobs are at their first legs
+pub record AreBegun (shop : Shop) (l : LayoutState) (n : ℕ) (legs ready : List ℕ) : Type 0 where
+  pub next_jobs : length legs ≡ length shop.jobs
+  pub jobs : length ready ≡ length shop.jobs
+  pub first : (j : ℕ) → j < n → get_or legs j 0 ≡ leg_index l j 0
+  pub released : (j : ℕ) → j < n → get_or ready j 0 ≡ release_of shop j
 
 -- nothing is placed
 pub none_at : (shop : Shop) (l : LayoutState) → (legs ready free old : List ℕ)

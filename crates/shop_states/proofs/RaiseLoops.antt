@@ -4,7 +4,7 @@ use Rattle.std.proofs.Common.{◌∙◌, subst, arith}
 use Rattle.std.proofs.lemmas.Bool.{cases_eq, cases_lt}
 use Rattle.std.proofs.lemmas.List.{get_or_past}
 use Rattle.shop_lanes.specs.Rows.{Rows}
-use Rattle.shop_lanes.specs.Marks.{positions_below}
+use Rattle.shop_lanes.specs.Marks.{positions_among}
 use Rattle.shop_layout.specs.Positions.{LayoutState}
 use Rattle.shop_states.specs.inner.RisingLists.{IsIn, Rises}
 use Rattle.shop_states.proofs.MarkedPositions.{IsBelow, below_is_in, below_rises, in_is_below}
@@ -159,9 +159,9 @@ module _ {greatest : ℕ} {l : LayoutState} {nexts marks : List ℕ} {e : ℕ} {
 
 -- what is marked in some blocks is all that is to be raised there
 module _ (old : Rows) {marks : List ℕ} (from to e : ℕ) (ordered : from ≤ to) (within : 8 * to ≤ length old.heads)
-    (are : marks ≡ positions_below old from to e) where
+    (are : marks ≡ positions_among old.heads from to e) where
   marked_there : (q : ℕ) → IsIn marks q → IsBelow old.heads from to e q
-  marked_there q h = in_is_below old from to e ordered within q (subst (λ (xs : List ℕ). IsIn xs q) are h)
+  marked_there q h = in_is_below old.heads from to e ordered within q (subst (λ (xs : List ℕ). IsIn xs q) are h)
 
   pub marks_in : (q : ℕ) → IsIn marks q → IsInBlocks from to q
   marks_in q h = (marked_there q h).there

@@ -1,6 +1,6 @@
 -- Machines with a raise are listed: one more, and one less.
 use Rattle.std.proofs.Common.{◌≡◌, ℕ, ◌≤◌, ◌<◌, ◌⊎◌, inl, inr, List, [], ◌∷◌, length, get_or, set}
-use Rattle.std.proofs.Common.{refl, sym, ◌∙◌, ap, subst, arith}
+use Rattle.std.proofs.Common.{Bool, IsTrue, refl, sym, ◌∙◌, ap, subst, arith}
 use Rattle.std.proofs.lemmas.Bool.{cases_eq, cases_lt}
 use Rattle.std.proofs.lemmas.Grind.{get_or-set_at}
 use Rattle.std.proofs.lemmas.List.{get_or-map, get_or-set_same, get_or-set_other, length-map, length-set, map-set}
@@ -10,7 +10,9 @@ use Rattle.shop_states.specs.declared.head_raises.LaneRaise.{LaneRaise}
 use Rattle.shop_states.specs.inner.HeadRaises.{Raise, no_raise, raise_in, raise_of, raises_in, widened}
 use Rattle.shop_states.specs.inner.MachineRaises.{AreEmpty, AreListed, IsSpanByRaise}
 use Rattle.shop_states.specs.inner.JobSets.{HasPut}
+use Rattle.shop_states.specs.inner.RaiseCalls.{CanNote}
 use Rattle.shop_states.specs.inner.RisingLists.{IsIn}
+use Rattle.shop_states.specs.inner.Watchers.{AreKnown}
 use Rattle.shop_states.proofs.LaneBoundTurns.{spans-none}
 
 -- raises in lanes: one that is read, and one that is written
@@ -28,6 +30,17 @@ module _ {N : Type 0} (value : N → ℕ) where
   pub lengths_in : (before after : List (LaneRaise N))
       → length (raises_in value after) ≡ length (raises_in value before) → length after ≡ length before
   lengths_in before after same = sym (length-map after (raise_in value)) ∙ same ∙ length-map before (raise_in value)
+
+-- raises at rest are noted into from an empty set on
+pub can_note : {N : Type 0} (value : N → ℕ) {few : Bool} {ms : List ℕ} {raises items : List (LaneRaise N)}
+    {old : List Raise} {raised : List ℕ} → raises ≡ items → raises_in value items ≡ old → length items ≤ 128
+    → AreEmpty old → AreKnown ms (length old) → raised ≡ [] → (IsTrue few → length raises ≤ 64)
+    → CanNote value few ms raises raised
+can_note value same view most empty known none small = record {
+  known = λ q here. grind (arith, length-map);
+  machines_fit = small;
+  listed = grind (arith, length-map);
+}
 
 -- a raise that was widened, and its machine put into the set
 pub listed_more : (raises : List Raise) (machines after : List ℕ) (m a b : ℕ) → AreListed raises machines

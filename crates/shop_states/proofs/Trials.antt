@@ -5,7 +5,6 @@ use Rattle.std.proofs.lemmas.Bool.{cases_eq, cases_lt, eq-eqb, ne_eqb}
 use Rattle.std.proofs.lemmas.Grind.{get_or-set_at}
 use Rattle.std.proofs.lemmas.List.{get_or-set_other}
 use Rattle.shop_lanes.specs.Rows.{Rows, with_end, with_head}
-use Rattle.shop_lanes.specs.Spans.{spans_between}
 use Rattle.shop_model.specs.Shop.{Shop, machine_of}
 use Rattle.shop_model.specs.Word.{IsWord, place_next, placing}
 use Rattle.shop_bound.specs.Bound.{lb}
@@ -21,7 +20,7 @@ use Rattle.shop_layout.specs.Lanes.{lanes_on, rows_of}
 use Rattle.shop_states.specs.inner.LaneEnds.{CanKeepEnds, IsEndOf, end_at}
 use Rattle.shop_states.specs.inner.LaneStates.{AreHeadsInLanes, IsKeptInLanes}
 use Rattle.shop_layout.specs.Positions.{IsLaidOut, LayoutState, place}
-use Rattle.shop_states.specs.inner.MachineRaises.{AreEmpty, AreRaisesFit}
+use Rattle.shop_states.specs.inner.MachineRaises.{AreEmpty, AreRaisesFit, TakesSpans}
 use Rattle.shop_states.specs.inner.RaiseCalls.{CanDelay}
 use Rattle.shop_states.specs.inner.Raises.{HasBlocks, IsOnMachine, IsRaisable, Raises}
 use Rattle.shop_states.specs.inner.Watchers.{AreSeen, Sees, Watches, floor_on}
@@ -142,22 +141,19 @@ module _ {greatest : ℕ} {shop : Shop} {w : List ℕ} {l : LayoutState} {hs es 
               seen = watches.seen hs (λ q. inl (let a = lifted_low q in omega arith))
 
               pub trial_bound : {least : ℕ} → IsLeastAt shop w l rows j (get_or nexts j 0) least → {limit b : ℕ}
-                  → least ≤ b
-                  → (b < limit → (n : ℕ) → spans_between (raise_of after n).from (raise_of after n).to
-                  (lanes_on new l n) ≤ b + 1)
-                  → ((c : ℕ) → least ≤ c → ((n above upto : ℕ) → n < length after
-                  → spans_between above upto (lanes_on new l n) ≤ c + 1) → b ≤ c)
+                  → {final : List Raise} → TakesSpans l new after final (least + 1) (limit + 1) (b + 1)
                   → IsBoundUpTo limit (lb shop (w ++ j ∷ [])) b
-              trial_bound {least} foreseen {limit} {b} low covers inside =
+              trial_bound {least} foreseen {limit} {b} taken =
                   let long = watches.long
                   in let its = subst (λ (q : ℕ). IsLeastAt shop w l rows j q least) (sym x_is) foreseen
                   in raised_is kept.kept j fits now_heads kept.kept.laid.machines_at m e least limit b
                   (λ under n known. record {
                     raise = raise_of after n;
                     covered = λ q lies some. grind (arith, seen);
-                    spans = covers under n;
-                  }) low
-                  (λ c above each. inside c above (λ n up to known. each n up to (omega arith)))
+                    spans = taken.covers (omega arith) n;
+                  }) (let low = taken.low in omega arith)
+                  (λ c above each. let most = taken.within (c + 1) (omega arith) (λ n up to known.
+                  each n up to (omega arith)) in omega arith)
                   (subst (λ (k : ℕ). IsLeastAfter shop w l rows j x k e least) (sym here)
                   (subst (λ (k : ℕ). IsLeastAfter shop w l rows j x (get_or l.machines x 0) k least) (sym end) its))
 

@@ -5,12 +5,13 @@ ghost use Rattle.shop_model.specs.Word.{IsWord};
 ghost use Rattle.shop_bound.specs.Bound.{lb};
 ghost use Rattle.shop_bound.specs.Conflicts.{conflict};
 ghost use Rattle.shop_states.specs.States.{TellsBoundBelow};
-ghost use Rattle.shop_states.specs.inner.Advances.{CanAdvance, CanGoOn, CanStrike, HasSameRoom, IsAdvancing};
+ghost use Rattle.shop_states.specs.inner.Advances.{CanAdvance, CanGoOn, CanStrike, IsAdvancing};
 ghost use Rattle.shop_states.specs.inner.Dispatches.{IsDispatchOf};
 ghost use Rattle.shop_states.specs.inner.LaneEnds.{CanKeepEnds, end_at};
-ghost use Rattle.shop_states.specs.inner.LaneStates.{GoesOn, IsKeptInLanes};
-ghost use Rattle.shop_layout.specs.Lanes.{rows_of};
+ghost use Rattle.shop_states.specs.inner.LaidLanes.{KeepsWord, rows_in};
+ghost use Rattle.shop_states.specs.inner.LaneStates.{GoesOn};
 ghost use Rattle.shop_states.specs.inner.MachineRaises.{AreEmpty};
+ghost use Rattle.shop_states.specs.inner.StateCopies.{IsAsLong};
 
 use crate::delays::delay;
 use crate::dispatches::Dispatch;
@@ -30,12 +31,10 @@ pub(crate) struct BoundRange {
 /// Answers the earliest end of the next operation of `job`, plus one like heads in lanes; `GREATEST` if none is left.
 #[inline(always)]
 fn end_of<L: StateLanes>(lanes: &L, grid: &Grid<L>, next: &[u32], job: usize) -> u64
-    requires keep { CanKeepEnds L.GREATEST grid.now next.now
-        (rows_of grid.now (L.heads lanes.now) (L.ends lanes.now)) }
+    requires keep { CanKeepEnds L.GREATEST grid.now next.now (rows_in L.StateLanes grid.now lanes.now) }
     requires times { length grid.now.times ≡ length (L.heads lanes.now) }
     requires job { job < length next.now }
-    ensures { result ≡ end_at L.GREATEST next.now
-        (rows_of grid.now (L.heads lanes.now) (L.ends lanes.now)) job }
+    ensures { result ≡ end_at L.GREATEST next.now (rows_in L.StateLanes grid.now lanes.now) job }
 {
     let position = next[job] as usize;
     if position >= grid.positions() {
@@ -56,12 +55,10 @@ pub(crate) fn go_on<L: StateLanes>(
     requires job { job < length next.old }
     requires position { position < length grid.now.following }
     requires times { length grid.now.times ≡ length (L.heads lanes.old) }
-    requires keep { CanKeepEnds L.GREATEST grid.now
-        (slice_set next.old job (slice_index grid.now.following position))
-        (rows_of grid.now (L.heads lanes.old) (L.ends lanes.old)) }
-    ensures { GoesOn L.GREATEST grid.now position job
-        (rows_of grid.now (L.heads lanes.old) (L.ends lanes.old))
-        (rows_of grid.now (L.heads lanes.new) (L.ends lanes.new)) next.old next.new }
+    requires keep { CanKeepEnds L.GREATEST grid.now (slice_set next.old job (slice_index grid.now.following position))
+        (rows_in L.StateLanes grid.now lanes.old) }
+    ensures { GoesOn L.GREATEST grid.now position job (rows_in L.StateLanes grid.now lanes.old)
+        (rows_in L.StateLanes grid.now lanes.new) next.old next.new }
 {
     next[job] = grid.next_behind(position);
     let end = end_of(lanes, grid, next, job);
@@ -83,31 +80,25 @@ pub(crate) fn advance_below<L: StateLanes>(
     range: BoundRange,
 ) -> Option<u64>
     requires is { IsDispatchOf grid.now (L.heads state.old.lanes) state.old.next.items dispatch }
-    requires can { CanAdvance L.GREATEST grid.now
-        (rows_of grid.now (L.heads state.old.lanes) (L.ends state.old.lanes)) state.old.next.items
+    requires can { CanAdvance L.GREATEST grid.now (rows_in L.StateLanes grid.now state.old.lanes) state.old.next.items
         dispatch.job range.least (length raises.old) ceilings.now }
     requires at_rest { AreEmpty raises.old }
     requires limit { range.limit < 2 ^ 63 }
     ensures told { (shop : Shop) (w : List ℕ) → IsAdvancing L.GREATEST shop w grid.now
-        (rows_of grid.now (L.heads state.old.lanes) (L.ends state.old.lanes)) state.old.next.items
-        dispatch.job range.least
+        (rows_in L.StateLanes grid.now state.old.lanes) state.old.next.items dispatch.job range.least
         → TellsBoundBelow range.limit (lb shop (w ++ dispatch.job ∷ [])) result }
-    ensures state { (shop : Shop) (w : List ℕ) → IsKeptInLanes L.GREATEST shop w grid.now
-        (rows_of grid.now (L.heads state.old.lanes) (L.ends state.old.lanes)) state.old.next.items
+    ensures state { (shop : Shop) (w : List ℕ) → KeepsWord L.StateLanes grid.now state.old shop w
         → IsWord shop (w ++ dispatch.job ∷ [])
-        → OnSome result (IsKeptInLanes L.GREATEST shop (w ++ dispatch.job ∷ []) grid.now
-        (rows_of grid.now (L.heads state.new.lanes) (L.ends state.new.lanes))
-        state.new.next.items) }
-    ensures room { HasSameRoom (rows_of grid.now (L.heads state.old.lanes) (L.ends state.old.lanes))
-        (rows_of grid.now (L.heads state.new.lanes) (L.ends state.new.lanes))
-        state.old.next.items state.new.next.items }
+        → OnSome result (KeepsWord L.StateLanes grid.now state.new shop (w ++ dispatch.job ∷ [])) }
+    ensures room { IsAsLong L.heads L.ends state.old state.new }
     ensures machines { length raises.new ≡ length raises.old }
     ensures rest { AreEmpty raises.new }
 {
     if range.limit <= range.least {
         return None;
     }
-    let (job, position) = (dispatch.job, dispatch.position);
+    let job = dispatch.job;
+    let position = dispatch.position;
     let lanes = &mut state.lanes;
     let next = state.next.as_mut_slice();
     lanes.set_head(position, 0);
@@ -126,20 +117,15 @@ pub(crate) fn advance_below<L: StateLanes>(
 #[inline(always)]
 pub(crate) fn advance<L: StateLanes>(state: &mut State<L>, grid: &Grid<L>, dispatch: Dispatch)
     requires is { IsDispatchOf grid.now (L.heads state.old.lanes) state.old.next.items dispatch }
-    requires can { CanGoOn L.GREATEST grid.now
-        (rows_of grid.now (L.heads state.old.lanes) (L.ends state.old.lanes)) state.old.next.items
+    requires can { CanGoOn L.GREATEST grid.now (rows_in L.StateLanes grid.now state.old.lanes) state.old.next.items
         dispatch.job }
-    ensures state { (shop : Shop) (w : List ℕ) → IsKeptInLanes L.GREATEST shop w grid.now
-        (rows_of grid.now (L.heads state.old.lanes) (L.ends state.old.lanes)) state.old.next.items
+    ensures state { (shop : Shop) (w : List ℕ) → KeepsWord L.StateLanes grid.now state.old shop w
         → IsWord shop (w ++ dispatch.job ∷ [])
-        → IsKeptInLanes L.GREATEST shop (w ++ dispatch.job ∷ []) grid.now
-        (rows_of grid.now (L.heads state.new.lanes) (L.ends state.new.lanes))
-        state.new.next.items }
-    ensures room { HasSameRoom (rows_of grid.now (L.heads state.old.lanes) (L.ends state.old.lanes))
-        (rows_of grid.now (L.heads state.new.lanes) (L.ends state.new.lanes))
-        state.old.next.items state.new.next.items }
+        → KeepsWord L.StateLanes grid.now state.new shop (w ++ dispatch.job ∷ []) }
+    ensures room { IsAsLong L.heads L.ends state.old state.new }
 {
-    let (job, position) = (dispatch.job, dispatch.position);
+    let job = dispatch.job;
+    let position = dispatch.position;
     let lanes = &mut state.lanes;
     let next = state.next.as_mut_slice();
     lanes.set_head(position, 0);
@@ -149,15 +135,13 @@ pub(crate) fn advance<L: StateLanes>(state: &mut State<L>, grid: &Grid<L>, dispa
 
 /// Dispatches the next operation of `job`, the only job in the conflict set. No head rises.
 #[inline(always)]
-pub(crate) fn strike<L: StateLanes>(lanes: &mut L, next: &mut [u32], grid: &Grid<L>, job: usize)
-    requires { CanStrike L.GREATEST grid.now
-        (rows_of grid.now (L.heads lanes.old) (L.ends lanes.old)) next.old job }
-    ensures { (shop : Shop) (w : List ℕ) → IsKeptInLanes L.GREATEST shop w grid.now
-        (rows_of grid.now (L.heads lanes.old) (L.ends lanes.old)) next.old
-        → conflict shop w ≡ job ∷ []
-        → IsKeptInLanes L.GREATEST shop (w ++ job ∷ []) grid.now
-        (rows_of grid.now (L.heads lanes.new) (L.ends lanes.new)) next.new }
+pub(crate) fn strike<L: StateLanes>(state: &mut State<L>, grid: &Grid<L>, job: usize)
+    requires { CanStrike L.GREATEST grid.now (rows_in L.StateLanes grid.now state.old.lanes) state.old.next.items job }
+    ensures { (shop : Shop) (w : List ℕ) → KeepsWord L.StateLanes grid.now state.old shop w
+        → conflict shop w ≡ job ∷ [] → KeepsWord L.StateLanes grid.now state.new shop (w ++ job ∷ []) }
 {
+    let lanes = &mut state.lanes;
+    let next = state.next.as_mut_slice();
     let position = next[job] as usize;
     lanes.set_head(position, 0);
     go_on(lanes, next, grid, job, position);

@@ -1,20 +1,21 @@
 // Lists a word's candidates: the jobs of its conflict set, each with a lower bound of the word extended by that job.
 ghost use Rattle.std.specs.Prelude.{◌≡◌, ℕ, ◌+◌, ◌*◌, ◌^◌, ◌≤◌, ◌<◌, List, [], ◌∷◌, ◌++◌, length, map, vec_capacity};
+ghost use Rattle.std.specs.Prelude.{MatchOption};
 ghost use Rattle.shop_model.specs.Shop.{Shop};
+ghost use Rattle.shop_bound.specs.Conflicts.{conflict};
 ghost use Rattle.shop_states.specs.inner.Candidates.{AreCandidatesOf, CanGather, CanList, IsChosenBy, IsTold};
 ghost use Rattle.shop_states.specs.inner.Candidates.{ListsGathered, ListsOwn, told_at};
 ghost use Rattle.shop_states.specs.inner.JobSets.{members};
 ghost use Rattle.shop_states.specs.inner.LaneChoices.{IsJobBelow};
-ghost use Rattle.shop_states.specs.inner.LaneStates.{IsKeptInLanes};
+ghost use Rattle.shop_states.specs.inner.LaidLanes.{KeepsWord, rows_in};
 ghost use Rattle.shop_states.specs.inner.Raises.{IsInBlocks};
 ghost use Rattle.shop_states.specs.inner.RisingLists.{IsGatheredWith, IsIn};
-ghost use Rattle.shop_layout.specs.Lanes.{rows_of};
 ghost use Rattle.shop_layout.specs.Positions.{HoldsMachines};
 
 use crate::dispatches::MOST_MARKED;
 use crate::dispatching::Candidate;
 use crate::job_sets::BITS;
-use crate::lane_choices::{ConflictBlocks, conflict_set};
+use crate::lane_choices::{ConflictBlocks, conflict_set, is_alone};
 use crate::states::State;
 use shop_lanes::{Marks, StateLanes};
 use shop_layout::Grid;
@@ -141,79 +142,50 @@ fn list_conflict_set<L: StateLanes>(
     blocks: ConflictBlocks,
     limit: u64,
 ) -> usize
-    requires can { CanList L.GREATEST grid.now
-        (rows_of grid.now (L.heads state.now.lanes) (L.ends state.now.lanes)) state.now.next.items
+    requires can { CanList L.GREATEST grid.now (rows_in L.StateLanes grid.now state.now.lanes) state.now.next.items
         blocks (length owns.now) }
     requires none { candidates.old.items ≡ [] }
     requires room { length state.now.next.items ≤ vec_capacity candidates.old }
-    ensures listed { ListsGathered limit
-        (told_at state.now.next.items (8 * blocks.from) (map L.value owns.now))
+    ensures listed { ListsGathered limit (told_at state.now.next.items (8 * blocks.from) (map L.value owns.now))
         (IsGatheredWith blocks.chosen (IsJobBelow grid.now (L.heads state.now.lanes)
         (IsInBlocks blocks.from blocks.behind) blocks.end)) candidates.new.items result }
     ensures room { vec_capacity candidates.new ≡ vec_capacity candidates.old }
 {
-    let (lanes, next) = (&state.lanes, state.next.as_slice());
+    let next = state.next.as_slice();
     let first = 8 * blocks.from;
     if next.len() <= BITS {
-        let jobs = conflict_set::<1, L>(blocks, lanes, grid);
+        let jobs = conflict_set::<1, L>(blocks, &state.lanes, grid);
         return list_words::<L>(candidates, jobs.words(), next, first, owns, limit);
     }
-    let jobs = conflict_set::<16, L>(blocks, lanes, grid);
+    let jobs = conflict_set::<16, L>(blocks, &state.lanes, grid);
     list_words::<L>(candidates, jobs.words(), next, first, owns, limit)
 }
 
-/// Fills the empty list with the word's candidates whose `own` is below `limit`, and answers how many jobs are left
-/// out. The conflict set lies on the machine of `first`. On a machine of at most eight blocks, lists a sole candidate
-/// with `own` 0, whatever `limit` is.
+/// Finds the next operation that can end first. Answers `None` if no operation is left.
 #[inline(always)]
-fn list_on_machine<L: StateLanes>(
-    candidates: &mut Vec<Candidate>,
-    owns: &mut [L::Number],
-    state: &State<L>,
-    grid: &Grid<L>,
-    first: FirstEnd,
-    limit: u64,
-) -> usize
-    requires can { CanGather L.GREATEST grid.now
-        (rows_of grid.now (L.heads state.now.lanes) (L.ends state.now.lanes)) state.now.next.items }
-    requires chosen { (shop : Shop) (w : List ℕ) → IsKeptInLanes L.GREATEST shop w grid.now
-        (rows_of grid.now (L.heads state.now.lanes) (L.ends state.now.lanes)) state.now.next.items
-        → IsChosenBy L.GREATEST shop w grid.now (L.heads state.now.lanes)
-        state.now.next.items first }
-    requires small { length (L.heads state.now.lanes) < 2 ^ 64 }
-    requires none { candidates.old.items ≡ [] }
-    requires owns { HoldsMachines grid.now (length owns.old) }
-    requires room { length state.now.next.items ≤ vec_capacity candidates.old }
-    ensures are { (shop : Shop) (w : List ℕ) → IsKeptInLanes L.GREATEST shop w grid.now
-        (rows_of grid.now (L.heads state.now.lanes) (L.ends state.now.lanes)) state.now.next.items
-        → AreCandidatesOf shop w grid.now limit candidates.new.items result }
-    ensures long { length owns.new ≡ length owns.old }
-    ensures room { vec_capacity candidates.old ≤ vec_capacity candidates.new }
+fn first_end<L: StateLanes>(state: &State<L>, grid: &Grid<L>) -> Option<FirstEnd>
+    requires { CanGather L.GREATEST grid.now (rows_in L.StateLanes grid.now state.now.lanes) state.now.next.items }
+    ensures small { length (L.heads state.now.lanes) < 2 ^ 64 }
+    ensures is { (shop : Shop) (w : List ℕ) → KeepsWord L.StateLanes grid.now state.now shop w
+        → MatchOption result (conflict shop w ≡ [])
+        (IsChosenBy L.GREATEST shop w grid.now (L.heads state.now.lanes) state.now.next.items) }
 {
-    let (chosen, machine, end) = (first.chosen, first.machine, first.end);
     let next = state.next.as_slice();
-    let (from, behind) = grid.blocks_of(grid.fixed_blocks_each(), machine);
-    let to = from + (behind - from).min(MOST_MARKED);
-    let below = state.lanes.below(from, to, end);
-    // dispatching a sole candidate keeps the word's bound
-    if to == behind && below.has_no_other(next[chosen] as usize) {
-        let job = chosen as u16;
-        candidates.push_reserved(Candidate { job, own: 0 });
-        return 0;
+    let (chosen, end) = state.lanes.first_least_end();
+    let position = next[chosen] as usize;
+    if position >= grid.positions() {
+        return None;
     }
-    grid.own_spans(&state.lanes, from, behind, owns);
-    let blocks = ConflictBlocks {
+    let machine = grid.machines()[position] as usize;
+    Some(FirstEnd {
         chosen,
+        machine,
         end,
-        from,
-        to,
-        behind,
-        below,
-    };
-    list_conflict_set(candidates, owns, state, grid, blocks, limit)
+    })
 }
 
 /// Replaces `candidates` by the jobs of the conflict set whose `own` is below `limit`. Answers how many are left out.
+/// Lists a sole candidate with `own` 0, whatever `limit` is.
 #[inline(always)]
 pub(crate) fn list_candidates<L: StateLanes>(
     candidates: &mut Vec<Candidate>,
@@ -222,28 +194,36 @@ pub(crate) fn list_candidates<L: StateLanes>(
     grid: &Grid<L>,
     limit: u64,
 ) -> usize
-    requires can { CanGather L.GREATEST grid.now
-        (rows_of grid.now (L.heads state.now.lanes) (L.ends state.now.lanes)) state.now.next.items }
+    requires can { CanGather L.GREATEST grid.now (rows_in L.StateLanes grid.now state.now.lanes) state.now.next.items }
     requires owns { HoldsMachines grid.now (length owns.old) }
     requires room { length state.now.next.items ≤ vec_capacity candidates.old }
-    ensures are { (shop : Shop) (w : List ℕ) → IsKeptInLanes L.GREATEST shop w grid.now
-        (rows_of grid.now (L.heads state.now.lanes) (L.ends state.now.lanes)) state.now.next.items
+    ensures are { (shop : Shop) (w : List ℕ) → KeepsWord L.StateLanes grid.now state.now shop w
         → AreCandidatesOf shop w grid.now limit candidates.new.items result }
     ensures long { length owns.new ≡ length owns.old }
     ensures room { vec_capacity candidates.old ≤ vec_capacity candidates.new }
 {
     candidates.clear();
+    let Some(first) = first_end(state, grid) else {
+        return 0;
+    };
+    let (from, behind) = grid.blocks_of(grid.fixed_blocks_each(), first.machine);
+    let to = from + (behind - from).min(MOST_MARKED);
+    let below = state.lanes.below(from, to, first.end);
+    let blocks = ConflictBlocks {
+        chosen: first.chosen,
+        end: first.end,
+        from,
+        to,
+        behind,
+        below,
+    };
     let next = state.next.as_slice();
-    let (chosen, end) = state.lanes.first_least_end();
-    let position = next[chosen] as usize;
-    if position >= grid.positions() {
+    // dispatching a sole candidate keeps the word's bound
+    if is_alone(&blocks, &state.lanes, next[first.chosen] as usize) {
+        let job = first.chosen as u16;
+        candidates.push_reserved(Candidate { job, own: 0 });
         return 0;
     }
-    let machine = grid.machines()[position] as usize;
-    let first = FirstEnd {
-        chosen,
-        machine,
-        end,
-    };
-    list_on_machine(candidates, owns, state, grid, first, limit)
+    grid.own_spans(&state.lanes, from, behind, owns);
+    list_conflict_set(candidates, owns, state, grid, blocks, limit)
 }

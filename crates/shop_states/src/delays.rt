@@ -1,8 +1,8 @@
 // Raises heads after an operation is dispatched, where the bound is known: nothing is noted.
 ghost use Rattle.std.specs.Prelude.{◌≤◌, ◌<◌, [], length, slice_index};
-ghost use Rattle.shop_layout.specs.Lanes.{rows_of};
+ghost use Rattle.shop_states.specs.inner.LaidLanes.{RaisesIn, rows_in};
 ghost use Rattle.shop_states.specs.inner.RaiseCalls.{CanDelay};
-ghost use Rattle.shop_states.specs.inner.Raises.{AreWaiting, IsOnMachine, IsPosition, IsRaisable, Raises};
+ghost use Rattle.shop_states.specs.inner.Raises.{AreWaiting, IsOnMachine, IsPosition, IsRaisable};
 ghost use Rattle.shop_states.specs.inner.RisingLists.{IsIn};
 
 use crate::dispatches::{Dispatch, MOST_MARKED};
@@ -15,11 +15,9 @@ use shop_layout::{Grid, Routes};
 fn delay_route<L: StateLanes>(lanes: &mut L, routes: &Routes, position: usize, end: u64)
     requires waits { 0 < slice_index (L.heads lanes.old) position }
     requires below { slice_index (L.heads lanes.old) position ≤ end }
-    requires raisable { IsRaisable L.GREATEST routes.now []
-        (rows_of routes.now (L.heads lanes.old) (L.ends lanes.old)) (IsPosition position) end }
-    ensures { Raises L.GREATEST routes.now [] (IsPosition position) end
-        (rows_of routes.now (L.heads lanes.old) (L.ends lanes.old))
-        (rows_of routes.now (L.heads lanes.new) (L.ends lanes.new)) }
+    requires raisable { IsRaisable L.GREATEST routes.now [] (rows_in L.StateLanes routes.now lanes.old)
+        (IsPosition position) end }
+    ensures { RaisesIn L.StateLanes routes.now [] (IsPosition position) end lanes.old lanes.new }
 {
     lanes.set_head(position, end);
     let mut ready = end + routes.time(position);
@@ -43,11 +41,9 @@ fn delay_from<L: StateLanes>(lanes: &mut L, ahead: &OpenRoutes, position: usize,
     requires waits { 0 < slice_index (L.heads lanes.old) position }
     requires below { slice_index (L.heads lanes.old) position ≤ end }
     requires raisable { IsRaisable L.GREATEST ahead.now.routes ahead.now.next.now
-        (rows_of ahead.now.routes (L.heads lanes.old) (L.ends lanes.old)) (IsPosition position) end }
+        (rows_in L.StateLanes ahead.now.routes lanes.old) (IsPosition position) end }
     requires jobs { length ahead.now.routes.places ≤ length ahead.now.next.now }
-    ensures { Raises L.GREATEST ahead.now.routes ahead.now.next.now (IsPosition position) end
-        (rows_of ahead.now.routes (L.heads lanes.old) (L.ends lanes.old))
-        (rows_of ahead.now.routes (L.heads lanes.new) (L.ends lanes.new)) }
+    ensures { RaisesIn L.StateLanes ahead.now.routes ahead.now.next.now (IsPosition position) end lanes.old lanes.new }
 {
     set_end_at(lanes, &ahead.routes, ahead.next, position, end);
     delay_route(lanes, &ahead.routes, position, end);
@@ -58,11 +54,9 @@ fn delay_from<L: StateLanes>(lanes: &mut L, ahead: &OpenRoutes, position: usize,
 fn delay_marked<L: StateLanes>(lanes: &mut L, ahead: &OpenRoutes, marks: Marks, end: u64)
     requires marks { AreWaiting (L.heads lanes.old) marks }
     requires raisable { IsRaisable L.GREATEST ahead.now.routes ahead.now.next.now
-        (rows_of ahead.now.routes (L.heads lanes.old) (L.ends lanes.old)) (IsIn marks) end }
+        (rows_in L.StateLanes ahead.now.routes lanes.old) (IsIn marks) end }
     requires jobs { length ahead.now.routes.places ≤ length ahead.now.next.now }
-    ensures { Raises L.GREATEST ahead.now.routes ahead.now.next.now (IsIn marks) end
-        (rows_of ahead.now.routes (L.heads lanes.old) (L.ends lanes.old))
-        (rows_of ahead.now.routes (L.heads lanes.new) (L.ends lanes.new)) }
+    ensures { RaisesIn L.StateLanes ahead.now.routes ahead.now.next.now (IsIn marks) end lanes.old lanes.new }
 {
     let mut todo = marks;
     while let Some(position) = todo.pop_first() {
@@ -73,15 +67,14 @@ fn delay_marked<L: StateLanes>(lanes: &mut L, ahead: &OpenRoutes, marks: Marks, 
 }
 
 /// Raises each head below the end of a dispatch on its machine to that end, then every later head on its route that is
-/// now too early, and updates the ends of next operations. Does what `raise` does, for machines of any number of blocks
-/// in one form, but notes nothing: each head that rises takes fewer steps, and no machine can be bounded afterwards.
+/// now too early, and updates the ends of next operations. Does what `MachineRaises::raise` does, for machines of any
+/// number of blocks in one form, but notes nothing: each head that rises takes fewer steps, and no machine can be
+/// bounded afterwards.
 #[inline(always)]
 pub(crate) fn delay<L: StateLanes>(lanes: &mut L, grid: &Grid<L>, next: &[u32], dispatch: Dispatch)
-    requires { CanDelay L.GREATEST grid.now next.now
-        (rows_of grid.now (L.heads lanes.old) (L.ends lanes.old)) dispatch }
-    ensures { Raises L.GREATEST grid.now next.now (IsOnMachine grid.now dispatch.machine) dispatch.end
-        (rows_of grid.now (L.heads lanes.old) (L.ends lanes.old))
-        (rows_of grid.now (L.heads lanes.new) (L.ends lanes.new)) }
+    requires { CanDelay L.GREATEST grid.now next.now (rows_in L.StateLanes grid.now lanes.old) dispatch }
+    ensures { RaisesIn L.StateLanes grid.now next.now (IsOnMachine grid.now dispatch.machine) dispatch.end
+        lanes.old lanes.new }
 {
     let routes = grid.routes();
     let ahead = OpenRoutes { routes, next };

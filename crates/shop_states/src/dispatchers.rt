@@ -1,8 +1,8 @@
 // Implements `Dispatching` for a layout, with states in lanes of one width.
 ghost use Rattle.std.specs.Prelude.{◌≡◌, ◌<◌, ◌^◌, length, max, min};
-ghost use Rattle.shop_layout.specs.Lanes.{rows_of};
 ghost use Rattle.shop_states.specs.inner.Advances.{CanGoOn};
 ghost use Rattle.shop_states.specs.inner.Dispatches.{IsDispatchOf};
+ghost use Rattle.shop_states.specs.inner.LaidLanes.{rows_in};
 ghost use Rattle.shop_states.specs.inner.StateCopies.{IsAsLong, IsCopied};
 
 use crate::advances::{BoundRange, advance, advance_below, strike};
@@ -42,9 +42,7 @@ fn dispatch_in_copy<L: StateLanes>(
     to: &mut State<L>,
     job: u16,
 ) -> Dispatch
-    requires can { CanGoOn L.GREATEST grid.now
-        (rows_of grid.now (L.heads from.now.lanes) (L.ends from.now.lanes))
-        from.now.next.items job }
+    requires can { CanGoOn L.GREATEST grid.now (rows_in L.StateLanes grid.now from.now.lanes) from.now.next.items job }
     requires long { IsAsLong L.heads L.ends from.now to.old }
     ensures job { result.job ≡ job }
     ensures is { IsDispatchOf grid.now (L.heads to.new.lanes) to.new.next.items result }
@@ -153,12 +151,7 @@ impl<'a, L: StateLanes> Dispatching<State<L>> for LaidOut<'a, L> {
 
     #[inline(always)]
     fn strike(&self, state: &mut State<L>, job: u16) {
-        strike(
-            &mut state.lanes,
-            state.next.as_mut_slice(),
-            self.grid(),
-            job as usize,
-        );
+        strike(state, self.grid(), job as usize);
     }
 
     #[inline(always)]

@@ -1,8 +1,8 @@
 // A dispatch of an operation: where the operation stands, when it ends, and which heads its end raises.
 ghost use Rattle.std.specs.Prelude.{◌≡◌, ◌≤◌, length};
-ghost use Rattle.shop_layout.specs.Lanes.{rows_of};
 ghost use Rattle.shop_states.specs.inner.Advances.{CanGoOn};
 ghost use Rattle.shop_states.specs.inner.Dispatches.{AreDelayedOn, IsDispatchOf};
+ghost use Rattle.shop_states.specs.inner.LaidLanes.{rows_in};
 ghost use Rattle.shop_states.specs.inner.Raises.{HasBlocks};
 
 use crate::states::State;
@@ -43,8 +43,7 @@ impl Dispatch {
     /// waits, and is unmarked by three instructions.
     #[inline(always)]
     pub(crate) fn of<L: StateLanes>(state: &State<L>, grid: &Grid<L>, job: usize) -> Dispatch
-        requires { CanGoOn L.GREATEST grid.now
-            (rows_of grid.now (L.heads state.now.lanes) (L.ends state.now.lanes))
+        requires { CanGoOn L.GREATEST grid.now (rows_in L.StateLanes grid.now state.now.lanes)
             state.now.next.items job }
         ensures job { result.job ≡ job }
         ensures is { IsDispatchOf grid.now (L.heads state.now.lanes) state.now.next.items result }

@@ -2,11 +2,10 @@
 ghost use Rattle.std.specs.Prelude.{◌≡◌, ℕ, ◌<◌, List, length};
 ghost use Rattle.shop_model.specs.Placements.{PlacementState, IsPlacement};
 ghost use Rattle.shop_model.specs.Word.{IsWord, Placing, placing};
-ghost use Rattle.shop_states.specs.inner.Fills.{AreNextsSet, CanFill, HasFilled, HasFilledJob, IsAtLeg, IsAtSomeLeg};
-ghost use Rattle.shop_states.specs.inner.Fills.{IsNextSet, IsOnSomeRoute};
+ghost use Rattle.shop_states.specs.inner.Fills.{CanFill, HasFilledJob, IsAtLeg, IsAtSomeLeg, IsNextSet, IsOnSomeRoute};
+ghost use Rattle.shop_states.specs.inner.LaidLanes.{rows_in};
 ghost use Rattle.shop_states.specs.inner.LaneStates.{HasRoom, IsKeptInLanes};
-ghost use Rattle.shop_states.specs.inner.PlacedNexts.{IsPlacedAt, IsWordAt, placement_at};
-ghost use Rattle.shop_layout.specs.Lanes.{rows_of};
+ghost use Rattle.shop_states.specs.inner.PlacedNexts.{IsPlacedAt, IsWordAt};
 
 use shop_lanes::StateLanes;
 use shop_layout::LaidOut;
@@ -22,13 +21,12 @@ fn fill_route<L: StateLanes>(
     ready: u64,
 )
     requires fill { CanFill L.GREATEST laid_out.now.shop laid_out.now.layout
-        (rows_of laid_out.now.layout (L.heads lanes.old) (L.ends lanes.old)) }
+        (rows_in L.StateLanes laid_out.now.layout lanes.old) }
     requires of { IsOnSomeRoute laid_out.now.shop laid_out.now.layout index ready free.now }
     ensures heads { (j : ℕ) → j < length laid_out.now.shop.jobs → (s : PlacementState)
         → IsAtLeg laid_out.now.shop laid_out.now.layout s j index ready free.now
         → HasFilledJob laid_out.now.shop laid_out.now.layout s j
-        (rows_of laid_out.now.layout (L.heads lanes.old) (L.ends lanes.old))
-        (rows_of laid_out.now.layout (L.heads lanes.new) (L.ends lanes.new)) }
+        (rows_in L.StateLanes laid_out.now.layout lanes.old) (rows_in L.StateLanes laid_out.now.layout lanes.new) }
     ensures ends { L.ends lanes.new ≡ L.ends lanes.old }
 {
     let grid = laid_out.grid();
@@ -63,14 +61,13 @@ fn fill_job<L: StateLanes>(
 ) -> u32
     requires job { job < length laid_out.now.shop.jobs }
     requires fill { CanFill L.GREATEST laid_out.now.shop laid_out.now.layout
-        (rows_of laid_out.now.layout (L.heads lanes.old) (L.ends lanes.old)) }
+        (rows_in L.StateLanes laid_out.now.layout lanes.old) }
     requires ends { length (L.ends lanes.old) ≡ length laid_out.now.shop.jobs }
     requires of { IsAtSomeLeg laid_out.now.shop laid_out.now.layout job index ready free.now }
     ensures heads { (s : PlacementState)
         → IsAtLeg laid_out.now.shop laid_out.now.layout s job index ready free.now
         → HasFilledJob laid_out.now.shop laid_out.now.layout s job
-        (rows_of laid_out.now.layout (L.heads lanes.old) (L.ends lanes.old))
-        (rows_of laid_out.now.layout (L.heads lanes.new) (L.ends lanes.new)) }
+        (rows_in L.StateLanes laid_out.now.layout lanes.old) (rows_in L.StateLanes laid_out.now.layout lanes.new) }
     ensures next { (s : PlacementState)
         → IsAtLeg laid_out.now.shop laid_out.now.layout s job index ready free.now
         → (p : Placing) → IsPlacement laid_out.now.shop p s
@@ -86,34 +83,6 @@ fn fill_job<L: StateLanes>(
     lanes.set_end(job, head + leg.time + 1);
     fill_route(lanes, laid_out, free, index, ready);
     leg.position
-}
-
-/// Sets the heads of all unplaced operations, and the ends of next operations. Turns `next` from the indices of next
-/// legs into the positions of next operations.
-fn fill_jobs<L: StateLanes>(
-    lanes: &mut L,
-    laid_out: &LaidOut<L>,
-    next: &mut [u32],
-    ready: &[u64],
-    free: &[u64],
-)
-    requires fill { CanFill L.GREATEST laid_out.now.shop laid_out.now.layout
-        (rows_of laid_out.now.layout (L.heads lanes.old) (L.ends lanes.old)) }
-    requires ends { length (L.ends lanes.old) ≡ length laid_out.now.shop.jobs }
-    requires of { IsWordAt laid_out.now.shop laid_out.now.layout next.old ready.now free.now }
-    ensures heads { HasFilled laid_out.now.shop laid_out.now.layout
-        (placement_at laid_out.now.layout next.old ready.now free.now)
-        (rows_of laid_out.now.layout (L.heads lanes.old) (L.ends lanes.old))
-        (rows_of laid_out.now.layout (L.heads lanes.new) (L.ends lanes.new)) }
-    ensures nexts { (p : Placing) → IsPlacement laid_out.now.shop p
-        (placement_at laid_out.now.layout next.old ready.now free.now)
-        → AreNextsSet laid_out.now.shop laid_out.now.layout p (length laid_out.now.shop.jobs)
-        next.old next.new (L.ends lanes.old) (L.ends lanes.new) }
-{
-    for job in 0..next.len() {
-        let index = next[job] as usize;
-        next[job] = fill_job(lanes, laid_out, free, job, index, ready[job]);
-    }
 }
 
 /// Sets all heads and ends to those of the placement that `next`, `ready` and `free` tell. Turns `next` from the
@@ -132,10 +101,13 @@ pub(crate) fn fill_state<L: StateLanes>(
         → IsPlacedAt laid_out.now.shop (placing laid_out.now.shop w) laid_out.now.layout
         next.old ready.now free.now
         → IsKeptInLanes L.GREATEST laid_out.now.shop w laid_out.now.layout
-        (rows_of laid_out.now.layout (L.heads lanes.new) (L.ends lanes.new)) next.new }
+        (rows_in L.StateLanes laid_out.now.layout lanes.new) next.new }
 {
     // its promise: the lanes hold every head and end
     let _ = laid_out.grid();
     lanes.clear();
-    fill_jobs(lanes, laid_out, next, ready, free);
+    for job in 0..next.len() {
+        let index = next[job] as usize;
+        next[job] = fill_job(lanes, laid_out, free, job, index, ready[job]);
+    }
 }

@@ -50,23 +50,6 @@ fn greater<L: StateLanes>(number: L::Number, other: u64) -> L::Number
     number
 }
 
-/// Answers `raise`, widened so that it covers a head that rose from `before` to `after`.
-#[inline(always)]
-fn with_head<L: StateLanes>(
-    raise: LaneRaise<L::Number>,
-    before: u64,
-    after: u64,
-) -> LaneRaise<L::Number>
-    requires rises { before ≤ after }
-    requires fits { after ≤ L.GREATEST }
-    ensures { raise_in L.value result ≡ widened (raise_in L.value raise) before after }
-{
-    LaneRaise {
-        from: lesser::<L>(raise.from, before),
-        to: greater::<L>(raise.to, after),
-    }
-}
-
 /// Notes that a head rose from `before` to `after`: widens the raise of `machine`, and puts `machine` into `raised`.
 /// `FEW` says that there are at most 64 machines: then the set is one number, which spares a test.
 #[inline(always)]
@@ -89,7 +72,10 @@ pub(crate) fn see<L: StateLanes, const FEW: bool>(
 {
     let raise = raises[machine as usize];
     raised.put(machine, FEW);
-    raises[machine as usize] = with_head::<L>(raise, before, after);
+    raises[machine as usize] = LaneRaise {
+        from: lesser::<L>(raise.from, before),
+        to: greater::<L>(raise.to, after),
+    };
 }
 
 /// Takes the raise of `machine` out of `raises`, and leaves an empty raise.

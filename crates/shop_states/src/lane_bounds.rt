@@ -3,9 +3,8 @@ ghost use Rattle.std.specs.Prelude.{◌≡◌, ◌-◌, ◌≤◌, ◌<◌, ◌^
 ghost use Rattle.shop_lanes.specs.Rows.{lanes_in};
 ghost use Rattle.shop_layout.specs.Positions.{AreEven};
 ghost use Rattle.shop_states.specs.inner.HeadRaises.{raise_in, raises_in};
-ghost use Rattle.shop_states.specs.inner.LaidLanes.{laid_rows};
-ghost use Rattle.shop_states.specs.inner.MachineRaises.{CanBoundRows, CanTakeSpans, CanTakeSpansUnder, IsSpanByRaise};
-ghost use Rattle.shop_states.specs.inner.MachineRaises.{TakesSpans};
+ghost use Rattle.shop_states.specs.inner.LaidLanes.{CanTakeSpansIn, TakesSpansIn, laid_rows};
+ghost use Rattle.shop_states.specs.inner.MachineRaises.{CanBoundRows, CanTakeSpans, IsSpanByRaise};
 ghost use Rattle.shop_states.specs.inner.Siblings.{BoundsRaises};
 
 use crate::head_raises::{LaneRaise, take_raise};
@@ -55,10 +54,13 @@ fn is_under(ceilings: &[u64], machine: usize, most: u64) -> bool
     machine < ceilings.len() && ceilings[machine] <= most
 }
 
-/// Does what `take_spans` does, for machines that all have `each` blocks, or any numbers of blocks if `each` is 0. A
-/// number that is known lets the compiler unroll the passes over the blocks.
+/// Answers the greatest of `least` and the spans, explained at `span_of_rows`, of the machines in `raised` from the
+/// heads within their raises. May stop once the bound reaches `limit`. Empties the raises. Skips a machine whose
+/// ceiling, if it has one, is at most the bound so far. `ceilings`, `least`, `limit` and the answer are one more than
+/// the bounds that they stand for, like heads in lanes. The machines all have `each` blocks, or any numbers of blocks
+/// if `each` is 0: a number that is known lets the compiler unroll the passes over the blocks.
 #[inline(always)]
-fn take_spans_of<L: StateLanes>(
+pub(crate) fn take_spans_of<L: StateLanes>(
     each: usize,
     raises: &mut [LaneRaise<L::Number>],
     raised: MachineSet,
@@ -68,10 +70,9 @@ fn take_spans_of<L: StateLanes>(
     limit: u64,
 ) -> u64
     requires even { AreEven laid.now.grid.now.blocks each }
-    requires can { CanTakeSpansUnder L.GREATEST ceilings.now (raises_in L.value raises.old) raised
-        laid.now.grid.now (laid_rows L.heads L.ends laid.now) least }
-    ensures { TakesSpans laid.now.grid.now (laid_rows L.heads L.ends laid.now)
-        (raises_in L.value raises.old) (raises_in L.value raises.new) least limit result }
+    requires can { CanTakeSpansIn L.StateLanes laid.now ceilings.now (raises_in L.value raises.old) raised least }
+    ensures { TakesSpansIn L.StateLanes laid.now (raises_in L.value raises.old) (raises_in L.value raises.new) least
+        limit result }
 {
     // looked up once: an emptied raise is a write, behind which the rows would be looked up anew
     let rows = laid.grid.rows(laid.lanes);
@@ -98,18 +99,17 @@ fn take_spans_by<L: StateLanes, const EACH: usize>(
     limit: u64,
 ) -> u64
     requires even { AreEven laid.now.grid.now.blocks EACH }
-    requires can { CanTakeSpansUnder L.GREATEST ceilings.now (raises_in L.value raises.old) raised
-        laid.now.grid.now (laid_rows L.heads L.ends laid.now) least }
-    ensures { TakesSpans laid.now.grid.now (laid_rows L.heads L.ends laid.now)
-        (raises_in L.value raises.old) (raises_in L.value raises.new) least limit result }
+    requires can { CanTakeSpansIn L.StateLanes laid.now ceilings.now (raises_in L.value raises.old) raised least }
+    ensures { TakesSpansIn L.StateLanes laid.now (raises_in L.value raises.old) (raises_in L.value raises.new) least
+        limit result }
 {
     take_spans_of(EACH, raises, raised, ceilings, laid, least, limit)
 }
 
-/// Does what `take_spans` does, in lanes for any number of blocks a machine: with code for each number up to eight, in
-/// lanes of 64 bits with one loop. Stays out of line, so that a walk has this code once.
+/// Calls `take_spans_of` in lanes for any number of blocks a machine: with code for each number up to eight, in lanes
+/// of 64 bits with one loop. Stays out of line, so that a walk has this code once.
 #[inline(never)]
-fn take_any_spans<L: StateLanes>(
+pub(crate) fn take_any_spans<L: StateLanes>(
     raises: &mut [LaneRaise<L::Number>],
     raised: MachineSet,
     ceilings: &[u64],
@@ -117,10 +117,9 @@ fn take_any_spans<L: StateLanes>(
     least: u64,
     limit: u64,
 ) -> u64
-    requires { CanTakeSpansUnder L.GREATEST ceilings.now (raises_in L.value raises.old) raised
-        laid.now.grid.now (laid_rows L.heads L.ends laid.now) least }
-    ensures { TakesSpans laid.now.grid.now (laid_rows L.heads L.ends laid.now)
-        (raises_in L.value raises.old) (raises_in L.value raises.new) least limit result }
+    requires { CanTakeSpansIn L.StateLanes laid.now ceilings.now (raises_in L.value raises.old) raised least }
+    ensures { TakesSpansIn L.StateLanes laid.now (raises_in L.value raises.old) (raises_in L.value raises.new) least
+        limit result }
 {
     if are_wide(L::GREATEST) {
         return take_spans_by::<L, 0>(raises, raised, ceilings, laid, least, limit);
@@ -136,31 +135,6 @@ fn take_any_spans<L: StateLanes>(
         8 => take_spans_by::<L, 8>(raises, raised, ceilings, laid, least, limit),
         _ => take_spans_by::<L, 0>(raises, raised, ceilings, laid, least, limit),
     }
-}
-
-/// Answers the greatest of `least` and the spans, explained at `span_of_rows`, of the machines in `raised` from the
-/// heads within their raises. May stop once the bound reaches `limit`. Empties the raises. Skips a machine whose
-/// ceiling, if it has one, is at most the bound so far. `ceilings`, `least`, `limit` and the answer are one more than
-/// the bounds that they stand for, like heads in lanes.
-#[inline(always)]
-pub(crate) fn take_spans<L: StateLanes>(
-    raises: &mut [LaneRaise<L::Number>],
-    raised: MachineSet,
-    ceilings: &[u64],
-    laid: &LaidLanes<L>,
-    least: u64,
-    limit: u64,
-) -> u64
-    requires { CanTakeSpansUnder L.GREATEST ceilings.now (raises_in L.value raises.old) raised
-        laid.now.grid.now (laid_rows L.heads L.ends laid.now) least }
-    ensures { TakesSpans laid.now.grid.now (laid_rows L.heads L.ends laid.now)
-        (raises_in L.value raises.old) (raises_in L.value raises.new) least limit result }
-{
-    let each = laid.grid.fixed_blocks_each();
-    if each == 0 {
-        return take_any_spans(raises, raised, ceilings, laid, least, limit);
-    }
-    take_spans_of(each, raises, raised, ceilings, laid, least, limit)
 }
 
 /// Answers `span`, or `u64::MAX` if `span` reaches `limit`, since the pass may then have stopped early.

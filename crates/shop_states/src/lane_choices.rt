@@ -1,7 +1,6 @@
 // Finds the conflict set from the heads in lanes.
-ghost use Rattle.std.specs.Prelude.{ℕ, ◌*◌, ◌≤◌, ◌<◌, length};
-ghost use Rattle.shop_states.specs.inner.LaneChoices.{AreConflictBlocks, HaveJobs, IsJobAt, IsJobBelow};
-ghost use Rattle.shop_layout.specs.Lanes.{rows_of};
+ghost use Rattle.std.specs.Prelude.{ℕ, ◌*◌, ◌≤◌, ◌<◌, IsTrue, length};
+ghost use Rattle.shop_states.specs.inner.LaneChoices.{AreConflictBlocks, HaveJobs, IsAlone, IsJobAt, IsJobBelow};
 ghost use Rattle.shop_states.specs.inner.Raises.{IsInBlocks};
 ghost use Rattle.shop_states.specs.inner.RisingLists.{HasGathered, IsGatheredWith, IsIn};
 
@@ -68,6 +67,48 @@ fn gather_in_blocks<const WORDS: usize, L: StateLanes>(
     }
 }
 
+/// Tells whether no operation but the one at `position` waits in blocks `first` up to `behind` (excluded) with a head
+/// below `limit`. Stays out of line: most machines have no block behind those that were looked at before.
+#[inline(never)]
+fn is_alone_in<L: StateLanes>(
+    lanes: &L,
+    first: usize,
+    behind: usize,
+    limit: u64,
+    position: usize,
+) -> bool
+    requires ordered { first ≤ behind }
+    requires within { 8 * behind ≤ length (L.heads lanes.now) }
+    requires fits { limit ≤ L.GREATEST }
+    ensures { IsTrue result → IsAlone (L.heads lanes.now) first behind limit position }
+{
+    let mut from = first;
+    while from < behind {
+        let to = from + (behind - from).min(MOST_MARKED);
+        if !lanes.below(from, to, limit).has_no_other(position) {
+            return false;
+        }
+        from = to;
+    }
+    true
+}
+
+/// Tells whether no operation but the one at `position` waits in `blocks` with a head below their end.
+#[inline(always)]
+pub(crate) fn is_alone<L: StateLanes>(blocks: &ConflictBlocks, lanes: &L, position: usize) -> bool
+    requires { AreConflictBlocks L.GREATEST (L.heads lanes.now) blocks.now }
+    ensures { IsTrue result
+        → IsAlone (L.heads lanes.now) blocks.now.from blocks.now.behind blocks.now.end position }
+{
+    if !blocks.below.has_no_other(position) {
+        return false;
+    }
+    if blocks.to == blocks.behind {
+        return true;
+    }
+    is_alone_in(lanes, blocks.to, blocks.behind, blocks.end, position)
+}
+
 /// Answers the conflict set that lies in `blocks`: the chosen job, and each job with an operation that waits there with
 /// a head below the end of the chosen one. Each of these operations is its job's next one, since no next operation can
 /// end earlier.
@@ -77,14 +118,15 @@ pub(crate) fn conflict_set<const WORDS: usize, L: StateLanes>(
     lanes: &L,
     grid: &Grid<L>,
 ) -> JobSet<WORDS>
-    requires blocks { AreConflictBlocks L.GREATEST
-        (rows_of grid.now (L.heads lanes.now) (L.ends lanes.now)) blocks }
+    requires blocks { AreConflictBlocks L.GREATEST (L.heads lanes.now) blocks }
     requires jobs { HaveJobs grid.now (length (L.heads lanes.now)) (64 * WORDS) }
     requires chosen { blocks.chosen < 64 * WORDS }
     ensures { IsGatheredWith blocks.chosen (IsJobBelow grid.now (L.heads lanes.now)
         (IsInBlocks blocks.from blocks.behind) blocks.end) result }
 {
-    let (to, behind, end) = (blocks.to, blocks.behind, blocks.end);
+    let to = blocks.to;
+    let behind = blocks.behind;
+    let end = blocks.end;
     let mut jobs = JobSet::new();
     jobs.put(blocks.chosen);
     gather_marked(&mut jobs, blocks.below, grid);

@@ -1,21 +1,18 @@
 // The raises of heads on each machine in a dispatch, and the bound that they give.
 ghost use Rattle.std.specs.Prelude.{◌≡◌, ℕ, ◌+◌, ◌≤◌, ◌<◌, ◌^◌, IfOk, length, replicate};
-ghost use Rattle.shop_lanes.specs.Spans.{spans_between};
-ghost use Rattle.shop_states.specs.inner.Ceilings.{AreUnder};
-ghost use Rattle.shop_states.specs.inner.HeadRaises.{nothing_raised, raise_of, raises_in};
-ghost use Rattle.shop_layout.specs.Lanes.{lanes_on, rows_of};
-ghost use Rattle.shop_states.specs.inner.LaidLanes.{laid_rows};
-ghost use Rattle.shop_states.specs.inner.MachineRaises.{AreEmpty, AreListed, AreRaisesFit, CanTakeSpans};
-ghost use Rattle.shop_states.specs.inner.RaiseCalls.{CanDelay, HasRaised};
+ghost use Rattle.shop_states.specs.inner.HeadRaises.{nothing_raised, raises_in};
+ghost use Rattle.shop_states.specs.inner.LaidLanes.{CanTakeSpansIn, HasRaisedIn, TakesSpansIn, laid_rows, rows_in};
+ghost use Rattle.shop_states.specs.inner.MachineRaises.{AreEmpty, CanTakeSpans};
+ghost use Rattle.shop_states.specs.inner.RaiseCalls.{CanDelay};
 ghost use Rattle.shop_states.specs.inner.Raises.{IsOnMachine};
-ghost use Rattle.shop_states.specs.inner.Siblings.{BoundsRaises, CanRaiseLate, IsLateOn, RaisesBehind};
-ghost use Rattle.shop_states.specs.inner.Watchers.{AreKnown, Watches, no_floor};
+ghost use Rattle.shop_states.specs.inner.Siblings.{BoundsRaises, CanRaiseLate, HasRaisedBehind, IsLateOn};
+ghost use Rattle.shop_states.specs.inner.Watchers.{AreKnown};
 
-use crate::dispatches::Dispatch;
+use crate::dispatches::{Dispatch, MOST_MARKED};
 use crate::head_raises::{LaneRaise, no_raise};
-use crate::lane_bounds::{LaidLanes, take_ceilings, take_spans};
+use crate::lane_bounds::{LaidLanes, take_any_spans, take_ceilings, take_spans_of};
 use crate::machine_sets::MachineSet;
-use crate::raises::raise;
+use crate::raises::{OpenRoutes, raise_any, raise_marked};
 use crate::siblings::{LateMachine, raise_late};
 use shop_lanes::StateLanes;
 use shop_layout::{Grid, Routes};
@@ -42,21 +39,6 @@ impl<L: StateLanes> Model for MachineRaises<L> {
         × (0 < L.EACH → length r.raises.items ≤ 64) };
 }
 
-/// Makes empty raises for `machines` machines. Fails with `NoMemory` if memory runs out.
-fn empty_raises<L: StateLanes>(
-    alloc: Global,
-    machines: usize,
-) -> Result<Vec<LaneRaise<L::Number>>, NoMemory>
-    ensures { IfOk result (λ v. raises_in L.value v.items
-        ≡ replicate machines (nothing_raised L.GREATEST)) }
-{
-    let mut raises = Vec::with_capacity(alloc, machines)?;
-    for _ in 0..machines {
-        raises.push(no_raise::<L>()).unwrap();
-    }
-    Ok(raises)
-}
-
 impl<L: StateLanes> MachineRaises<L> {
     /// Makes empty raises for `machines` machines, at most 128, and at most 64 in lanes for a fixed number of blocks a
     /// machine. Fails with `NoMemory` if memory runs out.
@@ -65,9 +47,11 @@ impl<L: StateLanes> MachineRaises<L> {
         requires few { 0 < L.EACH → machines ≤ 64 }
         ensures { IfOk result (λ r. (length r ≡ machines) × AreEmpty r) }
     {
-        Ok(MachineRaises {
-            raises: empty_raises::<L>(alloc, machines)?,
-        })
+        let mut raises = Vec::with_capacity(alloc, machines)?;
+        for _ in 0..machines {
+            raises.push(no_raise::<L>()).unwrap();
+        }
+        Ok(MachineRaises { raises })
     }
 
     /// Raises the heads that `dispatch` delays to its end, then every later head on their routes that is now too early.
@@ -81,17 +65,33 @@ impl<L: StateLanes> MachineRaises<L> {
         dispatch: Dispatch,
     ) -> MachineSet
         requires at_rest { AreEmpty self.old }
-        requires can { CanDelay L.GREATEST grid.now next.now
-            (rows_of grid.now (L.heads lanes.old) (L.ends lanes.old)) dispatch }
+        requires can { CanDelay L.GREATEST grid.now next.now (rows_in L.StateLanes grid.now lanes.old) dispatch }
         requires known { AreKnown grid.now.machines (length self.old) }
-        ensures { HasRaised L.GREATEST grid.now next.now
-            (IsOnMachine grid.now dispatch.machine) dispatch.end
-            (rows_of grid.now (L.heads lanes.old) (L.ends lanes.old))
-            (rows_of grid.now (L.heads lanes.new) (L.ends lanes.new)) self.old self.new result }
+        ensures { HasRaisedIn L.StateLanes grid.now next.now (IsOnMachine grid.now dispatch.machine) dispatch.end
+            lanes.old lanes.new self.old self.new result }
     {
         let mut raised = MachineSet::none();
         let raises = self.raises.as_mut_slice();
-        raise(lanes, raises, &mut raised, grid, next, dispatch);
+        let each = grid.fixed_blocks_each();
+        if each == 0 || each > MOST_MARKED {
+            if raises.len() <= 64 {
+                raise_any::<L, true>(lanes, raises, &mut raised, grid, next, dispatch);
+                return raised;
+            }
+            raise_any::<L, false>(lanes, raises, &mut raised, grid, next, dispatch);
+            return raised;
+        }
+        let routes = grid.routes();
+        let ahead = OpenRoutes { routes, next };
+        // lanes with code for one number of blocks have at most 64 machines
+        raise_marked::<L, true>(
+            lanes,
+            raises,
+            &mut raised,
+            &ahead,
+            dispatch.delayed,
+            dispatch.end,
+        );
         raised
     }
 
@@ -110,28 +110,15 @@ impl<L: StateLanes> MachineRaises<L> {
     ) -> u64
         requires limit { limit < 2 ^ 63 }
         requires below { least < limit }
-        requires listed { AreListed self.old raised }
-        requires times { length laid.now.grid.now.times ≡ length (L.heads laid.now.lanes.now) }
-        requires tails { length laid.now.grid.now.tails ≡ length laid.now.grid.now.times }
-        requires fits { AreRaisesFit L.GREATEST self.old laid.now.grid.now
-            (laid_rows L.heads L.ends laid.now) }
-        requires under { AreUnder ceilings.now self.old laid.now.grid.now
-            (laid_rows L.heads L.ends laid.now) (least + 1) }
-        ensures long { length self.new ≡ length self.old }
-        ensures empty { AreEmpty self.new }
-        ensures least { least ≤ result }
-        ensures covers { result < limit → (m : ℕ) → spans_between (raise_of self.old m).from
-            (raise_of self.old m).to
-            (lanes_on (laid_rows L.heads L.ends laid.now) laid.now.grid.now m)
-            ≤ result + 1 }
-        ensures within { (c : ℕ) → least ≤ c → ((m above upto : ℕ) → m < length self.old
-            → spans_between above upto
-            (lanes_on (laid_rows L.heads L.ends laid.now) laid.now.grid.now m) ≤ c + 1)
-            → result ≤ c }
+        requires can { CanTakeSpansIn L.StateLanes laid.now ceilings.now self.old raised (least + 1) }
+        ensures { TakesSpansIn L.StateLanes laid.now self.old self.new (least + 1) (limit + 1) (result + 1) }
     {
         let raises = self.raises.as_mut_slice();
-        let spans = take_spans(raises, raised, ceilings, laid, least + 1, limit + 1);
-        least.max(spans.saturating_sub(1))
+        let each = laid.grid.fixed_blocks_each();
+        if each == 0 {
+            return take_any_spans(raises, raised, ceilings, laid, least + 1, limit + 1) - 1;
+        }
+        take_spans_of(each, raises, raised, ceilings, laid, least + 1, limit + 1) - 1
     }
 
     /// Raises heads on the routes behind the operations that wait on a late machine, as `siblings::raise_late` does.
@@ -144,16 +131,10 @@ impl<L: StateLanes> MachineRaises<L> {
         late: LateMachine,
     ) -> MachineSet
         requires at_rest { AreEmpty self.old }
-        requires can { CanRaiseLate L.GREATEST routes.now
-            (rows_of routes.now (L.heads lanes.old) (L.ends lanes.old)) late }
+        requires can { CanRaiseLate L.GREATEST routes.now (rows_in L.StateLanes routes.now lanes.old) late }
         requires known { AreKnown routes.now.machines (length self.old) }
-        ensures raises { RaisesBehind routes.now (IsLateOn late)
-            (rows_of routes.now (L.heads lanes.old) (L.ends lanes.old))
-            (rows_of routes.now (L.heads lanes.new) (L.ends lanes.new)) }
-        ensures noted { Watches no_floor routes.now.machines (L.heads lanes.old) (L.heads lanes.new)
-            self.old self.new }
-        ensures listed { AreListed self.new result }
-        ensures machines { length self.new ≡ length self.old }
+        ensures { HasRaisedBehind routes.now (IsLateOn late) (rows_in L.StateLanes routes.now lanes.old)
+            (rows_in L.StateLanes routes.now lanes.new) self.old self.new result }
     {
         let mut raised = MachineSet::none();
         let raises = self.raises.as_mut_slice();
@@ -183,14 +164,12 @@ impl<L: StateLanes> MachineRaises<L> {
             (laid_rows L.heads L.ends laid.now) }
         requires room { length ceilings.old ≡ length self.old }
         requires computable { L.GREATEST < 2 ^ 64 }
-        ensures bounds { (b : ℕ) → b ≡ result + 1 → BoundsRaises laid.now.grid.now
-            (laid_rows L.heads L.ends laid.now)
-            self.old self.new ceilings.new (least + 1) b }
+        ensures bounds { BoundsRaises laid.now.grid.now (laid_rows L.heads L.ends laid.now) self.old self.new
+            ceilings.new (least + 1) (result + 1) }
         ensures long { length ceilings.new ≡ length ceilings.old }
     {
         let raises = self.raises.as_mut_slice();
         let limit = limit.saturating_add(1);
-        let most = take_ceilings(raises, raised, ceilings, laid, least + 1, limit);
-        most - 1
+        take_ceilings(raises, raised, ceilings, laid, least + 1, limit) - 1
     }
 }

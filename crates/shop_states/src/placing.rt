@@ -2,29 +2,13 @@
 // first unplaced operation, or the end of its route), since the legs of a route lie side by side in memory.
 ghost use Rattle.std.specs.Prelude.{◌≡◌, ◌≤◌, length, take};
 ghost use Rattle.shop_model.specs.Word.{IsWord, none_placed, placing};
-ghost use Rattle.shop_states.specs.inner.PlacedNexts.{AreBegun, IsPlacedAt};
+ghost use Rattle.shop_states.specs.inner.PlacedNexts.{IsPlacedAt};
 
 use shop_lanes::StateLanes;
 use shop_layout::LaidOut;
 
-/// Puts each job at the first leg of its route, ready at its release.
-fn begin_jobs<L: StateLanes>(laid_out: &LaidOut<L>, next_legs: &mut [u32], ready: &mut [u64])
-    requires next { length next_legs.old ≡ length laid_out.now.shop.jobs }
-    requires ready { length ready.old ≡ length laid_out.now.shop.jobs }
-    ensures { AreBegun laid_out.now.shop laid_out.now.layout
-        (length laid_out.now.shop.jobs) next_legs.new ready.new }
-{
-    let instance = laid_out.instance();
-    let grid = laid_out.grid();
-    let mut first: usize = 0;
-    for job in 0..next_legs.len() {
-        next_legs[job] = first as u32;
-        ready[job] = instance.release(job);
-        first += grid.places(job).len() + 1;
-    }
-}
-
-/// Writes the placement of the empty word into `next_legs`, `ready` and `free`.
+/// Writes the placement of the empty word into `next_legs`, `ready` and `free`: each job is at the first leg of its
+/// route, ready at its release.
 pub(crate) fn place_none<L: StateLanes>(
     laid_out: &LaidOut<L>,
     next_legs: &mut [u32],
@@ -37,7 +21,14 @@ pub(crate) fn place_none<L: StateLanes>(
     ensures { IsPlacedAt laid_out.now.shop (none_placed laid_out.now.shop) laid_out.now.layout
         next_legs.new ready.new free.new }
 {
-    begin_jobs(laid_out, next_legs, ready);
+    let instance = laid_out.instance();
+    let grid = laid_out.grid();
+    let mut first: usize = 0;
+    for job in 0..next_legs.len() {
+        next_legs[job] = first as u32;
+        ready[job] = instance.release(job);
+        first += grid.places(job).len() + 1;
+    }
     // each machine is free from time 0 on
     free.fill(0);
 }

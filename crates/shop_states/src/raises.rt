@@ -1,9 +1,9 @@
 // Raises heads after an operation is dispatched. `delays.rt` does the same without notes.
 ghost use Rattle.std.specs.Prelude.{◌+◌, ◌≤◌, ◌<◌, ◌^◌, [], IsTrue, length, slice_index};
-ghost use Rattle.shop_layout.specs.Lanes.{rows_of};
 ghost use Rattle.shop_states.specs.inner.HeadRaises.{raises_in};
-ghost use Rattle.shop_states.specs.inner.RaiseCalls.{CanDelay, CanRaise, HasRaised};
-ghost use Rattle.shop_states.specs.inner.Raises.{AreWaiting, IsOnMachine, IsPosition, IsRaisable, Raises, SetsEndAt};
+ghost use Rattle.shop_states.specs.inner.LaidLanes.{HasRaisedIn, RaisesIn, rows_in};
+ghost use Rattle.shop_states.specs.inner.RaiseCalls.{CanDelay, CanNote, CanRaise};
+ghost use Rattle.shop_states.specs.inner.Raises.{AreWaiting, IsOnMachine, IsPosition, IsRaisable, SetsEndAt};
 ghost use Rattle.shop_states.specs.inner.RisingLists.{IsIn};
 ghost use Rattle.shop_states.specs.inner.Watchers.{AreKnown, Notes, Sees};
 ghost use Rattle.shop_states.specs.inner.MachineRaises.{AreListed};
@@ -38,20 +38,14 @@ pub(crate) fn raise_route<L: StateLanes, const FEW: bool>(
 )
     requires waits { 0 < slice_index (L.heads lanes.old) position }
     requires below { slice_index (L.heads lanes.old) position ≤ end }
-    requires raisable { IsRaisable L.GREATEST routes.now []
-        (rows_of routes.now (L.heads lanes.old) (L.ends lanes.old)) (IsPosition position) end }
-    requires known { AreKnown routes.now.machines (length raises.old) }
-    requires machines_fit { IsTrue FEW → length raises.old ≤ 64 }
-    requires listed { AreListed (raises_in L.value raises.old) raised.old }
-    ensures raises { Raises L.GREATEST routes.now [] (IsPosition position) end
-        (rows_of routes.now (L.heads lanes.old) (L.ends lanes.old))
-        (rows_of routes.now (L.heads lanes.new) (L.ends lanes.new)) }
-    ensures seen { Sees routes.now.machines (IsPosition position) end
-        (L.heads lanes.old) (L.heads lanes.new) (raises_in L.value raises.old)
-        (raises_in L.value raises.new) }
-    ensures noted { Notes routes.now.machines position end
-        (L.heads lanes.old) (L.heads lanes.new) (raises_in L.value raises.old)
-        (raises_in L.value raises.new) }
+    requires raisable { IsRaisable L.GREATEST routes.now [] (rows_in L.StateLanes routes.now lanes.old)
+        (IsPosition position) end }
+    requires note { CanNote L.value FEW routes.now.machines raises.old raised.old }
+    ensures raises { RaisesIn L.StateLanes routes.now [] (IsPosition position) end lanes.old lanes.new }
+    ensures seen { Sees routes.now.machines (IsPosition position) end (L.heads lanes.old) (L.heads lanes.new)
+        (raises_in L.value raises.old) (raises_in L.value raises.new) }
+    ensures noted { Notes routes.now.machines position end (L.heads lanes.old) (L.heads lanes.new)
+        (raises_in L.value raises.old) (raises_in L.value raises.new) }
     ensures listed { AreListed (raises_in L.value raises.new) raised.new }
 {
     lanes.set_head(position, end);
@@ -86,9 +80,8 @@ pub(crate) fn set_end_at<L: StateLanes>(
     requires ends { length next.now ≤ length (L.ends lanes.old) }
     requires fits { begin + slice_index routes.now.times position ≤ L.GREATEST }
     requires computable { L.GREATEST < 2 ^ 64 }
-    ensures { SetsEndAt routes.now next.now position begin
-        (rows_of routes.now (L.heads lanes.old) (L.ends lanes.old))
-        (rows_of routes.now (L.heads lanes.new) (L.ends lanes.new)) }
+    ensures { SetsEndAt routes.now next.now position begin (rows_in L.StateLanes routes.now lanes.old)
+        (rows_in L.StateLanes routes.now lanes.new) }
 {
     let job = routes.job(position);
     if next[job] as usize == position {
@@ -110,13 +103,10 @@ fn raise_from<L: StateLanes, const FEW: bool>(
     requires waits { 0 < slice_index (L.heads lanes.old) position }
     requires below { slice_index (L.heads lanes.old) position ≤ end }
     requires can { CanRaise L.GREATEST ahead.now.routes ahead.now.next.now (IsPosition position) end
-        (rows_of ahead.now.routes (L.heads lanes.old) (L.ends lanes.old)) (length raises.old) }
-    requires machines_fit { IsTrue FEW → length raises.old ≤ 64 }
-    requires listed { AreListed (raises_in L.value raises.old) raised.old }
-    ensures { HasRaised L.GREATEST ahead.now.routes ahead.now.next.now (IsPosition position) end
-        (rows_of ahead.now.routes (L.heads lanes.old) (L.ends lanes.old))
-        (rows_of ahead.now.routes (L.heads lanes.new) (L.ends lanes.new))
-        (raises_in L.value raises.old) (raises_in L.value raises.new) raised.new }
+        (rows_in L.StateLanes ahead.now.routes lanes.old) }
+    requires note { CanNote L.value FEW ahead.now.routes.machines raises.old raised.old }
+    ensures { HasRaisedIn L.StateLanes ahead.now.routes ahead.now.next.now (IsPosition position) end
+        lanes.old lanes.new (raises_in L.value raises.old) (raises_in L.value raises.new) raised.new }
 {
     set_end_at(lanes, &ahead.routes, ahead.next, position, end);
     raise_route::<L, FEW>(lanes, raises, raised, &ahead.routes, position, end);
@@ -125,7 +115,7 @@ fn raise_from<L: StateLanes, const FEW: bool>(
 /// Raises to `end` each head below `end` at the marked positions, where operations wait. Also raises every later head
 /// on their routes that is too early then, so that a marked head may have risen before its turn comes.
 #[inline(always)]
-fn raise_marked<L: StateLanes, const FEW: bool>(
+pub(crate) fn raise_marked<L: StateLanes, const FEW: bool>(
     lanes: &mut L,
     raises: &mut [LaneRaise<L::Number>],
     raised: &mut MachineSet,
@@ -135,13 +125,10 @@ fn raise_marked<L: StateLanes, const FEW: bool>(
 )
     requires marks { AreWaiting (L.heads lanes.old) marks }
     requires can { CanRaise L.GREATEST ahead.now.routes ahead.now.next.now (IsIn marks) end
-        (rows_of ahead.now.routes (L.heads lanes.old) (L.ends lanes.old)) (length raises.old) }
-    requires machines_fit { IsTrue FEW → length raises.old ≤ 64 }
-    requires listed { AreListed (raises_in L.value raises.old) raised.old }
-    ensures { HasRaised L.GREATEST ahead.now.routes ahead.now.next.now (IsIn marks) end
-        (rows_of ahead.now.routes (L.heads lanes.old) (L.ends lanes.old))
-        (rows_of ahead.now.routes (L.heads lanes.new) (L.ends lanes.new))
-        (raises_in L.value raises.old) (raises_in L.value raises.new) raised.new }
+        (rows_in L.StateLanes ahead.now.routes lanes.old) }
+    requires note { CanNote L.value FEW ahead.now.routes.machines raises.old raised.old }
+    ensures { HasRaisedIn L.StateLanes ahead.now.routes ahead.now.next.now (IsIn marks) end
+        lanes.old lanes.new (raises_in L.value raises.old) (raises_in L.value raises.new) raised.new }
 {
     let mut todo = marks;
     while let Some(position) = todo.pop_first() {
@@ -151,11 +138,11 @@ fn raise_marked<L: StateLanes, const FEW: bool>(
     }
 }
 
-/// Does what `raise` does, for machines of any number of blocks: raises what is marked in the first eight blocks, then
-/// marks and raises eight blocks after another. Stays out of line, since each kind of dispatch would else have this
-/// code anew.
+/// Does what `MachineRaises::raise` does, for machines of any number of blocks: raises what is marked in the first
+/// eight blocks, then marks and raises eight blocks after another. Stays out of line, since each kind of dispatch would
+/// else have this code anew.
 #[inline(never)]
-fn raise_any<L: StateLanes, const FEW: bool>(
+pub(crate) fn raise_any<L: StateLanes, const FEW: bool>(
     lanes: &mut L,
     raises: &mut [LaneRaise<L::Number>],
     raised: &mut MachineSet,
@@ -163,16 +150,10 @@ fn raise_any<L: StateLanes, const FEW: bool>(
     next: &[u32],
     dispatch: Dispatch,
 )
-    requires can { CanDelay L.GREATEST grid.now next.now
-        (rows_of grid.now (L.heads lanes.old) (L.ends lanes.old)) dispatch }
-    requires known { AreKnown grid.now.machines (length raises.old) }
-    requires machines_fit { IsTrue FEW → length raises.old ≤ 64 }
-    requires listed { AreListed (raises_in L.value raises.old) raised.old }
-    ensures { HasRaised L.GREATEST grid.now next.now
-        (IsOnMachine grid.now dispatch.machine) dispatch.end
-        (rows_of grid.now (L.heads lanes.old) (L.ends lanes.old))
-        (rows_of grid.now (L.heads lanes.new) (L.ends lanes.new))
-        (raises_in L.value raises.old) (raises_in L.value raises.new) raised.new }
+    requires can { CanDelay L.GREATEST grid.now next.now (rows_in L.StateLanes grid.now lanes.old) dispatch }
+    requires note { CanNote L.value FEW grid.now.machines raises.old raised.old }
+    ensures { HasRaisedIn L.StateLanes grid.now next.now (IsOnMachine grid.now dispatch.machine) dispatch.end
+        lanes.old lanes.new (raises_in L.value raises.old) (raises_in L.value raises.new) raised.new }
 {
     let routes = grid.routes();
     let ahead = OpenRoutes { routes, next };
@@ -191,41 +172,4 @@ fn raise_any<L: StateLanes, const FEW: bool>(
         marks = lanes.below(from, from + (behind - from).min(MOST_MARKED), end);
     }
     *raised = machines;
-}
-
-/// Raises each head below the end of a dispatch on its machine to that end, then every later head on its route that is
-/// now too early. Notes how far these later heads rose, and updates the ends of next operations. The heads are those
-/// that the dispatch delays; its own operation waits no longer.
-#[inline(always)]
-pub(crate) fn raise<L: StateLanes>(
-    lanes: &mut L,
-    raises: &mut [LaneRaise<L::Number>],
-    raised: &mut MachineSet,
-    grid: &Grid<L>,
-    next: &[u32],
-    dispatch: Dispatch,
-)
-    requires can { CanDelay L.GREATEST grid.now next.now
-        (rows_of grid.now (L.heads lanes.old) (L.ends lanes.old)) dispatch }
-    requires known { AreKnown grid.now.machines (length raises.old) }
-    requires machines_fit { 0 < L.EACH → length raises.old ≤ 64 }
-    requires listed { AreListed (raises_in L.value raises.old) raised.old }
-    ensures { HasRaised L.GREATEST grid.now next.now
-        (IsOnMachine grid.now dispatch.machine) dispatch.end
-        (rows_of grid.now (L.heads lanes.old) (L.ends lanes.old))
-        (rows_of grid.now (L.heads lanes.new) (L.ends lanes.new))
-        (raises_in L.value raises.old) (raises_in L.value raises.new) raised.new }
-{
-    let each = grid.fixed_blocks_each();
-    if each == 0 || each > 4 {
-        if raises.len() <= 64 {
-            return raise_any::<L, true>(lanes, raises, raised, grid, next, dispatch);
-        }
-        return raise_any::<L, false>(lanes, raises, raised, grid, next, dispatch);
-    }
-    let routes = grid.routes();
-    let ahead = OpenRoutes { routes, next };
-    let (marks, end) = (dispatch.delayed, dispatch.end);
-    // lanes with code for one number of blocks have at most 64 machines
-    raise_marked::<L, true>(lanes, raises, raised, &ahead, marks, end);
 }

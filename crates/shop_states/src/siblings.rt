@@ -5,15 +5,15 @@
 ghost use Rattle.std.specs.Prelude.{◌≡◌, ℕ, ◌+◌, ◌≤◌, ◌<◌, ◌⊎◌, List, ◌∷◌, ◌++◌, [], IsTrue, length, slice_index};
 ghost use Rattle.shop_model.specs.Shop.{Shop};
 ghost use Rattle.shop_bound.specs.Bound.{lb};
-ghost use Rattle.shop_layout.specs.Lanes.{rows_of};
 ghost use Rattle.shop_states.specs.inner.Advances.{IsAdvancing};
 ghost use Rattle.shop_states.specs.inner.Ceilings.{AreChildCeilings};
 ghost use Rattle.shop_states.specs.inner.HeadRaises.{raises_in};
+ghost use Rattle.shop_states.specs.inner.LaidLanes.{rows_in};
 ghost use Rattle.shop_states.specs.inner.LaneStates.{IsKeptInLanes};
-ghost use Rattle.shop_states.specs.inner.MachineRaises.{AreEmpty, AreListed};
+ghost use Rattle.shop_states.specs.inner.MachineRaises.{AreEmpty};
+ghost use Rattle.shop_states.specs.inner.RaiseCalls.{CanNote};
 ghost use Rattle.shop_states.specs.inner.Siblings.{AreLatest, AreSiblings, CanBoundChildren, CanEnd, CanRaiseBehind};
-ghost use Rattle.shop_states.specs.inner.Siblings.{CanRaiseLate, IsEndAt, IsLateOn, RaisesBehind, end_by, job_at};
-ghost use Rattle.shop_states.specs.inner.Watchers.{AreKnown, Watches, no_floor};
+ghost use Rattle.shop_states.specs.inner.Siblings.{CanRaiseLate, HasRaisedBehind, IsEndAt, IsLateOn, end_by, job_at};
 
 use crate::dispatches::MOST_MARKED;
 use crate::dispatching::Candidate;
@@ -93,18 +93,12 @@ fn raise_behind<L: StateLanes, const FEW: bool>(
     free: u64,
 )
     requires waits { 0 < slice_index (L.heads lanes.old) position }
-    requires can { CanRaiseBehind L.GREATEST routes.now
-        (rows_of routes.now (L.heads lanes.old) (L.ends lanes.old)) (IsEndAt position free) }
-    requires known { AreKnown routes.now.machines (length raises.old) }
-    requires machines_fit { IsTrue FEW → length raises.old ≤ 64 }
-    requires listed { AreListed (raises_in L.value raises.old) raised.old }
-    ensures raises { RaisesBehind routes.now (IsEndAt position free)
-        (rows_of routes.now (L.heads lanes.old) (L.ends lanes.old))
-        (rows_of routes.now (L.heads lanes.new) (L.ends lanes.new)) }
-    ensures noted { Watches no_floor routes.now.machines (L.heads lanes.old) (L.heads lanes.new)
-        (raises_in L.value raises.old) (raises_in L.value raises.new) }
-    ensures listed { AreListed (raises_in L.value raises.new) raised.new }
-    ensures machines { length raises.new ≡ length raises.old }
+    requires can { CanRaiseBehind L.GREATEST routes.now (rows_in L.StateLanes routes.now lanes.old)
+        (IsEndAt position free) }
+    requires note { CanNote L.value FEW routes.now.machines raises.old raised.old }
+    ensures { HasRaisedBehind routes.now (IsEndAt position free) (rows_in L.StateLanes routes.now lanes.old)
+        (rows_in L.StateLanes routes.now lanes.new) (raises_in L.value raises.old) (raises_in L.value raises.new)
+        raised.new }
 {
     let ready = free + routes.time(position);
     let leg = routes.leg(routes.behind(position));
@@ -152,18 +146,11 @@ pub(crate) fn raise_late<L: StateLanes, const FEW: bool>(
     routes: &Routes,
     late: LateMachine,
 )
-    requires can { CanRaiseLate L.GREATEST routes.now
-        (rows_of routes.now (L.heads lanes.old) (L.ends lanes.old)) late }
-    requires known { AreKnown routes.now.machines (length raises.old) }
-    requires machines_fit { IsTrue FEW → length raises.old ≤ 64 }
-    requires listed { AreListed (raises_in L.value raises.old) raised.old }
-    ensures raises { RaisesBehind routes.now (IsLateOn late)
-        (rows_of routes.now (L.heads lanes.old) (L.ends lanes.old))
-        (rows_of routes.now (L.heads lanes.new) (L.ends lanes.new)) }
-    ensures noted { Watches no_floor routes.now.machines (L.heads lanes.old) (L.heads lanes.new)
-        (raises_in L.value raises.old) (raises_in L.value raises.new) }
-    ensures listed { AreListed (raises_in L.value raises.new) raised.new }
-    ensures machines { length raises.new ≡ length raises.old }
+    requires can { CanRaiseLate L.GREATEST routes.now (rows_in L.StateLanes routes.now lanes.old) late }
+    requires note { CanNote L.value FEW routes.now.machines raises.old raised.old }
+    ensures { HasRaisedBehind routes.now (IsLateOn late) (rows_in L.StateLanes routes.now lanes.old)
+        (rows_in L.StateLanes routes.now lanes.new) (raises_in L.value raises.old) (raises_in L.value raises.new)
+        raised.new }
 {
     let mut from = late.from;
     while from < late.behind {
@@ -207,20 +194,18 @@ pub(crate) fn bound_children<L: StateLanes>(
     requires at_rest { AreEmpty raises.old }
     requires room { length ceilings.old ≡ length raises.old }
     requires some { 0 < length siblings.now.candidates.now }
-    requires can { CanBoundChildren L.GREATEST grid.now
-        (rows_of grid.now (L.heads lanes.old) (L.ends lanes.old)) next.now
+    requires can { CanBoundChildren L.GREATEST grid.now (rows_in L.StateLanes grid.now lanes.old) next.now
         siblings.now.candidates.now siblings.now.bound (length raises.old) }
-    ensures known { (shop : Shop) (w : List ℕ) → IsKeptInLanes L.GREATEST shop w grid.now
-        (rows_of grid.now (L.heads lanes.old) (L.ends lanes.old)) next.now
+    ensures known { (shop : Shop) (w : List ℕ)
+        → IsKeptInLanes L.GREATEST shop w grid.now (rows_in L.StateLanes grid.now lanes.old) next.now
         → AreSiblings shop w siblings.now.candidates.now → siblings.now.bound ≡ lb shop w
         → (i : ℕ) → i < length siblings.now.candidates.now
         → AreChildCeilings shop w grid.now (job_at siblings.now.candidates.now i) ceilings.new }
-    ensures settled { (shop : Shop) (w : List ℕ) → IsKeptInLanes L.GREATEST shop w grid.now
-        (rows_of grid.now (L.heads lanes.old) (L.ends lanes.old)) next.now
+    ensures settled { (shop : Shop) (w : List ℕ)
+        → IsKeptInLanes L.GREATEST shop w grid.now (rows_in L.StateLanes grid.now lanes.old) next.now
         → AreSiblings shop w siblings.now.candidates.now → siblings.now.bound ≡ lb shop w
         → (i least : ℕ) → i < length siblings.now.candidates.now
-        → IsAdvancing L.GREATEST shop w grid.now
-        (rows_of grid.now (L.heads lanes.old) (L.ends lanes.old)) next.now
+        → IsAdvancing L.GREATEST shop w grid.now (rows_in L.StateLanes grid.now lanes.old) next.now
         (job_at siblings.now.candidates.now i) least
         → result ≤ least → lb shop (w ++ job_at siblings.now.candidates.now i ∷ []) ≡ least }
     ensures long { length ceilings.new ≡ length ceilings.old }
@@ -229,9 +214,8 @@ pub(crate) fn bound_children<L: StateLanes>(
     ensures machines { length raises.new ≡ length raises.old }
     ensures rest { AreEmpty raises.new }
 {
-    let (candidates, bound) = (siblings.candidates, siblings.bound);
     let routes = grid.routes();
-    let latest = latest_of(candidates, lanes, &routes, next);
+    let latest = latest_of(siblings.candidates, lanes, &routes, next);
     let last = next[latest.job] as usize;
     let machine = routes.machine(last) as usize;
     let (from, behind) = grid.blocks_of(grid.fixed_blocks_each(), machine);
@@ -242,6 +226,12 @@ pub(crate) fn bound_children<L: StateLanes>(
         latest,
     };
     let raised = raises.raise_late(lanes, &routes, late);
-    let limit = greatest_own(candidates, bound).saturating_add(2);
-    raises.take_ceilings(raised, ceilings, &LaidLanes { lanes, grid }, bound, limit)
+    let limit = greatest_own(siblings.candidates, siblings.bound).saturating_add(2);
+    raises.take_ceilings(
+        raised,
+        ceilings,
+        &LaidLanes { lanes, grid },
+        siblings.bound,
+        limit,
+    )
 }

@@ -5,7 +5,7 @@
 --     eight f                        the numbers that a function gives for each of eight columns
 --     CanRaiseBound value ..         rows of whole blocks have spans from heads up to `upto` that fit
 --     CanFindLeast value ..          a row of whole blocks has a first least number
-use Rattle.std.specs.Prelude.{◌≡◌, ◌≢◌, ℕ, ◌+◌, ◌*◌, ◌-◌, ◌%◌, ◌^◌, take, drop, replicate, ◌<◌, ◌≤◌, length, max, List}
+use Rattle.std.specs.Prelude.{◌≡◌, ℕ, ◌+◌, ◌*◌, ◌-◌, ◌%◌, ◌^◌, take, drop, replicate, ◌<◌, ◌≤◌, length, max, List}
 use Rattle.std.specs.{Prelude.{[], ◌∷◌, if◌then◌else◌, nat_le, get_or, map, slice_index}, Simd.Lanes.zip2}
 use Rattle.shop_lanes.specs.{Eights.{first_of, added, waiting, AddsFit}, Ends.IsFirstLeast, Rows.{Lane, lanes_in}}
 use Rattle.shop_lanes.specs.{Spans.{FitsSpan, span}, declared.lane_rows.LaneRows.LaneRows}
@@ -36,25 +36,12 @@ pub record FitServed {B : Type 0} (limit : ℕ) (numbers : B → List ℕ) (head
   pub clocks_fit : AddsFit limit (numbers clocks) (times_served numbers heads times least)
   pub ends_fit : AddsFit limit (added (numbers clocks) (times_served numbers heads times least)) (numbers tails)
 
--- a block served: the clocks afterwards, and when each lane ends with its tail
-pub record AreTailed {B : Type 0} (numbers : B → List ℕ) (heads times tails least clocks : B)
-    (served : B × B) : Type 0 where
-  pub clocks_are : numbers served.0 ≡ added (numbers clocks) (times_served numbers heads times least)
-  pub ends_are : numbers served.1
-      ≡ waiting (first_of (numbers least)) (numbers heads) (added (numbers served.0) (numbers tails))
-
 -- a block served: the clocks afterwards, and the greatest end so far in each column
 pub record AreServed {B : Type 0} (numbers : B → List ℕ) (heads times tails least clocks most : B)
     (served : B × B) : Type 0 where
   pub clocks_are : numbers served.0 ≡ added (numbers clocks) (times_served numbers heads times least)
   pub most_are : numbers served.1 ≡ zip2 max (numbers most)
       (waiting (first_of (numbers least)) (numbers heads) (added (numbers served.0) (numbers tails)))
-
--- i is the first position of `number`, or the length of the list if it is not in it
-pub record IsFirstOf (xs : List ℕ) (number i : ℕ) : Type 0 where
-  pub within : i ≤ length xs
-  pub found : i < length xs → get_or xs i 0 ≡ number
-  pub first : (k : ℕ) → k < i → get_or xs k 0 ≢ number
 
 -- the ends of jobs, padded to whole blocks by `none`, the greatest number
 pub record IsPadded (none jobs : ℕ) (ends : List ℕ) : Type 0 where

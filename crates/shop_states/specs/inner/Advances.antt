@@ -5,8 +5,7 @@
 --     CanAdvance greatest l rows ..    some word is kept in lanes that can go on so, to a word whose
 --                                      spans are no more than these ceilings
 --     CanStrike greatest l rows ..     some word is kept in lanes whose conflict set is this job alone
---     HasSameRoom old new ..           as many heads, ends and next operations as before
-use Rattle.std.specs.Prelude.{◌≡◌, ℕ, ◌+◌, ◌-◌, max, List, [], ◌∷◌, ◌++◌, length, slice_index, slice_set}
+use Rattle.std.specs.Prelude.{◌≡◌, ℕ, ◌+◌, ◌-◌, max, List, [], ◌∷◌, ◌++◌, slice_index, slice_set}
 use Rattle.shop_lanes.specs.{Rows.Rows, Spans.span}
 use Rattle.shop_model.specs.{Shop.Shop, Word.IsWord}
 use Rattle.shop_bound.specs.Conflicts.{conflict}
@@ -38,11 +37,6 @@ pub record CanAdvance (greatest : ℕ) (l : LayoutState) (rows : Rows) (nexts : 
   pub is : IsAdvancing greatest shop word l rows nexts job least
   pub machines_are : machines ≡ shop.machines
   pub ceilings_are : AreChildCeilings shop word l job ceilings
-
-pub record HasSameRoom (old new : Rows) (before after : List ℕ) : Type 0 where
-  pub positions : length new.heads ≡ length old.heads
-  pub jobs : length new.ends ≡ length old.ends
-  pub nexts : length after ≡ length before
 
 pub record CanStrike (greatest : ℕ) (l : LayoutState) (rows : Rows) (nexts : List ℕ) (job : ℕ) : Type 0 where
   pub shop : Shop

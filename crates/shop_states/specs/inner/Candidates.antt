@@ -59,7 +59,7 @@ pub record ListsGathered (limit : ℕ) (own : ℕ → ℕ) (IsGathered : List �
 -- the conflict set lies in these blocks, and the own span of each of its jobs is told
 pub record CanList (greatest : ℕ) (l : LayoutState) (rows : Rows) (nexts : List ℕ)
     (blocks : ConflictBlocks) (count : ℕ) : Type 0 where
-  pub blocks_are : AreConflictBlocks greatest rows blocks
+  pub blocks_are : AreConflictBlocks greatest rows.heads blocks
   pub computable : 8 * blocks.from < 2 ^ 64
   pub placed : AreNextPlaced l rows.heads nexts
   pub few : length nexts < 1024

@@ -1,25 +1,21 @@
 -- Heads by position that are set anew.
 --     IsStored shop p l old new j k  the head of step k of job j was set, and one more, or left as it
 --                                    was where the step is placed
---     IsRested heads                 nothing waits anywhere
 --     CanFill greatest shop l rows   all heads of what was placed can be set
---     HasFilledJob, HasFilled        the heads of a job, or of all jobs, were set
+--     HasFilledJob shop l s j ..     the heads of a job were set
 --     IsAtSomeLeg, IsOnSomeRoute     job j is ready for leg `index`, its next one after some word; some job is
---     AreNextsSet shop l p n ..      the next operations of the first n jobs are told, and their ends were set
+--     IsNextSet shop l p j ..        the next operation of a job is told, and its end was set
 use Rattle.std.specs.Prelude.{◌≡◌, ℕ, ◌+◌, ◌≤◌, ◌<◌, ◌^◌, List, length, slice_index}
 use Rattle.shop_lanes.specs.Rows.{Rows}
 use Rattle.shop_model.specs.{Limits.IsWithinLimits, Shop.{Shop, IsOperation, route_of}, Word.Placing}
 use Rattle.shop_model.specs.Placements.{PlacementState, IsPlacement}
 use Rattle.shop_bound.specs.{Conflicts.next_end, Heads.head_of, inner.PlacedWords.IsOfWord}
-use Rattle.shop_states.specs.inner.LaneHeads.{AreHeadsAt, AreHeadsFit}
+use Rattle.shop_states.specs.inner.LaneHeads.{AreHeadsFit}
 use Rattle.shop_layout.specs.{Legs.leg_index, Positions.{LayoutState, place, place_or, first_position, IsLaidOut}}
 
 pub record IsStored (shop : Shop) (p : Placing) (l : LayoutState) (old new : List ℕ) (j k : ℕ) : Type 0 where
   pub waiting : p.steps j ≤ k → slice_index new (place l j k) ≡ head_of shop p j k + 1
   pub placed : k < p.steps j → slice_index new (place l j k) ≡ slice_index old (place l j k)
-
-abbrev pub IsRested : List ℕ → Type 0
-IsRested heads = (q : ℕ) → slice_index heads q ≡ 0
 
 pub record CanFill (greatest : ℕ) (shop : Shop) (l : LayoutState) (rows : Rows) : Type 0 where
   pub limits : IsWithinLimits shop
@@ -40,10 +36,6 @@ pub record HasFilledJob (shop : Shop) (l : LayoutState) (s : PlacementState) (j 
       → IsStored shop p l old.heads new.heads j k
   pub others : (q : ℕ) → ((k : ℕ) → IsOperation shop j k → place l j k ≡ q → ⊥)
       → slice_index new.heads q ≡ slice_index old.heads q
-
-pub record HasFilled (shop : Shop) (l : LayoutState) (s : PlacementState) (old new : Rows) : Type 0 where
-  pub beside : AreSameBeside old new
-  pub filled : IsRested old.heads → (p : Placing) → IsPlacement shop p s → AreHeadsAt shop p l new.heads
 
 -- job j is ready for leg `index`, which is its next one in the placement of a word
 pub record IsAtLeg (shop : Shop) (l : LayoutState) (s : PlacementState) (j index ready : ℕ)
@@ -69,13 +61,3 @@ pub record IsNextSet (shop : Shop) (l : LayoutState) (p : Placing) (j position :
   pub next : IsOperation shop j (p.steps j) → slice_index new j ≡ next_end shop p j + 1
   pub none : length (route_of shop j) ≤ p.steps j → slice_index new j ≡ slice_index old j
   pub others : (i : ℕ) → (i ≡ j → ⊥) → slice_index new i ≡ slice_index old i
-
-pub record AreNextsSet (shop : Shop) (l : LayoutState) (p : Placing) (n : ℕ)
-    (old new ends_before ends_after : List ℕ) : Type 0 where
-  pub jobs : length new ≡ length old
-  pub long : length ends_after ≡ length ends_before
-  pub are : (j : ℕ) → j < n → slice_index new j ≡ place_or (first_position l shop.machines) l.places j (p.steps j)
-  pub later : (j : ℕ) → n ≤ j → slice_index new j ≡ slice_index old j
-  pub next : (j : ℕ) → j < n → IsOperation shop j (p.steps j) → slice_index ends_after j ≡ next_end shop p j + 1
-  pub none : (j : ℕ) → (j < n → length (route_of shop j) ≤ p.steps j)
-      → slice_index ends_after j ≡ slice_index ends_before j

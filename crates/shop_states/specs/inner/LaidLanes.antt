@@ -1,9 +1,37 @@
--- The rows of heads and ends in lanes, with the layout of their instance.
+-- Lanes with the layout of their instance. `g` reads lanes as numbers.
+--     rows_in g l lanes          their heads and ends, with the times and tails of the layout
+--     KeepsWord g l s shop w     the state s is that of word w
+--     RaisesIn, HasRaisedIn ..   what `Raises` and `HasRaised` say of old and new rows, of lanes
+--     laid_rows heads ends laid  the rows of `laid`, where `heads` and `ends` read lanes
+--     CanTakeSpansIn, TakesSpansIn ..  what `CanTakeSpansUnder` and `TakesSpans` say of rows, of lanes
 use Rattle.std.specs.Prelude.{ℕ, List}
-use Rattle.shop_lanes.specs.Rows.{Rows}
-use Rattle.shop_layout.specs.Lanes.{rows_of}
-use Rattle.shop_states.specs.declared.lane_bounds.LaidLanes.{LaidLanes}
+use Rattle.shop_lanes.specs.{Rows.Rows, declared.state_lanes.StateLanes.Ghosts}
+use Rattle.shop_model.specs.Shop.{Shop}
+use Rattle.shop_layout.specs.{Lanes.rows_of, Positions.LayoutState}
+use Rattle.shop_states.specs.{declared.lane_bounds.LaidLanes.LaidLanes, declared.states.State.State}
+use Rattle.shop_states.specs.{inner.HeadRaises.Raise, inner.LaneStates.IsKeptInLanes, inner.RaiseCalls.HasRaised}
+use Rattle.shop_states.specs.inner.{MachineRaises.{CanTakeSpansUnder, TakesSpans}, Raises.Raises}
 
--- `heads` and `ends` read lanes as numbers
+module _ {L F N : Type 0} (g : Ghosts L F N) (l : LayoutState) where
+  abbrev pub rows_in : L → Rows
+  rows_in lanes = rows_of l (g.heads lanes) (g.ends lanes)
+
+  abbrev pub KeepsWord : State L F N → Shop → List ℕ → Type 0
+  KeepsWord s shop w = IsKeptInLanes g.GREATEST shop w l (rows_in s.lanes) s.next.items
+
+  abbrev pub RaisesIn : List ℕ → (ℕ → Type 0) → ℕ → L → L → Type 0
+  RaisesIn nexts among e old new = Raises g.GREATEST l nexts among e (rows_in old) (rows_in new)
+
+  abbrev pub HasRaisedIn : List ℕ → (ℕ → Type 0) → ℕ → L → L → List Raise → List Raise → List ℕ → Type 0
+  HasRaisedIn nexts among e old new = HasRaised g.GREATEST l nexts among e (rows_in old) (rows_in new)
+
 abbrev pub laid_rows : {L M N : Type 0} → (L → List ℕ) → (L → List ℕ) → LaidLanes L M N → Rows
 laid_rows heads ends laid = rows_of laid.grid.now (heads laid.lanes.now) (ends laid.lanes.now)
+
+module _ {L F N : Type 0} (g : Ghosts L F N) (laid : LaidLanes L F N) where
+  abbrev pub CanTakeSpansIn : List ℕ → List Raise → List ℕ → ℕ → Type 0
+  CanTakeSpansIn ceilings raises raised least =
+      CanTakeSpansUnder g.GREATEST ceilings raises raised laid.grid.now (laid_rows g.heads g.ends laid) least
+
+  abbrev pub TakesSpansIn : List Raise → List Raise → ℕ → ℕ → ℕ → Type 0
+  TakesSpansIn = TakesSpans laid.grid.now (laid_rows g.heads g.ends laid)

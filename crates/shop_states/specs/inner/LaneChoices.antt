@@ -4,11 +4,12 @@
 --     IsJobAt l ps j                 job j has the operation at one of these positions
 --     AreConflictBlocks greatest ..  blocks in which a conflict set can lie, and in some of them the positions of heads
 --                                    below an end
+--     IsAlone heads from to ..       only one operation waits in some blocks with a head below a limit
 --     HaveJobs l positions most      each position has a job, all jobs being below a number
 --     AreNextPlaced l heads nexts    each position has a job, and the next operations have theirs
 --     AreNextsAt shop p l nexts ..   heads and next operations are those of placing p
-use Rattle.std.specs.Prelude.{◌≡◌, ℕ, ◌+◌, ◌*◌, ◌≤◌, ◌<◌, ◌^◌, List, length, slice_index}
-use Rattle.shop_lanes.specs.{Marks.positions_below, Rows.Rows}
+use Rattle.std.specs.Prelude.{◌≡◌, ℕ, ◌+◌, ◌*◌, ◌≤◌, ◌<◌, List, All, length, slice_index}
+use Rattle.shop_lanes.specs.{Marks.positions_among, Rows.Rows}
 use Rattle.shop_model.specs.{Limits.IsWithinLimits, Shop.{Shop, route_of, IsOperation}, Word.Placing}
 use Rattle.shop_bound.specs.Conflicts.{next_end}
 use Rattle.shop_states.specs.{declared.lane_choices.ConflictBlocks.ConflictBlocks, inner.LaneHeads.AreHeadsAt}
@@ -30,12 +31,16 @@ pub record IsJobBelow (l : LayoutState) (heads : List ℕ) (among : ℕ → Type
 abbrev pub IsJobAt : LayoutState → List ℕ → ℕ → Type 0
 IsJobAt l ps j = (q : ℕ) × IsIn ps q × (slice_index l.jobs q ≡ j)
 
-pub record AreConflictBlocks (greatest : ℕ) (rows : Rows) (b : ConflictBlocks) : Type 0 where
+pub record AreConflictBlocks (greatest : ℕ) (heads : List ℕ) (b : ConflictBlocks) : Type 0 where
   pub ordered : b.from ≤ b.to
   pub last : b.to ≤ b.behind
-  pub within : 8 * b.behind ≤ length rows.heads
+  pub within : 8 * b.behind ≤ length heads
   pub fits : b.end ≤ greatest
-  pub marks : b.below ≡ positions_below rows b.from b.to b.end
+  pub marks : b.below ≡ positions_among heads b.from b.to b.end
+
+-- nothing else waits in some blocks below the limit
+abbrev pub IsAlone : List ℕ → ℕ → ℕ → ℕ → ℕ → Type 0
+IsAlone heads from to limit position = All (λ p. p ≡ position) (positions_among heads from to limit)
 
 pub record HaveJobs (l : LayoutState) (positions most : ℕ) : Type 0 where
   pub many : length l.jobs ≡ positions

@@ -1,27 +1,32 @@
 -- What a raise of heads asks for, and what it leaves.
---     CanRaise greatest l nexts ..   the heads at some positions can be raised, and each machine has
---                                    a place for a raise
+--     CanNote value few ms ..        each machine has a place for a raise, and those with a raise are in a list; where
+--                                    there are few machines, they are at most 64
+--     CanRaise greatest l nexts ..   the heads at some positions can be raised
 --     CanDelay greatest l nexts ..   a dispatch marks what it delays in the first blocks of its machine, and the heads
 --                                    there can be raised to its end
 --     HasRaised greatest l nexts ..  these heads are raised, and so is every later head on their
 --                                    routes that was too early; how far later heads rose is noted
 --                                    for their machines, which are all in a list
-use Rattle.std.specs.Prelude.{◌≡◌, ℕ, ◌≤◌, List, length}
+use Rattle.std.specs.Prelude.{◌≡◌, ℕ, ◌≤◌, Bool, IsTrue, List, length}
 use Rattle.shop_lanes.specs.Rows.{Rows}
 use Rattle.shop_layout.specs.Positions.{LayoutState}
-use Rattle.shop_states.specs.declared.dispatches.Dispatch.{Dispatch}
-use Rattle.shop_states.specs.inner.Dispatches.{AreDelayedOn}
-use Rattle.shop_states.specs.inner.HeadRaises.{Raise}
+use Rattle.shop_states.specs.declared.{dispatches.Dispatch.Dispatch, head_raises.LaneRaise.LaneRaise}
+use Rattle.shop_states.specs.{inner.Dispatches.AreDelayedOn, inner.HeadRaises.{Raise, raises_in}}
 use Rattle.shop_states.specs.inner.MachineRaises.{AreListed}
 use Rattle.shop_states.specs.inner.Raises.{HasBlocks, IsOnMachine, IsRaisable, Raises}
 use Rattle.shop_states.specs.inner.Watchers.{AreKnown, Sees}
 
+pub record CanNote {N : Type 0} (value : N → ℕ) (few : Bool) (ms : List ℕ) (raises : List (LaneRaise N))
+    (raised : List ℕ) : Type 0 where
+  pub known : AreKnown ms (length raises)
+  pub machines_fit : IsTrue few → length raises ≤ 64
+  pub listed : AreListed (raises_in value raises) raised
+
 pub record CanRaise (greatest : ℕ) (l : LayoutState) (nexts : List ℕ) (among : ℕ → Type 0) (e : ℕ)
-    (rows : Rows) (machines : ℕ) : Type 0 where
+    (rows : Rows) : Type 0 where
   pub fits : e ≤ greatest
   pub raisable : IsRaisable greatest l nexts rows among e
   pub jobs : length l.places ≤ length nexts
-  pub known : AreKnown l.machines machines
 
 pub record CanDelay (greatest : ℕ) (l : LayoutState) (nexts : List ℕ) (rows : Rows) (d : Dispatch) : Type 0 where
   pub machine : HasBlocks l (length rows.heads) d.machine

@@ -5,6 +5,7 @@
 --                                    no earlier than an operation there ends that begins at e
 --     CanRaiseBehind greatest l ..   some heads that are raised so fit into lanes
 --     RaisesBehind l at old new      heads are raised so, and as little as that allows
+--     HasRaisedBehind l at ..        heads are raised so, and how far they rose is noted for listed machines
 --     IsEndAt p e                    the machine of position p alone counts, free from e on
 --     job_at cs i                    the job of candidate i
 --     IsAmong cs j                   one of the candidates is job j
@@ -31,7 +32,8 @@ use Rattle.shop_layout.specs.{Lanes.lanes_on, Positions.{LayoutState, place}}
 use Rattle.shop_states.specs.inner.Raises.{AreInRouteOrder, IsFollowed, IsInBlocks, IsIndexed, IsPlace, at_in, steps_of}
 use Rattle.shop_states.specs.{declared.siblings.LateMachine.LateMachine, declared.dispatching.Candidate.Candidate}
 use Rattle.shop_states.specs.{inner.HeadRaises.{Raise, raise_of}, declared.siblings.Latest.Latest}
-use Rattle.shop_states.specs.{inner.LaneStates.IsKeptInLanes, inner.MachineRaises.AreEmpty}
+use Rattle.shop_states.specs.inner.Watchers.{Watches, no_floor}
+use Rattle.shop_states.specs.{inner.LaneStates.IsKeptInLanes, inner.MachineRaises.{AreEmpty, AreListed}}
 
 pub record IsRaisedBehind (l : LayoutState) (at : ℕ → ℕ → Type 0) (old new : ℕ → ℕ) : Type 0 where
   pub rises : (q : ℕ) → old q ≤ new q
@@ -62,6 +64,12 @@ pub record RaisesBehind (l : LayoutState) (at : ℕ → ℕ → Type 0) (old new
   pub times : new.times ≡ old.times
   pub tails : new.tails ≡ old.tails
   pub ends : new.ends ≡ old.ends
+
+pub record HasRaisedBehind (l : LayoutState) (at : ℕ → ℕ → Type 0) (old new : Rows) (before after : List Raise)
+    (raised : List ℕ) : Type 0 where
+  pub raises : RaisesBehind l at old new
+  pub noted : Watches no_floor l.machines old.heads new.heads before after
+  pub listed : AreListed after raised
 
 abbrev pub IsEndAt : ℕ → ℕ → ℕ → ℕ → Type 0
 IsEndAt p free q e = (q ≡ p) × (e ≡ free)

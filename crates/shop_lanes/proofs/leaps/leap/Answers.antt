@@ -27,8 +27,7 @@ returns-then-bound-limit g c = leaps_reached (leap c.loop-settled.invariant c.lo
     (c.loop-settled.settled + 1) c.nearest_of-ahead.result c.args.range.upto c.requires.can.below
     c.nearest_of-ahead.ensures (let near = c.if-ahead-upto.false in let left = c.loop-settled-test.true in omega arith))
     c.loop-settled-test.true (let near = c.if-ahead-upto.false in let left = c.loop-settled-test.true in omega arith)
-    c.requires.can.below c.max-bound.result (search rules))
-    c.args.limit c.if-bound-limit.true
+    c.requires.can.below c.max-bound.result (search rules)) c.args.limit c.if-bound-limit.true
 
 pub loop-settled-preserved : goal.loop-settled-preserved
 loop-settled-preserved g c = leap c.loop-settled.invariant c.load_of-load.ensures g.B.Block.GREATEST

@@ -1,11 +1,13 @@
-use Rattle.shop_lanes.proofs.ColumnTurns.{columns_in, parts, both_fit, served_more, heads_long, times_long, tails_long}
+use Rattle.std.proofs.Common.{arith}
+use Rattle.std.proofs.lemmas.List.{length-map}
+use Rattle.shop_lanes.proofs.BlockMasks.{length-block}
+use Rattle.shop_lanes.proofs.ColumnTurns.{columns_in, parts, both_fit, served_more}
 use Rattle.shop_lanes.proofs.OwnColumns.{note_more}
 use Rattle.shop_lanes.proofs.owning.note_columns.Goals as goal
 
 pub serve-after-requires-clause-fits : goal.serve-after-requires-clause-fits
 serve-after-requires-clause-fits g c =
-    let cols = columns_in g.B.Block.value c.args.rows.now c.args.count c.requires.count
-    c.requires.can.whole_blocks
+    let cols = columns_in g.B.Block.value c.args.rows.now c.args.count c.requires.count c.requires.can.whole_blocks
     in let fit = both_fit cols (parts cols) 1 c.loop-block-test.true c.load.ensures c.load-in-loop-block.ensures
     c.load-in-loop-block-2.ensures c.splat-one.ensures c.loop-block.invariant.served g.B.Block.GREATEST
     c.requires.can.fits.whole
@@ -13,30 +15,17 @@ serve-after-requires-clause-fits g c =
 
 pub loop-block-preserved : goal.loop-block-preserved
 loop-block-preserved g c =
-    let cols = columns_in g.B.Block.value c.args.rows.now c.args.count c.requires.count
-    c.requires.can.whole_blocks
+    let cols = columns_in g.B.Block.value c.args.rows.now c.args.count c.requires.count c.requires.can.whole_blocks
     in note_more c.loop-block-test.true c.loop-block.invariant c.store.ensures
     (served_more cols (parts cols) 1 c.loop-block-test.true c.load.ensures c.load-in-loop-block.ensures
     c.load-in-loop-block-2.ensures c.splat-one.ensures c.loop-block.invariant.served c.serve-after.ensures.clocks_are
     c.serve-after.ensures.most_are)
 
 pub serve-after-requires-clause-heads : goal.serve-after-requires-clause-heads
-serve-after-requires-clause-heads g c =
-    let cols = columns_in g.B.Block.value c.args.rows.now c.args.count c.requires.count
-    c.requires.can.whole_blocks
-    in heads_long cols (parts cols) 1 c.loop-block-test.true c.load.ensures c.load-in-loop-block.ensures
-    c.load-in-loop-block-2.ensures c.splat-one.ensures c.loop-block.invariant.served
+serve-after-requires-clause-heads g c = grind (arith, length-map, length-block)
 
 pub serve-after-requires-clause-times : goal.serve-after-requires-clause-times
-serve-after-requires-clause-times g c =
-    let cols = columns_in g.B.Block.value c.args.rows.now c.args.count c.requires.count
-    c.requires.can.whole_blocks
-    in times_long cols (parts cols) 1 c.loop-block-test.true c.load.ensures c.load-in-loop-block.ensures
-    c.load-in-loop-block-2.ensures c.splat-one.ensures c.loop-block.invariant.served
+serve-after-requires-clause-times g c = grind (arith, length-map, length-block)
 
 pub serve-after-requires-clause-tails : goal.serve-after-requires-clause-tails
-serve-after-requires-clause-tails g c =
-    let cols = columns_in g.B.Block.value c.args.rows.now c.args.count c.requires.count
-    c.requires.can.whole_blocks
-    in tails_long cols (parts cols) 1 c.loop-block-test.true c.load.ensures c.load-in-loop-block.ensures
-    c.load-in-loop-block-2.ensures c.splat-one.ensures c.loop-block.invariant.served
+serve-after-requires-clause-tails g c = grind (arith, length-map, length-block)

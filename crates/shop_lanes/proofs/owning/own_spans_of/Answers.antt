@@ -6,8 +6,7 @@ use Rattle.shop_lanes.proofs.owning.own_spans_of.Goals as goal
 
 pub sums_before-begins-requires-clause-fits : goal.sums_before-begins-requires-clause-fits
 sums_before-begins-requires-clause-fits g c =
-    let cols = columns_in g.B.Block.value c.args.rows.now c.args.count c.requires.count
-    c.requires.can.whole_blocks
+    let cols = columns_in g.B.Block.value c.args.rows.now c.args.count c.requires.count c.requires.can.whole_blocks
     in works_fit 1 cols c.note_columns-work.ensures.columns.clocks_are g.B.Block.GREATEST c.requires.can.fits.whole
 
 pub sum-ends-requires : goal.sum-ends-requires

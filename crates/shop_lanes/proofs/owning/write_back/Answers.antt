@@ -6,16 +6,14 @@ use Rattle.shop_lanes.proofs.owning.write_back.Goals as goal
 
 pub sum-requires : goal.sum-requires
 sum-requires g c =
-    let cols = columns_in g.B.Block.value c.args.rows.now c.args.count c.requires.count
-    c.requires.can.whole_blocks
+    let cols = columns_in g.B.Block.value c.args.rows.now c.args.count c.requires.count c.requires.can.whole_blocks
     in noted_fit cols c.requires.can.fits (c.loop-block.block - 1)
     (omega (arith, c.loop-block-test.true)) c.loop-block.invariant c.load-head.ensures c.load-time.ensures
     c.load-tail.ensures c.load-noted.ensures c.splat-one.ensures c.requires.ends.begins c.requires.ends.before
 
 pub greater-first-requires : goal.greater-first-requires
 greater-first-requires g c =
-    let cols = columns_in g.B.Block.value c.args.rows.now c.args.count c.requires.count
-    c.requires.can.whole_blocks
+    let cols = columns_in g.B.Block.value c.args.rows.now c.args.count c.requires.count c.requires.can.whole_blocks
     in ap length c.requires.ends.before ∙ sym (begun_long cols c.requires.can.fits (c.loop-block.block - 1)
     (omega (arith, c.loop-block-test.true)) c.loop-block.invariant c.load-head.ensures c.load-time.ensures
     c.load-tail.ensures c.load-noted.ensures c.splat-one.ensures c.requires.ends.begins c.requires.ends.before
@@ -23,26 +21,21 @@ greater-first-requires g c =
 
 pub own_ends-requires-clause-begins : goal.own_ends-requires-clause-begins
 own_ends-requires-clause-begins g c =
-    let cols = columns_in g.B.Block.value c.args.rows.now c.args.count c.requires.count
-    c.requires.can.whole_blocks
-    in begins_fit cols c.requires.can.fits (c.loop-block.block - 1)
-    (omega (arith, c.loop-block-test.true)) c.loop-block.invariant c.load-head.ensures c.load-time.ensures
-    c.load-tail.ensures c.load-noted.ensures c.splat-one.ensures c.requires.ends.begins c.requires.ends.before
-    c.sum.ensures c.greater-first.ensures
+    let cols = columns_in g.B.Block.value c.args.rows.now c.args.count c.requires.count c.requires.can.whole_blocks
+    in begins_fit cols c.requires.can.fits (c.loop-block.block - 1) (omega (arith, c.loop-block-test.true))
+    c.loop-block.invariant c.load-head.ensures c.load-time.ensures c.load-tail.ensures c.load-noted.ensures
+    c.splat-one.ensures c.requires.ends.begins c.requires.ends.before c.sum.ensures c.greater-first.ensures
 
 pub own_ends-requires-clause-ends : goal.own_ends-requires-clause-ends
 own_ends-requires-clause-ends g c =
-    let cols = columns_in g.B.Block.value c.args.rows.now c.args.count c.requires.count
-    c.requires.can.whole_blocks
-    in ends_fit cols c.requires.can.fits (c.loop-block.block - 1)
-    (omega (arith, c.loop-block-test.true)) c.loop-block.invariant c.load-head.ensures c.load-time.ensures
-    c.load-tail.ensures c.load-noted.ensures c.splat-one.ensures c.requires.ends.begins c.requires.ends.before
-    c.sum.ensures c.greater-first.ensures
+    let cols = columns_in g.B.Block.value c.args.rows.now c.args.count c.requires.count c.requires.can.whole_blocks
+    in ends_fit cols c.requires.can.fits (c.loop-block.block - 1) (omega (arith, c.loop-block-test.true))
+    c.loop-block.invariant c.load-head.ensures c.load-time.ensures c.load-tail.ensures c.load-noted.ensures
+    c.splat-one.ensures c.requires.ends.begins c.requires.ends.before c.sum.ensures c.greater-first.ensures
 
 pub store-requires-clause-eight : goal.store-requires-clause-eight
 store-requires-clause-eight g c =
-    let cols = columns_in g.B.Block.value c.args.rows.now c.args.count c.requires.count
-    c.requires.can.whole_blocks
+    let cols = columns_in g.B.Block.value c.args.rows.now c.args.count c.requires.count c.requires.can.whole_blocks
     in ap length (own_eight cols c.requires.can.fits (c.loop-block.block - 1)
     (omega (arith, c.loop-block-test.true)) c.loop-block.invariant c.load-head.ensures c.load-time.ensures
     c.load-tail.ensures c.load-noted.ensures c.splat-one.ensures c.requires.ends.begins c.requires.ends.before
@@ -50,8 +43,7 @@ store-requires-clause-eight g c =
 
 pub sum-late-requires : goal.sum-late-requires
 sum-late-requires g c =
-    let cols = columns_in g.B.Block.value c.args.rows.now c.args.count c.requires.count
-    c.requires.can.whole_blocks
+    let cols = columns_in g.B.Block.value c.args.rows.now c.args.count c.requires.count c.requires.can.whole_blocks
     in tails_fit cols c.requires.can.fits (c.loop-block.block - 1)
     (omega (arith, c.loop-block-test.true)) c.loop-block.invariant c.load-head.ensures c.load-time.ensures
     c.load-tail.ensures c.load-noted.ensures c.splat-one.ensures c.requires.ends.begins c.requires.ends.before
@@ -59,8 +51,7 @@ sum-late-requires g c =
 
 pub greater-behind-requires : goal.greater-behind-requires
 greater-behind-requires g c =
-    let cols = columns_in g.B.Block.value c.args.rows.now c.args.count c.requires.count
-    c.requires.can.whole_blocks
+    let cols = columns_in g.B.Block.value c.args.rows.now c.args.count c.requires.count c.requires.can.whole_blocks
     in c.loop-block.invariant.behind_long ∙ sym (ap length (late_eight cols c.requires.can.fits (c.loop-block.block - 1)
     (omega (arith, c.loop-block-test.true)) c.loop-block.invariant c.load-head.ensures c.load-time.ensures
     c.load-tail.ensures c.load-noted.ensures c.splat-one.ensures c.requires.ends.begins c.requires.ends.before
@@ -68,40 +59,32 @@ greater-behind-requires g c =
 
 pub less-clocks-requires : goal.less-clocks-requires
 less-clocks-requires g c =
-    let cols = columns_in g.B.Block.value c.args.rows.now c.args.count c.requires.count
-    c.requires.can.whole_blocks
+    let cols = columns_in g.B.Block.value c.args.rows.now c.args.count c.requires.count c.requires.can.whole_blocks
     in ap length c.loop-block.invariant.clocks_are ∙ sym (ap length
-    (served_eight cols c.requires.can.fits (c.loop-block.block - 1)
-    (omega (arith, c.loop-block-test.true)) c.loop-block.invariant c.load-head.ensures c.load-time.ensures
-    c.load-tail.ensures c.load-noted.ensures c.splat-one.ensures c.requires.ends.begins c.requires.ends.before
-    c.sum.ensures c.greater-first.ensures
+    (served_eight cols c.requires.can.fits (c.loop-block.block - 1) (omega (arith, c.loop-block-test.true))
+    c.loop-block.invariant c.load-head.ensures c.load-time.ensures c.load-tail.ensures c.load-noted.ensures
+    c.splat-one.ensures c.requires.ends.begins c.requires.ends.before c.sum.ensures c.greater-first.ensures
     c.waiting-in-loop-block.ensures))
 
 pub loop-block-preserved : goal.loop-block-preserved
 loop-block-preserved g c =
-    let cols = columns_in g.B.Block.value c.args.rows.now c.args.count c.requires.count
-    c.requires.can.whole_blocks
-    in back_more cols c.requires.can.fits (c.loop-block.block - 1)
-    (omega (arith, c.loop-block-test.true)) c.loop-block.invariant c.load-head.ensures c.load-time.ensures
-    c.load-tail.ensures c.load-noted.ensures c.splat-one.ensures c.requires.ends.begins c.requires.ends.before
-    c.sum.ensures c.greater-first.ensures
+    let cols = columns_in g.B.Block.value c.args.rows.now c.args.count c.requires.count c.requires.can.whole_blocks
+    in back_more cols c.requires.can.fits (c.loop-block.block - 1) (omega (arith, c.loop-block-test.true))
+    c.loop-block.invariant c.load-head.ensures c.load-time.ensures c.load-tail.ensures c.load-noted.ensures
+    c.splat-one.ensures c.requires.ends.begins c.requires.ends.before c.sum.ensures c.greater-first.ensures
     c.own_ends.ensures c.waiting.ensures c.sum-late.ensures c.waiting-in-loop-block.ensures c.store.ensures
-    c.greater-behind.ensures
-    c.less-clocks.ensures
+    c.greater-behind.ensures c.less-clocks.ensures
 
 pub own_ends-requires-clause-before : goal.own_ends-requires-clause-before
 own_ends-requires-clause-before g c =
-    let cols = columns_in g.B.Block.value c.args.rows.now c.args.count c.requires.count
-    c.requires.can.whole_blocks
-    in first_long cols c.requires.can.fits (c.loop-block.block - 1)
-    (omega (arith, c.loop-block-test.true)) c.loop-block.invariant c.load-head.ensures c.load-time.ensures
-    c.load-tail.ensures c.load-noted.ensures c.splat-one.ensures c.requires.ends.begins c.requires.ends.before
-    c.sum.ensures c.greater-first.ensures
+    let cols = columns_in g.B.Block.value c.args.rows.now c.args.count c.requires.count c.requires.can.whole_blocks
+    in first_long cols c.requires.can.fits (c.loop-block.block - 1) (omega (arith, c.loop-block-test.true))
+    c.loop-block.invariant c.load-head.ensures c.load-time.ensures c.load-tail.ensures c.load-noted.ensures
+    c.splat-one.ensures c.requires.ends.begins c.requires.ends.before c.sum.ensures c.greater-first.ensures
 
 pub waiting-requires-in-loop-block-clause-heads : goal.waiting-requires-in-loop-block-clause-heads
 waiting-requires-in-loop-block-clause-heads g c =
-    let cols = columns_in g.B.Block.value c.args.rows.now c.args.count c.requires.count
-    c.requires.can.whole_blocks
+    let cols = columns_in g.B.Block.value c.args.rows.now c.args.count c.requires.count c.requires.can.whole_blocks
     in heads_eight_long cols c.requires.can.fits (c.loop-block.block - 1)
     (omega (arith, c.loop-block-test.true)) c.loop-block.invariant c.load-head.ensures c.load-time.ensures
     c.load-tail.ensures c.load-noted.ensures c.splat-one.ensures c.requires.ends.begins c.requires.ends.before

@@ -1,15 +1,47 @@
-use Rattle.std.proofs.Common.{arith, sym, rules, map}
+use Rattle.std.proofs.Common.{arith, length, map}
 use Rattle.std.proofs.lemmas.List.{length-map}
-use Rattle.shop_lanes.specs.Ends.{IsFirstLeast}
+use Rattle.shop_lanes.proofs.BlockMasks.{least_found, position_in_block, none_in_block}
 use Rattle.shop_lanes.proofs.Extremes.{least_le_top}
-use Rattle.shop_lanes.proofs.BlockMasks.{first_of_least}
 use Rattle.shop_lanes.proofs.passes.first_least_of_any.Goals as goal
 
-pub position_of-requires-clause-fits : goal.position_of-requires-clause-fits
-position_of-requires-clause-fits g c = grind (arith, least_le_top)
+pub bits_equal-bits-requires-clause-fits : goal.bits_equal-bits-requires-clause-fits
+bits_equal-bits-requires-clause-fits g c = grind (arith, least_le_top)
+
+pub overflow_add-result : goal.overflow_add-result
+overflow_add-result g c =
+    let test = c.loop-block-test.true
+    in let long = length-map c.args.numbers.now g.B.Block.value
+    in let found = position_in_block c.least_number-least.result c.loop-block.block
+    (map g.B.Block.value c.args.numbers.now) (omega (arith, long)) c.loop-block.invariant c.load.ensures
+    c.bits_equal-bits.ensures c.if-bits-ne0.true
+    in let within = found.within
+    in let room = c.requires.room
+    in record { fits = omega (arith, long) }
+
+pub returns-then-bits-ne0 : goal.returns-then-bits-ne0
+returns-then-bits-ne0 g c =
+    let test = c.loop-block-test.true
+    in let row = map g.B.Block.value c.args.numbers.now
+    in let long = length-map c.args.numbers.now g.B.Block.value
+    in least_found g.B.Block.GREATEST row c.least_number-least.result _ (omega (arith, long, c.requires.some))
+    c.requires.fits c.least_number-least.ensures (position_in_block c.least_number-least.result c.loop-block.block row
+    (omega (arith, long)) c.loop-block.invariant c.load.ensures c.bits_equal-bits.ensures c.if-bits-ne0.true)
+
+pub loop-block-preserved : goal.loop-block-preserved
+loop-block-preserved g c =
+    let test = c.loop-block-test.true
+    in none_in_block c.least_number-least.result c.loop-block.block (map g.B.Block.value c.args.numbers.now)
+    (omega (arith, length-map c.args.numbers.now g.B.Block.value)) c.loop-block.invariant c.load.ensures
+    c.bits_equal-bits.ensures c.if-bits-ne0.false
 
 pub returns : goal.returns
 returns g c =
-    let first : IsFirstLeast (map g.B.Block.value c.args.numbers.now) c.position_of.result =
-    search (rules, first_of_least, length-map)
-    in record { first = first; least = sym (c.position_of.ensures.found first.within) }
+    let past = c.loop-block-test.false
+    in let long = length-map c.args.numbers.now g.B.Block.value
+    in least_found g.B.Block.GREATEST (map g.B.Block.value c.args.numbers.now) c.least_number-least.result
+    (length c.args.numbers.now) (omega (arith, long, c.requires.some)) c.requires.fits c.least_number-least.ensures
+    (record {
+      within = omega (arith, long);
+      found = λ lt. absurd (omega (arith, long));
+      first = λ k lt. c.loop-block.invariant k (omega (arith, c.requires.whole_blocks));
+    })

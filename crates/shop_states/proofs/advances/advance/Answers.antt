@@ -36,6 +36,5 @@ returns-clause-state g c = λ shop w kept fits.
     ∙ length-set c.as_mut_slice-next.result.now _ _
     in let whole = written_vec c.args.state.now.next c.as_mut_slice-next.result.now c.go_on.new.next
     c.as_mut_slice-next.ensures.value long
-    in rw whole (trial_kept kept c.args.dispatch.job fits c.requires.is.position_is
-    c.requires.is.machine_is c.requires.is.end_is c.set_head.ensures.heads c.set_head.ensures.ends
-    raised on.are_next on.ends)
+    in rw whole (trial_kept kept c.args.dispatch.job fits c.requires.is.position_is c.requires.is.machine_is
+    c.requires.is.end_is c.set_head.ensures.heads c.set_head.ensures.ends raised on.are_next on.ends)

@@ -17,36 +17,27 @@ raise-raised-requires-clause-known g c = λ q here.
     let a = c.requires.can.is.kept.kept.laid.machines_at.known q here
     in let b = c.requires.can.machines_are in omega arith
 
-pub take_bound-bound-requires-clause-fits : goal.take_bound-bound-requires-clause-fits
-take_bound-bound-requires-clause-fits g c =
-    let raised = rw c.as_mut_slice-next.ensures.value at c.raise-raised.ensures
-    in trial_raises_fit c.requires.can.is.kept c.args.dispatch.job c.requires.can.is.fits c.requires.is.position_is
-    c.requires.is.machine_is c.requires.is.end_is
-    c.set_head.ensures.heads c.set_head.ensures.ends raised.raises c.requires.at_rest
-    c.requires.can.machines_are raised.seen
-
-pub take_bound-bound-requires-clause-under : goal.take_bound-bound-requires-clause-under
-take_bound-bound-requires-clause-under g c =
+pub take_bound-bound-requires-clause-can : goal.take_bound-bound-requires-clause-can
+take_bound-bound-requires-clause-can g c =
     let raised = rw c.as_mut_slice-next.ensures.value at c.raise-raised.ensures
     in let now = now_heads c.requires.can.is.kept c.args.dispatch.job c.requires.can.is.fits c.requires.is.position_is
-    c.requires.is.machine_is c.requires.is.end_is
-    c.set_head.ensures.heads c.set_head.ensures.ends raised.raises
-    in trial_under c.requires.can.is c.args.ceilings.now c.requires.can.ceilings_are now c.raise-raised.new.self
-    (trial_raises_fit c.requires.can.is.kept c.args.dispatch.job c.requires.can.is.fits c.requires.is.position_is
-    c.requires.is.machine_is c.requires.is.end_is
-    c.set_head.ensures.heads c.set_head.ensures.ends raised.raises c.requires.at_rest
-    c.requires.can.machines_are raised.seen)
-    (raised.machines ∙ c.requires.can.machines_are)
+    c.requires.is.machine_is c.requires.is.end_is c.set_head.ensures.heads c.set_head.ensures.ends raised.raises
+    in let fits = trial_raises_fit c.requires.can.is.kept c.args.dispatch.job c.requires.can.is.fits
+    c.requires.is.position_is c.requires.is.machine_is c.requires.is.end_is c.set_head.ensures.heads
+    c.set_head.ensures.ends raised.raises c.requires.at_rest c.requires.can.machines_are raised.seen
+    in record {
+      can = record { listed = raised.listed; times = grind arith; tails = grind arith; fits = fits };
+      under = trial_under c.requires.can.is c.args.ceilings.now c.requires.can.ceilings_are now c.raise-raised.new.self
+          fits (raised.machines ∙ c.requires.can.machines_are);
+    }
 
 pub returns-then-range-bound-clause-told : goal.returns-then-range-bound-clause-told
 returns-then-range-bound-clause-told g c = λ shop w is.
     let raised = rw c.as_mut_slice-next.ensures.value at c.raise-raised.ensures
     in let many = c.requires.can.machines_are ∙ same_machines c.requires.can.is.kept.kept.laid is.kept.kept.laid
-    in let most = (trial_bound is.kept c.args.dispatch.job is.fits c.requires.is.position_is
-    c.requires.is.machine_is c.requires.is.end_is c.set_head.ensures.heads c.set_head.ensures.ends
-    raised.raises c.requires.at_rest many
-    raised.seen is.foreseen c.take_bound-bound.ensures.least c.take_bound-bound.ensures.covers
-    c.take_bound-bound.ensures.within).at_most
+    in let most = (trial_bound is.kept c.args.dispatch.job is.fits c.requires.is.position_is c.requires.is.machine_is
+    c.requires.is.end_is c.set_head.ensures.heads c.set_head.ensures.ends raised.raises c.requires.at_rest many
+    raised.seen is.foreseen c.take_bound-bound.ensures).at_most
     in let reached = c.if-range-bound.true in omega arith
 
 pub go_on-requires-clause-job : goal.go_on-requires-clause-job
@@ -66,10 +57,8 @@ returns-clause-told g c = λ shop w is.
     in let many = c.requires.can.machines_are ∙ same_machines c.requires.can.is.kept.kept.laid is.kept.kept.laid
     in (
       (trial_bound is.kept c.args.dispatch.job is.fits c.requires.is.position_is
-          c.requires.is.machine_is c.requires.is.end_is c.set_head.ensures.heads c.set_head.ensures.ends
-          raised.raises c.requires.at_rest many
-          raised.seen is.foreseen c.take_bound-bound.ensures.least c.take_bound-bound.ensures.covers
-          c.take_bound-bound.ensures.within).exact c.if-range-bound.false,
+          c.requires.is.machine_is c.requires.is.end_is c.set_head.ensures.heads c.set_head.ensures.ends raised.raises
+          c.requires.at_rest many raised.seen is.foreseen c.take_bound-bound.ensures).exact c.if-range-bound.false,
       c.if-range-bound.false,
     )
 
@@ -81,6 +70,5 @@ returns-clause-state g c = λ shop w kept fits.
     ∙ length-set c.as_mut_slice-next.result.now _ _
     in let whole = written_vec c.args.state.now.next c.as_mut_slice-next.result.now c.go_on.new.next
     c.as_mut_slice-next.ensures.value long
-    in rw whole (trial_kept kept c.args.dispatch.job fits c.requires.is.position_is
-    c.requires.is.machine_is c.requires.is.end_is c.set_head.ensures.heads c.set_head.ensures.ends
-    raised.raises on.are_next on.ends)
+    in rw whole (trial_kept kept c.args.dispatch.job fits c.requires.is.position_is c.requires.is.machine_is
+    c.requires.is.end_is c.set_head.ensures.heads c.set_head.ensures.ends raised.raises on.are_next on.ends)

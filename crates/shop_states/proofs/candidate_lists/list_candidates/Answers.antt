@@ -1,44 +1,94 @@
-use Rattle.std.proofs.Common.{◌≡◌, ℕ, List, get_or, length, ◌∙◌, ap, refl, sym, subst, arith}
-use Rattle.shop_layout.specs.Lanes.{rows_of}
-use Rattle.shop_states.specs.inner.Raises.{HasBlocks}
-use Rattle.shop_states.proofs.Candidates.{choosable}
-use Rattle.shop_states.proofs.LaneConflicts.{chosen_at, chosen_in, chosen_job, is_conflict, none_open}
+use Rattle.std.proofs.Common.{◌≡◌, ◌*◌, List, [], ◌∷◌, ℕ, ap, get_or, length, map, refl, subst, sym, arith}
+use Rattle.shop_states.specs.inner.LaneChoices.{IsAlone}
+use Rattle.shop_states.proofs.ConflictSets.{all_told, can_list, sole, tells}
 use Rattle.shop_states.proofs.OwnSpans.{nobody}
 use Rattle.shop_states.proofs.candidate_lists.list_candidates.Goals as goal
 
-pub list_on_machine-requires-clause-chosen : goal.list_on_machine-requires-clause-chosen
-list_on_machine-requires-clause-chosen g c = λ shop w kept.
-    let l = c.args.grid.now
-    in let nexts = c.args.state.now.next.items
-    in let heads = g.L.StateLanes.heads c.args.state.now.lanes
-    in let ends = g.L.StateLanes.ends c.args.state.now.lanes
-    in let rows = rows_of l heads ends
-    in let r = c.first_least_end-chosen.result.0
-    in let is = c.first_least_end-chosen.ensures.job
-    in let can = choosable kept
-    in let next = ap (λ (xs : List ℕ). get_or xs r 0) c.as_slice-next.ensures.value
-    in let at = chosen_at can r is c.positions.ensures (let below = c.if-position-positions.false in omega arith)
-    in let read : get_or c.machines.result.now (get_or c.as_slice-next.result.now r 0) 0
-    ≡ get_or l.machines (get_or nexts r 0) 0 =
-    ap (λ (xs : List ℕ). get_or xs (get_or c.as_slice-next.result.now r 0) 0) c.machines.ensures
-    ∙ ap (λ (x : ℕ). get_or l.machines x 0) next
-    in let end = kept.ends.next r at.operation in let told = c.first_least_end-chosen.ensures.end in let fits = at.fits
-    in record {
-      known = grind (arith, chosen_job);
-      machine_is = read;
-      blocks = subst (λ (m : ℕ). HasBlocks l (length heads) m) (sym read) at.blocks;
-      fits = omega arith;
-      has = chosen_in can r is at.operation;
-      set = λ js are. is_conflict can r is at.operation (read ∙ at.machine_is) (omega arith) js are;
-    }
+pub returns-in_default-clause-are : goal.returns-in_default-clause-are
+returns-in_default-clause-are g c = λ shop w kept.
+    nobody kept (sym (c.in_default.ensures.is shop w kept)) c.args.limit refl c.clear.new.self.items
+    c.clear.ensures.items
 
-pub returns-then-position-positions-clause-are : goal.returns-then-position-positions-clause-are
-returns-then-position-positions-clause-are g c = λ shop w kept.
-    let can = choosable kept
-    in let next = ap (λ (xs : List ℕ). get_or xs c.first_least_end-chosen.result.0 0) c.as_slice-next.ensures.value
-    in nobody kept (none_open can c.first_least_end-chosen.result.0 c.first_least_end-chosen.ensures.job
-    c.positions.ensures (let past = c.if-position-positions.true in omega arith)) c.args.limit refl
-    c.clear.new.self.items c.clear.ensures.items
+pub blocks_of-from-requires-clause-small : goal.blocks_of-from-requires-clause-small
+blocks_of-from-requires-clause-small g c =
+    let small = (c.in-Some.ensures.is c.requires.can.shop c.requires.can.word c.requires.can.kept).blocks.small
+    in omega arith
 
-pub list_on_machine-requires-clause-small : goal.list_on_machine-requires-clause-small
-list_on_machine-requires-clause-small g c = grind arith
+pub blocks_of-from-requires-clause-known : goal.blocks_of-from-requires-clause-known
+blocks_of-from-requires-clause-known g c =
+    (c.in-Some.ensures.is c.requires.can.shop c.requires.can.word c.requires.can.kept).blocks.known
+
+pub overflow_sub-behind : goal.overflow_sub-behind
+overflow_sub-behind g c =
+    let a = c.blocks_of-from.ensures.first in let b = c.blocks_of-from.ensures.behind
+    in let d = (c.in-Some.ensures.is c.requires.can.shop c.requires.can.word c.requires.can.kept).blocks.ordered
+    in omega arith
+
+pub below-below-requires-clause-within : goal.below-below-requires-clause-within
+below-below-requires-clause-within g c =
+    let a = c.blocks_of-from.ensures.first in let b = c.blocks_of-from.ensures.behind
+    in let d = (c.in-Some.ensures.is c.requires.can.shop c.requires.can.word c.requires.can.kept).blocks.ordered
+    in let e = (c.in-Some.ensures.is c.requires.can.shop c.requires.can.word c.requires.can.kept).blocks.within
+    in let f = c.min.ensures in omega arith
+
+pub below-below-requires-clause-fits : goal.below-below-requires-clause-fits
+below-below-requires-clause-fits g c =
+    (c.in-Some.ensures.is c.requires.can.shop c.requires.can.word c.requires.can.kept).fits
+
+pub offset_bounds-next-first : goal.offset_bounds-next-first
+offset_bounds-next-first g c =
+    let known = (c.in-Some.ensures.is c.requires.can.shop c.requires.can.word c.requires.can.kept).known
+    in let few = c.requires.can.kept.kept.limits.jobs in let many = c.requires.can.kept.are_next.jobs in omega arith
+
+pub bounds-next-first : goal.bounds-next-first
+bounds-next-first g c =
+    let known = (c.in-Some.ensures.is c.requires.can.shop c.requires.can.word c.requires.can.kept).known
+    in let same = ap (λ (xs : List ℕ). length xs) c.as_slice-next.ensures.value in omega arith
+
+pub overflow_cast-job : goal.overflow_cast-job
+overflow_cast-job g c =
+    let known = (c.in-Some.ensures.is c.requires.can.shop c.requires.can.word c.requires.can.kept).known
+    in let few = c.requires.can.kept.kept.limits.jobs in let many = c.requires.can.kept.are_next.jobs in omega arith
+
+pub own_spans-requires : goal.own_spans-requires
+own_spans-requires g c =
+    let kept = c.requires.can.kept
+    in let can = tells kept (c.in-Some.ensures.is c.requires.can.shop c.requires.can.word kept)
+    c.blocks_of-from.ensures.first c.blocks_of-from.ensures.behind
+    in let chosen = c.in-Some.ensures.is c.requires.can.shop c.requires.can.word kept
+    in let holds = c.requires.owns c.in-Some.first.machine chosen.blocks.known
+    in let from = c.blocks_of-from.ensures.first in let behind = c.blocks_of-from.ensures.behind
+    in let times = kept.kept.laid.positions.times in let tails = kept.kept.laid.positions.tails
+    in let heads = kept.kept.heads.positions
+    in grind arith
+
+pub list_conflict_set-requires-clause-can : goal.list_conflict_set-requires-clause-can
+list_conflict_set-requires-clause-can g c =
+    let chosen = c.in-Some.ensures.is c.requires.can.shop c.requires.can.word c.requires.can.kept
+    in let a = c.blocks_of-from.ensures.first in let b = c.blocks_of-from.ensures.behind
+    in let d = chosen.blocks.ordered in let f = c.min.ensures
+    in can_list c.requires.can.kept chosen a b (omega arith) (omega arith) c.below-below.ensures
+    (let holds = c.requires.owns c.in-Some.first.machine chosen.blocks.known in let long = c.own_spans.ensures.long
+    in omega arith) c.first_end.ensures.small
+
+pub is_alone-requires : goal.is_alone-requires
+is_alone-requires g c =
+    let chosen = c.in-Some.ensures.is c.requires.can.shop c.requires.can.word c.requires.can.kept
+    in let a = c.blocks_of-from.ensures.first in let b = c.blocks_of-from.ensures.behind
+    in let d = chosen.blocks.ordered in let f = c.min.ensures
+    in (can_list c.requires.can.kept chosen a b (omega arith) (omega arith) c.below-below.ensures
+    {count = 8 * c.blocks_of-from.result.1} (omega arith) c.first_end.ensures.small).blocks_are
+
+pub returns-then-is_alone-clause-are : goal.returns-then-is_alone-clause-are
+returns-then-is_alone-clause-are g c = λ shop w kept.
+    let items : c.push_reserved.new.self.items ≡ record { job = c.in-Some.first.chosen; own = 0 } ∷ [] =
+    rw c.clear.ensures.items at c.push_reserved.ensures.items
+    in sole kept (c.in-Some.ensures.is shop w kept) c.blocks_of-from.ensures.first c.blocks_of-from.ensures.behind
+    (subst (λ (xs : List ℕ). IsAlone (g.L.StateLanes.heads c.args.state.now.lanes) c.blocks_of-from.result.0
+    c.blocks_of-from.result.1 c.in-Some.first.end (get_or xs c.in-Some.first.chosen 0))
+    c.as_slice-next.ensures.value (c.is_alone.ensures c.if-is_alone.true)) c.args.limit items
+
+pub returns-clause-are : goal.returns-clause-are
+returns-clause-are g c = λ shop w kept. all_told kept (c.in-Some.ensures.is shop w kept) c.blocks_of-from.ensures.first
+    c.blocks_of-from.ensures.behind (map g.L.StateLanes.value c.own_spans.new.owns) c.own_spans.ensures.owns
+    c.list_conflict_set.ensures.listed

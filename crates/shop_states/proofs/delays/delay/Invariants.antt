@@ -1,17 +1,13 @@
-use Rattle.std.proofs.Common.{◌≡◌, ◌+◌, ◌-◌, ◌≤◌, get_or, min}
+use Rattle.std.proofs.Common.{◌≡◌, ◌+◌, ◌-◌, get_or, min}
 use Rattle.shop_lanes.specs.Marks.{positions_among}
-use Rattle.shop_layout.specs.Lanes.{rows_of}
-use Rattle.shop_states.specs.inner.Raises.{IsInBlocks, Raises}
+use Rattle.shop_states.specs.inner.LaidLanes.{rows_in}
+use Rattle.shop_states.proofs.MarkedRaises.{AreBlocksRaised}
 use Rattle.shop_states.proofs.delays.delay.Given as goal
 
 abbrev pub invariant-loop-from : goal.invariant-loop-from
 invariant-loop-from g l = record {
-  ordered : get_or l.grid.blocks l.fn.dispatch.machine 0 ≤ l.from;
-  within : l.from ≤ get_or l.grid.blocks (l.fn.dispatch.machine + 1) 0;
-  raises : Raises g.L.StateLanes.GREATEST l.grid l.next (IsInBlocks (get_or l.grid.blocks l.fn.dispatch.machine 0)
-      l.from) l.fn.dispatch.end
-      (rows_of l.grid (g.L.StateLanes.heads l.fn.lanes) (g.L.StateLanes.ends l.fn.lanes))
-      (rows_of l.grid (g.L.StateLanes.heads l.lanes) (g.L.StateLanes.ends l.lanes));
+  raised : AreBlocksRaised g.L.StateLanes.GREATEST l.grid l.next l.fn.dispatch l.from
+      (rows_in g.L.StateLanes l.grid l.fn.lanes) (rows_in g.L.StateLanes l.grid l.lanes);
   marked : l.marks ≡ positions_among (g.L.StateLanes.heads l.lanes) l.from
       (min (l.from + 8) (get_or l.grid.blocks (l.fn.dispatch.machine + 1) 0)) l.fn.dispatch.end;
 }

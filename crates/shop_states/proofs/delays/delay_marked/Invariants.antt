@@ -1,12 +1,11 @@
 use Rattle.std.proofs.Common.{length}
-use Rattle.shop_layout.specs.Lanes.{rows_of}
+use Rattle.shop_states.specs.inner.LaidLanes.{rows_in}
 use Rattle.shop_states.proofs.RaiseLoops.{AreMarksRaised}
 use Rattle.shop_states.proofs.delays.delay_marked.Given as goal
 
 abbrev pub invariant-loop-position : goal.invariant-loop-position
 invariant-loop-position g l = AreMarksRaised g.L.StateLanes.GREATEST l.ahead.routes l.ahead.next.now l.fn.marks l.end
-    l.todo (rows_of l.ahead.routes (g.L.StateLanes.heads l.fn.lanes) (g.L.StateLanes.ends l.fn.lanes))
-    (rows_of l.ahead.routes (g.L.StateLanes.heads l.lanes) (g.L.StateLanes.ends l.lanes))
+    l.todo (rows_in g.L.StateLanes l.ahead.routes l.fn.lanes) (rows_in g.L.StateLanes l.ahead.routes l.lanes)
 
 abbrev pub decreases-loop-position : goal.decreases-loop-position
 decreases-loop-position g l = length l.todo

@@ -1,6 +1,5 @@
-use Rattle.std.proofs.Common.{◌+◌, ◌∙◌, ap, arith, length, refl, sym}
+use Rattle.std.proofs.Common.{◌+◌, ◌∙◌, arith, refl}
 use Rattle.shop_layout.specs.Lanes.{rows_of}
-use Rattle.shop_layout.specs.Positions.{LayoutState}
 use Rattle.shop_states.proofs.FillTurns.{filling_begins, filling_on, job_filled, leg_few, leg_fits, leg_machine_within}
 use Rattle.shop_states.proofs.FillTurns.{leg_there}
 use Rattle.shop_states.proofs.RaiseSteps.{put_is}
@@ -17,22 +16,19 @@ leg-leg-requires g c = leg_there c.requires.fill c.requires.of.known (c.loop-rou
 pub returns-then-position-end-clause-heads : goal.returns-then-position-end-clause-heads
 returns-then-position-end-clause-heads g c = λ j job s at. job_filled c.requires.fill job
     (c.loop-routes.invariant.filling j job s at) (c.routes-routes.ensures ∙ c.grid-grid.ensures.grid) c.leg-leg.ensures
-    (c.positions-end.ensures ∙ ap (λ (l : LayoutState). length l.following) (sym c.routes-routes.ensures))
-    c.if-position-end.true
+    (rw c.grid-grid.ensures.grid at c.positions-end.ensures) c.if-position-end.true
 
 pub bounds-free-leg : goal.bounds-free-leg
-bounds-free-leg g c = leg_machine_within c.requires.fill c.requires.of.known (c.loop-routes.invariant.filling
-    c.requires.of.job c.requires.of.known c.requires.of.some.placement c.requires.of.some.at)
-    (c.routes-routes.ensures ∙ c.grid-grid.ensures.grid) c.leg-leg.ensures
-    (c.positions-end.ensures ∙ ap (λ (l : LayoutState). length l.following) (sym c.routes-routes.ensures))
-    c.if-position-end.false c.requires.of.some.at
+bounds-free-leg g c = leg_machine_within c.requires.fill c.requires.of.known
+    (c.loop-routes.invariant.filling c.requires.of.job c.requires.of.known c.requires.of.some.placement
+    c.requires.of.some.at) (c.routes-routes.ensures ∙ c.grid-grid.ensures.grid) c.leg-leg.ensures (rw
+    c.grid-grid.ensures.grid at c.positions-end.ensures) c.if-position-end.false c.requires.of.some.at
 
 pub overflow_add-head : goal.overflow_add-head
 overflow_add-head g c =
     let fits = (leg_fits c.requires.fill c.requires.of.known (c.loop-routes.invariant.filling
-    c.requires.of.job c.requires.of.known c.requires.of.some.placement c.requires.of.some.at)
-    (c.routes-routes.ensures ∙ c.grid-grid.ensures.grid) c.leg-leg.ensures
-    (c.positions-end.ensures ∙ ap (λ (l : LayoutState). length l.following) (sym c.routes-routes.ensures))
+    c.requires.of.job c.requires.of.known c.requires.of.some.placement c.requires.of.some.at) (c.routes-routes.ensures ∙
+    c.grid-grid.ensures.grid) c.leg-leg.ensures (rw c.grid-grid.ensures.grid at c.positions-end.ensures)
     c.if-position-end.false c.requires.of.some.at c.max-head.ensures).0
     in let computable = c.requires.fill.computable in omega arith
 
@@ -41,17 +37,15 @@ set_head-requires-clause-in_range g c = grind arith
 
 pub set_head-requires-clause-fits : goal.set_head-requires-clause-fits
 set_head-requires-clause-fits g c = (leg_fits c.requires.fill c.requires.of.known (c.loop-routes.invariant.filling
-    c.requires.of.job c.requires.of.known c.requires.of.some.placement c.requires.of.some.at)
-    (c.routes-routes.ensures ∙ c.grid-grid.ensures.grid) c.leg-leg.ensures
-    (c.positions-end.ensures ∙ ap (λ (l : LayoutState). length l.following) (sym c.routes-routes.ensures))
+    c.requires.of.job c.requires.of.known c.requires.of.some.placement c.requires.of.some.at) (c.routes-routes.ensures ∙
+    c.grid-grid.ensures.grid) c.leg-leg.ensures (rw c.grid-grid.ensures.grid at c.positions-end.ensures)
     c.if-position-end.false c.requires.of.some.at c.max-head.ensures).0
 
 pub overflow_add-begin : goal.overflow_add-begin
 overflow_add-begin g c =
     let fits = (leg_fits c.requires.fill c.requires.of.known (c.loop-routes.invariant.filling
-    c.requires.of.job c.requires.of.known c.requires.of.some.placement c.requires.of.some.at)
-    (c.routes-routes.ensures ∙ c.grid-grid.ensures.grid) c.leg-leg.ensures
-    (c.positions-end.ensures ∙ ap (λ (l : LayoutState). length l.following) (sym c.routes-routes.ensures))
+    c.requires.of.job c.requires.of.known c.requires.of.some.placement c.requires.of.some.at) (c.routes-routes.ensures ∙
+    c.grid-grid.ensures.grid) c.leg-leg.ensures (rw c.grid-grid.ensures.grid at c.positions-end.ensures)
     c.if-position-end.false c.requires.of.some.at c.max-head.ensures).1
     in let computable = c.requires.fill.computable in omega arith
 
@@ -71,7 +65,7 @@ pub loop-routes-preserved : goal.loop-routes-preserved
 loop-routes-preserved g c = record {
   filling = λ j job s at. filling_on c.requires.fill job (c.loop-routes.invariant.filling j job s at)
       (c.routes-routes.ensures ∙ c.grid-grid.ensures.grid) c.leg-leg.ensures
-      (c.positions-end.ensures ∙ ap (λ (l : LayoutState). length l.following) (sym c.routes-routes.ensures))
+      (rw c.grid-grid.ensures.grid at c.positions-end.ensures)
       c.if-position-end.false at c.max-head.ensures (rows_of c.args.laid_out.now.layout
       (g.L.StateLanes.heads c.set_head.new.self) (g.L.StateLanes.ends c.set_head.new.self))
       (put_is c.args.laid_out.now.layout (g.L.StateLanes.heads c.loop-routes.lanes) c.leg-leg.result.position

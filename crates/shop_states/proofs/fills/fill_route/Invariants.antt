@@ -1,6 +1,6 @@
 use Rattle.std.proofs.Common.{◌≡◌, ℕ, ◌<◌, ◌-◌, length}
 use Rattle.shop_model.specs.Placements.{PlacementState}
-use Rattle.shop_layout.specs.Lanes.{rows_of}
+use Rattle.shop_states.specs.inner.LaidLanes.{rows_in}
 use Rattle.shop_layout.specs.Legs.{all_legs}
 use Rattle.shop_states.specs.inner.Fills.{IsAtLeg}
 use Rattle.shop_states.proofs.FillTurns.{IsFillingTo}
@@ -11,8 +11,7 @@ invariant-loop-routes g l = record {
   filling : (j : ℕ) → j < length l.laid_out.shop.jobs → (s : PlacementState)
       → IsAtLeg l.laid_out.shop l.laid_out.layout s j l.index l.ready l.free
       → IsFillingTo l.laid_out.shop l.laid_out.layout s j l.at l.begin
-      (rows_of l.laid_out.layout (g.L.StateLanes.heads l.fn.lanes) (g.L.StateLanes.ends l.fn.lanes))
-      (rows_of l.laid_out.layout (g.L.StateLanes.heads l.lanes) (g.L.StateLanes.ends l.lanes));
+      (rows_in g.L.StateLanes l.laid_out.layout l.fn.lanes) (rows_in g.L.StateLanes l.laid_out.layout l.lanes);
   ends : g.L.StateLanes.ends l.lanes ≡ g.L.StateLanes.ends l.fn.lanes;
 }
 

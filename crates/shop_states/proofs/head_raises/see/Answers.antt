@@ -14,9 +14,6 @@ returns-clause-raises g c = grind (arith, widened_in)
 pub returns-clause-listed : goal.returns-clause-listed
 returns-clause-listed g c =
     let many = length-map c.args.raises.now (raise_in g.L.StateLanes.value) in let known = c.requires.known
-    in subst (λ (rs : List Raise). AreListed rs c.put.new.self) (sym
-    (widened_in g.L.StateLanes.value c.args.raises.now
-    c.args.machine c.args.before c.args.after c.index-raises-machine.result c.with_head.result
-    c.requires.known c.index-raises-machine.is c.with_head.ensures))
+    in subst (λ (rs : List Raise). AreListed rs c.put.new.self) (sym (returns-clause-raises g c))
     (listed_more (raises_in g.L.StateLanes.value c.args.raises.now) c.args.raised.now c.put.new.self c.args.machine
     c.args.before c.args.after c.requires.listed (omega arith) c.put.ensures)

@@ -64,8 +64,7 @@ loop-machine-preserved g c =
           (elim c.kept_ceiling-ceiling.ensures [
             | inl kept ↦ (let covers = span.covers kept.0 in let is = kept.1 in omega arith)
             | inr high ↦ (let is = high.1 in omega arith)
-          ])
-          (omega arith) (omega arith) (let low = so.most m within in omega arith));
+          ]) (omega arith) (omega arith) (let low = so.most m within in omega arith));
       long = length-set c.loop-machine.ceilings m c.max.result ∙ c.loop-machine.invariant.long;
     }
 

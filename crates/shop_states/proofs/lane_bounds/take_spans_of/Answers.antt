@@ -40,12 +40,10 @@ loop-machine-preserved-then-not-is_under g c =
     in let left = c.loop-machine.invariant.left in let rows = c.rows-rows.ensures
     in let blocks = c.blocks_of-from.ensures
     in subst (λ (rs : List Raise). IsTakenSo c.args.least c.args.limit old on rs c.pop_first.new.self
-    c.span_of_rows-most.result) (sym c.take_raise-raise.ensures.empty)
-    (taken_more c.loop-machine.invariant c.in-Some.ensures (nothing_raised g.L.StateLanes.GREATEST) refl
-    (cut_span c.requires.can.can left c.in-Some.ensures blocks.first blocks.behind g.L.StateLanes.value
-    c.rows-rows.result rows.heads rows.times rows.tails c.blocks-then-not-is_under.ensures
-    c.take_raise-raise.ensures.raise
-    c.span_of_rows-most.ensures))
+    c.span_of_rows-most.result) (sym c.take_raise-raise.ensures.empty) (taken_more c.loop-machine.invariant
+    c.in-Some.ensures (nothing_raised g.L.StateLanes.GREATEST) refl (cut_span c.requires.can.can left c.in-Some.ensures
+    blocks.first blocks.behind g.L.StateLanes.value c.rows-rows.result rows.heads rows.times rows.tails
+    c.blocks-then-not-is_under.ensures c.take_raise-raise.ensures.raise c.span_of_rows-most.ensures))
 
 pub loop-machine-preserved : goal.loop-machine-preserved
 loop-machine-preserved g c =

@@ -1,5 +1,20 @@
-use Rattle.std.proofs.Common.{arith}
+use Rattle.std.proofs.Common.{rules, arith}
+use Rattle.shop_states.proofs.JobLegs.{first_small}
+use Rattle.shop_states.proofs.PlacedNexts.{begins_behind, none_at}
 use Rattle.shop_states.proofs.placing.place_none.Goals as goal
 
+pub overflow_cast-next_legs : goal.overflow_cast-next_legs
+overflow_cast-next_legs g c = grind (arith, first_small)
+
+pub overflow_add-first-in-loop-job : goal.overflow_add-first-in-loop-job
+overflow_add-first-in-loop-job g c =
+    let known = c.loop-job-test.true in let jobs = c.requires.next
+    in let behind = (begins_behind c.grid-grid.ensures.ready.limits c.grid-grid.ensures.ready.laid (omega arith)
+    c.grid-grid.ensures.grid c.places.ensures c.loop-job.invariant.first_is).1
+    in omega arith
+
+pub loop-job-preserved : goal.loop-job-preserved
+loop-job-preserved g c = search (rules, begins_behind)
+
 pub returns : goal.returns
-returns g c = grind arith
+returns g c = grind (arith, none_at)

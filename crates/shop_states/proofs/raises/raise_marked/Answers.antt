@@ -21,11 +21,14 @@ raise_from-requires-clause-can g c = record {
   raisable =
       popped_raisable c.requires.can.raisable c.loop-position.invariant.raised c.in-Some.ensures;
   jobs = c.requires.can.jobs;
-  known = λ q here. grind (arith, lengths_in);
 }
 
-pub raise_from-requires-clause-machines_fit : goal.raise_from-requires-clause-machines_fit
-raise_from-requires-clause-machines_fit g c = grind (arith, lengths_in)
+pub raise_from-requires-clause-note : goal.raise_from-requires-clause-note
+raise_from-requires-clause-note g c = record {
+  known = λ q here. grind (arith, lengths_in);
+  machines_fit = grind (arith, lengths_in);
+  listed = c.loop-position.invariant.listed;
+}
 
 pub loop-position-preserved-then-head-end : goal.loop-position-preserved-then-head-end
 loop-position-preserved-then-head-end g c =

@@ -1,5 +1,5 @@
 use Rattle.std.proofs.Common.{◌≡◌, length}
-use Rattle.shop_layout.specs.Lanes.{rows_of}
+use Rattle.shop_states.specs.inner.LaidLanes.{rows_in}
 use Rattle.shop_states.specs.inner.HeadRaises.{raises_in}
 use Rattle.shop_states.specs.inner.MachineRaises.{AreListed}
 use Rattle.shop_states.specs.inner.RisingLists.{IsIn}
@@ -10,8 +10,7 @@ use Rattle.shop_states.proofs.raises.raise_marked.Given as goal
 abbrev pub invariant-loop-position : goal.invariant-loop-position
 invariant-loop-position g l = record {
   raised : AreMarksRaised g.L.StateLanes.GREATEST l.ahead.routes l.ahead.next.now l.fn.marks l.end l.todo
-      (rows_of l.ahead.routes (g.L.StateLanes.heads l.fn.lanes) (g.L.StateLanes.ends l.fn.lanes))
-      (rows_of l.ahead.routes (g.L.StateLanes.heads l.lanes) (g.L.StateLanes.ends l.lanes));
+      (rows_in g.L.StateLanes l.ahead.routes l.fn.lanes) (rows_in g.L.StateLanes l.ahead.routes l.lanes);
   seen : Sees l.ahead.routes.machines (IsIn l.fn.marks) l.end (g.L.StateLanes.heads l.fn.lanes)
       (g.L.StateLanes.heads l.lanes) (raises_in g.L.StateLanes.value l.fn.raises)
       (raises_in g.L.StateLanes.value l.raises);

@@ -13,7 +13,7 @@ loop-ready-init g c = record {
   following = grind (arith, begun_following, put_is);
   seen = sees_first c.set_head.ensures.heads (raised_within c.requires.raisable c.requires.waits);
   noted = notes_first c.set_head.ensures.heads (raised_within c.requires.raisable c.requires.waits);
-  listed = c.requires.listed;
+  listed = c.requires.note.listed;
 }
 
 pub leg-leg-requires : goal.leg-leg-requires
@@ -52,7 +52,7 @@ see-requires-clause-known g c =
     in let machine = leg_machine c.requires.raisable c.requires.waits c.loop-ready.invariant.following
     c.leg-leg.ensures c.head_or_greatest-head.ensures c.if-ready-head.false
     in let machines = c.requires.raisable.machines
-    in let known = c.requires.known c.leg-leg.result.position (omega arith)
+    in let known = c.requires.note.known c.leg-leg.result.position (omega arith)
     in omega arith
 
 pub overflow_add-ready-in-loop-ready : goal.overflow_add-ready-in-loop-ready
@@ -76,7 +76,7 @@ loop-ready-preserved g c =
     c.leg-leg.ensures c.head_or_greatest-head.ensures c.if-ready-head.false
     in let machines = c.requires.raisable.machines
     in let long = c.loop-ready.invariant.following.walking.up_to.positions
-    in let known = c.requires.known c.leg-leg.result.position (omega arith)
+    in let known = c.requires.note.known c.leg-leg.result.position (omega arith)
     in let many = length-map c.args.raises.now (raise_in g.L.StateLanes.value)
     in record {
       following = followed c.requires.raisable c.requires.waits c.loop-ready.invariant.following c.leg-leg.ensures

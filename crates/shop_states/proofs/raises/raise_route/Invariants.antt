@@ -1,5 +1,5 @@
 use Rattle.std.proofs.Common.{◌-◌, length}
-use Rattle.shop_layout.specs.Lanes.{rows_of}
+use Rattle.shop_states.specs.inner.LaidLanes.{rows_in}
 use Rattle.shop_layout.specs.Legs.{all_legs}
 use Rattle.shop_states.specs.inner.HeadRaises.{raises_in}
 use Rattle.shop_states.specs.inner.Raises.{IsPosition}
@@ -11,8 +11,7 @@ use Rattle.shop_states.proofs.raises.raise_route.Given as goal
 abbrev pub invariant-loop-ready : goal.invariant-loop-ready
 invariant-loop-ready g l = record {
   following : IsFollowing g.L.StateLanes.GREATEST l.routes l.position l.end l.index l.ready
-      (rows_of l.routes (g.L.StateLanes.heads l.fn.lanes) (g.L.StateLanes.ends l.fn.lanes))
-      (rows_of l.routes (g.L.StateLanes.heads l.lanes) (g.L.StateLanes.ends l.lanes));
+      (rows_in g.L.StateLanes l.routes l.fn.lanes) (rows_in g.L.StateLanes l.routes l.lanes);
   seen : Sees l.routes.machines (IsPosition l.position) l.end
       (g.L.StateLanes.heads l.fn.lanes) (g.L.StateLanes.heads l.lanes) (raises_in g.L.StateLanes.value l.fn.raises)
       (raises_in g.L.StateLanes.value l.raises);

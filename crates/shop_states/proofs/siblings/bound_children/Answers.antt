@@ -1,4 +1,4 @@
-use Rattle.std.proofs.Common.{◌+◌, ◌∙◌, refl, arith}
+use Rattle.std.proofs.Common.{◌∙◌, refl, arith}
 use Rattle.shop_states.proofs.ChildrenBounds.{bound_small, children_can, children_known, children_settled}
 use Rattle.shop_states.proofs.ChildrenBounds.{late_raises_fit, machine_blocks}
 use Rattle.shop_states.proofs.LateHeads.{can_end}
@@ -55,43 +55,39 @@ pub take_ceilings-requires-clause-can : goal.take_ceilings-requires-clause-can
 take_ceilings-requires-clause-can g c =
     let latest = rw c.routes-routes.ensures at c.latest_of-latest.ensures
     in let on = rw c.routes-routes.ensures at c.machine-machine.ensures
-    in let raises = rw c.routes-routes.ensures at c.raise_late-raised.ensures.raises
-    in let noted = rw c.routes-routes.ensures at c.raise_late-raised.ensures.noted
+    in let late = rw c.routes-routes.ensures at c.raise_late-raised.ensures
     in let kept = c.requires.can.kept.kept
-    in let long = raises.positions in let heads = kept.heads.positions
+    in let long = late.raises.positions in let heads = kept.heads.positions
     in let times = kept.laid.positions.times in let tails = kept.laid.positions.tails
     in record {
       listed = c.raise_late-raised.ensures.listed;
       times = omega arith;
       tails = omega arith;
       fits = late_raises_fit c.requires.can.kept c.requires.can.siblings latest on c.blocks_of-from.ensures.first
-          c.blocks_of-from.ensures.behind raises c.requires.at_rest c.requires.can.machines_are noted;
+          c.blocks_of-from.ensures.behind late.raises c.requires.at_rest c.requires.can.machines_are late.noted;
     }
 
 pub returns-clause-known : goal.returns-clause-known
 returns-clause-known g c = λ shop w kept siblings bound_is i here.
     let latest = rw c.routes-routes.ensures at c.latest_of-latest.ensures
     in let on = rw c.routes-routes.ensures at c.machine-machine.ensures
-    in let raises = rw c.routes-routes.ensures at c.raise_late-raised.ensures.raises
-    in let noted = rw c.routes-routes.ensures at c.raise_late-raised.ensures.noted
+    in let late = rw c.routes-routes.ensures at c.raise_late-raised.ensures
     in children_known kept siblings latest on c.blocks_of-from.ensures.first c.blocks_of-from.ensures.behind
-    raises c.requires.at_rest (c.requires.can.machines_are ∙ same_machines c.requires.can.kept.kept.laid
-    kept.kept.laid) noted bound_is (c.take_ceilings.ensures.bounds (c.take_ceilings.result + 1) refl) i here
+    late.raises c.requires.at_rest (c.requires.can.machines_are ∙ same_machines c.requires.can.kept.kept.laid
+    kept.kept.laid) late.noted bound_is c.take_ceilings.ensures.bounds i here
 
 pub returns-clause-settled : goal.returns-clause-settled
 returns-clause-settled g c = λ shop w kept siblings bound_is i least here advancing enough.
     let latest = rw c.routes-routes.ensures at c.latest_of-latest.ensures
     in let on = rw c.routes-routes.ensures at c.machine-machine.ensures
-    in let raises = rw c.routes-routes.ensures at c.raise_late-raised.ensures.raises
-    in let noted = rw c.routes-routes.ensures at c.raise_late-raised.ensures.noted
+    in let late = rw c.routes-routes.ensures at c.raise_late-raised.ensures
     in let many = c.requires.can.machines_are ∙ same_machines c.requires.can.kept.kept.laid kept.kept.laid
     in children_settled kept siblings latest on c.blocks_of-from.ensures.first c.blocks_of-from.ensures.behind
-    raises c.requires.at_rest many noted bound_is (c.take_ceilings.ensures.bounds (c.take_ceilings.result + 1) refl)
+    late.raises c.requires.at_rest many late.noted bound_is c.take_ceilings.ensures.bounds
     (c.take_ceilings.ensures.long ∙ (c.requires.room ∙ many)) i least here advancing (omega arith)
 
 pub returns-clause-machines : goal.returns-clause-machines
-returns-clause-machines g c = (c.take_ceilings.ensures.bounds (c.take_ceilings.result + 1) refl).long
-    ∙ c.raise_late-raised.ensures.machines
+returns-clause-machines g c = c.take_ceilings.ensures.bounds.long ∙ c.raise_late-raised.ensures.noted.long
 
 pub returns-clause-positions : goal.returns-clause-positions
 returns-clause-positions g c = (rw c.routes-routes.ensures at c.raise_late-raised.ensures.raises).positions

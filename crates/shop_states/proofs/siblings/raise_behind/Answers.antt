@@ -22,12 +22,13 @@ leg-leg-requires g c = its_leg c.requires.can c.requires.waits c.behind.ensures.
 pub head_or_greatest-head-requires : goal.head_or_greatest-head-requires
 head_or_greatest-head-requires g c = leg_up_to c.requires.can c.requires.waits c.behind.ensures.index c.leg-leg.ensures
 
-pub returns-then-ready-head-clause-raises : goal.returns-then-ready-head-clause-raises
-returns-then-ready-head-clause-raises g c = late_enough c.requires.can c.requires.waits c.behind.ensures.index
-    c.leg-leg.ensures c.head_or_greatest-head.ensures (let time = c.time.ensures in omega arith) c.if-ready-head.true
-
-pub returns-then-ready-head-clause-noted : goal.returns-then-ready-head-clause-noted
-returns-then-ready-head-clause-noted g c = watch_none no_floor _ _ _
+pub returns-then-ready-head : goal.returns-then-ready-head
+returns-then-ready-head g c = record {
+  raises = late_enough c.requires.can c.requires.waits c.behind.ensures.index c.leg-leg.ensures
+      c.head_or_greatest-head.ensures (let time = c.time.ensures in omega arith) c.if-ready-head.true;
+  noted = watch_none no_floor _ _ _;
+  listed = c.requires.note.listed;
+}
 
 pub see-requires-clause-known : goal.see-requires-clause-known
 see-requires-clause-known g c =
@@ -38,7 +39,7 @@ see-requires-clause-known g c =
     in let machine = next_machine c.requires.can c.requires.waits c.behind.ensures.index c.leg-leg.ensures
     c.head_or_greatest-head.ensures (omega arith) c.if-ready-head.false
     in let machines = c.requires.can.machines
-    in let known = c.requires.known c.leg-leg.result.position (omega arith) in omega arith
+    in let known = c.requires.note.known c.leg-leg.result.position (omega arith) in omega arith
 
 pub see-requires-clause-fits : goal.see-requires-clause-fits
 see-requires-clause-fits g c = grind arith
@@ -56,18 +57,15 @@ raise_route-requires g c =
       below = omega arith;
       raisable = next_raisable c.requires.can c.requires.waits c.behind.ensures.index c.leg-leg.ensures
           c.head_or_greatest-head.ensures (omega arith) c.if-ready-head.false;
-      known = λ q here. let known = c.requires.known q here in omega arith;
-      machines_fit = λ fixed. (let few = c.requires.machines_fit fixed in omega arith);
-      listed = c.see.ensures.listed;
+      note = record {
+        known = λ q here. let known = c.requires.note.known q here in omega arith;
+        machines_fit = λ fixed. (let few = c.requires.note.machines_fit fixed in omega arith);
+        listed = c.see.ensures.listed;
+      };
     }
 
-pub returns-clause-raises : goal.returns-clause-raises
-returns-clause-raises g c = let time = c.time.ensures
-    in raised_behind c.requires.can c.requires.waits c.behind.ensures.index c.leg-leg.ensures
-    c.head_or_greatest-head.ensures (omega arith) c.if-ready-head.false c.raise_route.ensures.raises
-
-pub returns-clause-noted : goal.returns-clause-noted
-returns-clause-noted g c =
+pub returns : goal.returns
+returns g c =
     let time = c.time.ensures
     in let there = next_there c.requires.can c.requires.waits c.behind.ensures.index c.leg-leg.ensures
     c.head_or_greatest-head.ensures (omega arith) c.if-ready-head.false
@@ -77,8 +75,13 @@ returns-clause-noted g c =
     c.head_or_greatest-head.ensures (omega arith) c.if-ready-head.false
     in let many = length-map c.args.raises.now (raise_in g.L.StateLanes.value)
     in let machines = c.requires.can.machines
-    in let known = c.requires.known c.leg-leg.result.position (omega arith)
-    in noted_behind c.raise_route.ensures.noted c.raise_route.ensures.seen c.see.ensures.raises machine (omega arith)
-    (next_read c.requires.can c.requires.waits c.behind.ensures.index c.leg-leg.ensures
-    c.head_or_greatest-head.ensures (omega arith) c.if-ready-head.false)
-    (c.raise_route.ensures.raises.raised.raised.reach c.leg-leg.result.position refl waits)
+    in let known = c.requires.note.known c.leg-leg.result.position (omega arith)
+    in record {
+      raises = raised_behind c.requires.can c.requires.waits c.behind.ensures.index c.leg-leg.ensures
+          c.head_or_greatest-head.ensures (omega arith) c.if-ready-head.false c.raise_route.ensures.raises;
+      noted = noted_behind c.raise_route.ensures.noted c.raise_route.ensures.seen c.see.ensures.raises machine
+          (omega arith) (next_read c.requires.can c.requires.waits c.behind.ensures.index c.leg-leg.ensures
+          c.head_or_greatest-head.ensures (omega arith) c.if-ready-head.false)
+          (c.raise_route.ensures.raises.raised.raised.reach c.leg-leg.result.position refl waits);
+      listed = c.raise_route.ensures.listed;
+    }

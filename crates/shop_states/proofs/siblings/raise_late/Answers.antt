@@ -1,7 +1,8 @@
-use Rattle.std.proofs.Common.{◌∙◌, refl, arith}
+use Rattle.std.proofs.Common.{arith}
 use Rattle.shop_states.specs.inner.Watchers.{no_floor}
 use Rattle.shop_states.proofs.BehindRaises.{late_all, late_begins, late_can, late_ends, late_marked, late_on}
 use Rattle.shop_states.proofs.BehindRaises.{late_waits}
+use Rattle.shop_states.proofs.RaisedMachines.{lengths_in}
 use Rattle.shop_states.proofs.Watching.{watch_both, watch_none}
 use Rattle.shop_states.proofs.siblings.raise_late.Goals as goal
 
@@ -9,10 +10,11 @@ pub loop-from-init : goal.loop-from-init
 loop-from-init g c = record {
   ordered = omega arith;
   within = c.requires.can.ordered;
-  raises = late_begins c.args.late.from c.args.late.behind _ c.requires.can.can;
-  noted = watch_none no_floor _ _ _;
-  listed = c.requires.listed;
-  machines = refl;
+  so = record {
+    raises = late_begins c.args.late.from c.args.late.behind _ c.requires.can.can;
+    noted = watch_none no_floor _ _ _;
+    listed = c.requires.note.listed;
+  };
 }
 
 pub loop-position-init : goal.loop-position-init
@@ -20,10 +22,9 @@ loop-position-init g c =
     let so = c.loop-from.invariant in let low = so.ordered in let up = so.within in let more = c.min.ensures
     in let within = c.requires.can.within in let left = c.loop-from-test.true
     in record {
-      raises = late_marked so.raises low (omega arith) (omega arith) c.requires.can.second c.below-todo.ensures;
-      noted = so.noted;
-      listed = so.listed;
-      machines = so.machines;
+      raises = late_marked so.so.raises low (omega arith) (omega arith) c.requires.can.second c.below-todo.ensures;
+      noted = so.so.noted;
+      listed = so.so.listed;
     }
 
 pub raise_behind-requires-clause-waits : goal.raise_behind-requires-clause-waits
@@ -35,15 +36,20 @@ raise_behind-requires-clause-can g c =
     in late_can c.loop-position.invariant.raises c.in-Some.ensures c.free_at-free.ensures (omega arith)
     c.requires.can.can
 
+pub raise_behind-requires-clause-note : goal.raise_behind-requires-clause-note
+raise_behind-requires-clause-note g c = record {
+  known = λ q here. grind (arith, lengths_in);
+  machines_fit = grind (arith, lengths_in);
+  listed = c.loop-position.invariant.listed;
+}
+
 pub loop-position-preserved : goal.loop-position-preserved
 loop-position-preserved g c =
-    let so = c.loop-position.invariant
+    let so = c.loop-position.invariant in let more = c.raise_behind.ensures
     in record {
-      raises = late_on so.raises c.in-Some.ensures c.free_at-free.ensures c.raise_behind.ensures.raises;
-      noted = watch_both no_floor _ _ _ _ c.raise_behind.ensures.raises.raised.rises so.noted
-          c.raise_behind.ensures.noted;
-      listed = c.raise_behind.ensures.listed;
-      machines = c.raise_behind.ensures.machines ∙ so.machines;
+      raises = late_on so.raises c.in-Some.ensures c.free_at-free.ensures more.raises;
+      noted = watch_both no_floor _ _ _ _ more.raises.raised.rises so.noted more.noted;
+      listed = more.listed;
     }
 
 pub loop-from-preserved : goal.loop-from-preserved
@@ -53,12 +59,14 @@ loop-from-preserved g c =
     in record {
       ordered = omega arith;
       within = omega arith;
-      raises = late_all so.raises c.in_default.ensures.0;
-      noted = so.noted;
-      listed = so.listed;
-      machines = so.machines;
+      so = record { raises = late_all so.raises c.in_default.ensures.0; noted = so.noted; listed = so.listed };
     }
 
-pub returns-clause-raises : goal.returns-clause-raises
-returns-clause-raises g c = late_ends c.args.late.from (let up = c.loop-from.invariant.within
-    in let past = c.loop-from-test.false in omega arith) c.loop-from.invariant.raises
+pub returns : goal.returns
+returns g c =
+    let so = c.loop-from.invariant in let up = so.within in let past = c.loop-from-test.false
+    in record {
+      raises = late_ends c.args.late.from (omega arith) so.so.raises;
+      noted = so.so.noted;
+      listed = so.so.listed;
+    }

@@ -1,9 +1,9 @@
-use Rattle.std.proofs.Common.{◌≡◌, ◌≤◌, ◌-◌, length}
-use Rattle.shop_layout.specs.Lanes.{rows_of}
+use Rattle.std.proofs.Common.{◌≤◌, ◌-◌, length}
 use Rattle.shop_states.specs.inner.HeadRaises.{raises_in}
+use Rattle.shop_states.specs.inner.LaidLanes.{rows_in}
 use Rattle.shop_states.specs.inner.MachineRaises.{AreListed}
 use Rattle.shop_states.specs.inner.Raises.{IsInBlocks}
-use Rattle.shop_states.specs.inner.Siblings.{IsLateAt, RaisesBehind}
+use Rattle.shop_states.specs.inner.Siblings.{HasRaisedBehind, IsLateAt}
 use Rattle.shop_states.specs.inner.Watchers.{Watches, no_floor}
 use Rattle.shop_states.proofs.BehindRaises.{AreLateUpTo}
 use Rattle.shop_states.proofs.siblings.raise_late.Given as goal
@@ -12,14 +12,9 @@ abbrev pub invariant-loop-from : goal.invariant-loop-from
 invariant-loop-from g l = record {
   ordered : l.late.from ≤ l.from;
   within : l.from ≤ l.late.behind;
-  raises : RaisesBehind l.routes (IsLateAt (IsInBlocks l.late.from l.from) l.late.last l.late.latest.end
-      l.late.latest.second)
-      (rows_of l.routes (g.L.StateLanes.heads l.fn.lanes) (g.L.StateLanes.ends l.fn.lanes))
-      (rows_of l.routes (g.L.StateLanes.heads l.lanes) (g.L.StateLanes.ends l.lanes));
-  noted : Watches no_floor l.routes.machines (g.L.StateLanes.heads l.fn.lanes) (g.L.StateLanes.heads l.lanes)
-      (raises_in g.L.StateLanes.value l.fn.raises) (raises_in g.L.StateLanes.value l.raises);
-  listed : AreListed (raises_in g.L.StateLanes.value l.raises) l.raised;
-  machines : length l.raises ≡ length l.fn.raises;
+  so : HasRaisedBehind l.routes (IsLateAt (IsInBlocks l.late.from l.from) l.late.last l.late.latest.end
+      l.late.latest.second) (rows_in g.L.StateLanes l.routes l.fn.lanes) (rows_in g.L.StateLanes l.routes l.lanes)
+      (raises_in g.L.StateLanes.value l.fn.raises) (raises_in g.L.StateLanes.value l.raises) l.raised;
 }
 
 abbrev pub decreases-loop-from : goal.decreases-loop-from
@@ -28,12 +23,10 @@ decreases-loop-from g l = l.late.behind - l.from
 abbrev pub invariant-loop-position : goal.invariant-loop-position
 invariant-loop-position g l = record {
   raises : AreLateUpTo l.routes l.late.from l.to l.late.last l.late.latest.end l.late.latest.second l.todo
-      (rows_of l.routes (g.L.StateLanes.heads l.fn.lanes) (g.L.StateLanes.ends l.fn.lanes))
-      (rows_of l.routes (g.L.StateLanes.heads l.lanes) (g.L.StateLanes.ends l.lanes));
+      (rows_in g.L.StateLanes l.routes l.fn.lanes) (rows_in g.L.StateLanes l.routes l.lanes);
   noted : Watches no_floor l.routes.machines (g.L.StateLanes.heads l.fn.lanes) (g.L.StateLanes.heads l.lanes)
       (raises_in g.L.StateLanes.value l.fn.raises) (raises_in g.L.StateLanes.value l.raises);
   listed : AreListed (raises_in g.L.StateLanes.value l.raises) l.raised;
-  machines : length l.raises ≡ length l.fn.raises;
 }
 
 abbrev pub decreases-loop-position : goal.decreases-loop-position

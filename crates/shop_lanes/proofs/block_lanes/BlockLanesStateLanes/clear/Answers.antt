@@ -9,9 +9,8 @@ invariant_of-self g c =
     in let made = c.clear_row.new.row
     in let rest = drop (length made) self.row.items
     in let empty = is_empty g.B.Block.value g.B.Block.GREATEST self.positions self.jobs
-    (take self.row.len (made ++ rest))
-    (is_cleared g.B.Block.value g.B.Block.GREATEST self.positions self.jobs self.row.len
-    (length c.deref_mut.result.now) made rest (ap length c.deref_mut.ensures.value ∙ self.long)
+    (take self.row.len (made ++ rest)) (is_cleared g.B.Block.value g.B.Block.GREATEST self.positions self.jobs
+    self.row.len (length c.deref_mut.result.now) made rest (ap length c.deref_mut.ensures.value ∙ self.long)
     (sym c.deref_mut.ensures.len) c.clear_row.ensures)
     in record {
       room = (let a = empty.long in let b = self.long in let d = self.room in omega arith);

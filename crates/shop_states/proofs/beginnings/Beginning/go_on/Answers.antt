@@ -16,6 +16,5 @@ returns-clause-is g c =
     subst (λ (n : ℕ). take n c.write_front.new.row ≡ take to c.args.path.now)
     (length-take-le to c.args.path.now (omega arith)) c.write_front.ensures.front
     in gone_on c.args.laid_out.now.shop c.args.laid_out.now.layout c.args.self.now c.requires.is c.args.path.now
-    c.write_front.new.row to (omega arith)
-    (c.write_front.ensures.long ∙ ap length c.as_mut_slice-4.ensures.value) same
+    c.write_front.new.row to (omega arith) (c.write_front.ensures.long ∙ ap length c.as_mut_slice-4.ensures.value) same
     c.place_from.new.next_legs c.place_from.new.ready c.place_from.new.free c.place_from.ensures

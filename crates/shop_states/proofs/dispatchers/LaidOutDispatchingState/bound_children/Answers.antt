@@ -35,8 +35,7 @@ returns-clause-settled g c = λ w limit others of bound_is lists k d here enough
     c.as_slice.ensures.value of.kept
     in let candidate = (listed_at lists k d here).1
     in let advancing = candidate_advancing copied own.job candidate.fits own.own
-    (candidate_read c.grid.ensures.grid candidate) c.as_slice.result.now refl c.args.bound
-    (bound_there of bound_is)
+    (candidate_read c.grid.ensures.grid candidate) c.as_slice.result.now refl c.args.bound (bound_there of bound_is)
     (max c.args.bound own.own) refl
     in let its = subst (λ (j : ℕ). IsAdvancing g.L.StateLanes.GREATEST shop w c.grid.result.now
     (rows_of c.grid.result.now (g.L.StateLanes.heads c.copy_from.new.self) (g.L.StateLanes.ends c.copy_from.new.self))

@@ -10,8 +10,7 @@ of-dispatch-requires g c = search (rules, kept_read)
 pub advance_below-requires-clause-can : goal.advance_below-requires-clause-can
 advance_below-requires-clause-can g c = candidate_can c.grid-grid.ensures.grid c.of-dispatch.ensures.job
     c.requires.can.is.0.kept c.requires.can.is.1 (bound_there c.requires.can.is.0 c.requires.can.bound_is)
-    c.range_of-range.ensures.least
-    c.requires.scratch.machines
+    c.range_of-range.ensures.least c.requires.scratch.machines
     (λ rows heads times tails m here known later above. absurd (omega arith))
 
 pub returns-clause-told : goal.returns-clause-told

@@ -33,6 +33,5 @@ pub returns-clause-state : goal.returns-clause-state
 returns-clause-state g c = λ w of candidate.
     let copied = c.dispatch_in_copy-dispatch.ensures.copied
     in kept_on_some of _ _ _ c.advance_below.result (candidate_kept c.grid-grid.ensures.grid
-    c.dispatch_in_copy-dispatch.ensures.job
-    (kept_copied refl copied.heads_are copied.ends_are copied.nexts_are of.kept) candidate.fits
-    c.advance_below.result _ _ _ c.advance_below.ensures.state)
+    c.dispatch_in_copy-dispatch.ensures.job (kept_copied refl copied.heads_are copied.ends_are copied.nexts_are of.kept)
+    candidate.fits c.advance_below.result _ _ _ c.advance_below.ensures.state)

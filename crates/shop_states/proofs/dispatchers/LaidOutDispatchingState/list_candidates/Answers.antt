@@ -16,15 +16,13 @@ gathered : (greatest : ℕ) (shop : Shop) (l read : LayoutState) → read ≡ l 
     → (w : List ℕ) → IsKeptInLanes greatest shop w l (rows_of l heads ends) nexts
     → AreCandidatesOf shop w l limit cs others
 gathered greatest shop l read is heads ends nexts limit cs others are w kept =
-    subst (λ (x : LayoutState). AreCandidatesOf shop w x limit cs others) is
-    (are shop w (kept_read is refl kept))
+    subst (λ (x : LayoutState). AreCandidatesOf shop w x limit cs others) is (are shop w (kept_read is refl kept))
 
 pub list_candidates-requires-clause-can : goal.list_candidates-requires-clause-can
 list_candidates-requires-clause-can g c = grind (arith, kept_read)
 
 pub returns-clause-listed : goal.returns-clause-listed
 returns-clause-listed g c = λ w of. listed_there of (gathered g.L.StateLanes.GREATEST c.args.self.now.shop
-    c.args.self.now.layout
-    c.grid.result.now c.grid.ensures.grid (g.L.StateLanes.heads c.args.state.now.lanes)
+    c.args.self.now.layout c.grid.result.now c.grid.ensures.grid (g.L.StateLanes.heads c.args.state.now.lanes)
     (g.L.StateLanes.ends c.args.state.now.lanes) c.args.state.now.next.items c.args.limit
     c.list_candidates.new.candidates.items c.list_candidates.result c.list_candidates.ensures.are w of.kept)

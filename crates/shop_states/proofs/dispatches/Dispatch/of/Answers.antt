@@ -46,10 +46,9 @@ mark_below-delayed-requires-clause-fits g c =
     let x = get_or c.as_slice-next.result.now c.args.job 0
     in let time = ap (λ (l : LayoutState). get_or l.times x 0) c.routes-routes.ensures
     in let head = c.head.ensures in let its = c.time.ensures
-    in its_end c.requires.kept c.args.job c.requires.fits
-    (ap (λ (ns : List ℕ). get_or ns c.args.job 0) c.as_slice-next.ensures.value)
-    (c.machine-machine.ensures ∙ ap (λ (l : LayoutState). get_or l.machines x 0) c.routes-routes.ensures)
-    (omega arith)
+    in its_end c.requires.kept c.args.job c.requires.fits (ap (λ (ns : List ℕ). get_or ns c.args.job 0)
+    c.as_slice-next.ensures.value) (c.machine-machine.ensures ∙ ap (λ (l : LayoutState). get_or l.machines x 0)
+    c.routes-routes.ensures) (omega arith)
 
 pub overflow_add-end : goal.overflow_add-end
 overflow_add-end g c = search (rules, mark_below-delayed-requires-clause-fits)

@@ -18,9 +18,8 @@ returns-then-are_few c =
     ]
     in let bit = 1 * 2 ^ c.args.machine % 18446744073709551616
     in subst (λ (old : List ℕ). HasPut c.args.machine old
-    (machines_of (bit_or c.self.inside.low bit) c.self.inside.high))
-    c.self.view_is (put_low c.self.inside.low c.self.inside.high c.args.machine bit low
-    (one_shl c.args.machine 64 low))
+    (machines_of (bit_or c.self.inside.low bit) c.self.inside.high)) c.self.view_is (put_low c.self.inside.low
+    c.self.inside.high c.args.machine bit low (one_shl c.args.machine 64 low))
 
 pub invariant_of-self-2 : goal.invariant_of-self-2
 invariant_of-self-2 c = grind (arith, put_small)
@@ -30,6 +29,5 @@ returns c =
     let few = c.requires.known in let from = c.if-machine-lt64.false
     in let bit = 1 * 2 ^ (c.args.machine - 64) % 18446744073709551616
     in subst (λ (old : List ℕ). HasPut c.args.machine old
-    (machines_of c.self.inside.low (bit_or c.self.inside.high bit)))
-    c.self.view_is (put_high c.self.inside.low c.self.inside.high c.args.machine bit from few
-    (one_shl (c.args.machine - 64) 64 (omega arith)))
+    (machines_of c.self.inside.low (bit_or c.self.inside.high bit))) c.self.view_is (put_high c.self.inside.low
+    c.self.inside.high c.args.machine bit from few (one_shl (c.args.machine - 64) 64 (omega arith)))

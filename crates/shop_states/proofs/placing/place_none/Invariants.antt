@@ -1,7 +1,7 @@
 use Rattle.std.proofs.Common.{◌≡◌}
 use Rattle.shop_layout.specs.Legs.{leg_index}
-use Rattle.shop_states.specs.inner.PlacedNexts.{AreBegun}
-use Rattle.shop_states.proofs.placing.begin_jobs.Given as goal
+use Rattle.shop_states.proofs.PlacedNexts.{AreBegun}
+use Rattle.shop_states.proofs.placing.place_none.Given as goal
 
 abbrev pub invariant-loop-job : goal.invariant-loop-job
 invariant-loop-job g l = record {
