@@ -1,9 +1,6 @@
 // A crew whose workers claim pieces on a board.
-ghost use Rattle.std.specs.Thread.{IsSync};
-ghost use Rattle.std.specs.Prelude.{◌≡◌, ◌<◌, ◌≤◌, ◌↔◌, IsSome, IfSome, IfOk};
-ghost use Rattle.shop_runs.specs.declared.plans.TheConstants.{MAX_WORKERS};
-ghost use Rattle.shop_runs.specs.Entries.{told};
-ghost use Rattle.shop_runs.specs.Crews.{OneForEach};
+ghost use Rattle.std.specs.{Thread.IsSync, Prelude.{◌≡◌, ◌<◌, ◌≤◌, ◌↔◌, IsSome, IfSome, IfOk}};
+ghost use Rattle.shop_runs.specs.{declared.plans.TheConstants.MAX_WORKERS, Entries.told, Crews.OneForEach};
 
 use crate::board_search::search_claimed;
 use shop_runs::{Crew, Entry, Round, Workers};

@@ -1,12 +1,8 @@
 // Searches a round by workers that claim its pieces on a board.
 ghost use Rattle.std.specs.Prelude.{◌≡◌, length, vec_len, All, IfOk, OnOk};
-ghost use Rattle.shop_runs.specs.Entries.{told};
-ghost use Rattle.shop_runs.specs.Crews.{OneForEach};
-ghost use Rattle.shop_runs.specs.Hits.{hits_of_round};
-ghost use Rattle.shop_workers.specs.Views.{HasServed};
-ghost use Rattle.shop_workers.specs.Seats.{knows, hits_of, IsSeatOf};
-ghost use Rattle.shop_workers.specs.Works.{Grows, IsAllKnown, BringsWon};
-ghost use Rattle.shop_workers.specs.inner.Returns.{IsReturned, AreReturned};
+ghost use Rattle.shop_runs.specs.{Entries.told, Crews.OneForEach, Hits.hits_of_round};
+ghost use Rattle.shop_workers.specs.{Views.HasServed, Seats.{knows, hits_of, IsSeatOf}};
+ghost use Rattle.shop_workers.specs.{Works.{Grows, IsAllKnown, BringsWon}, inner.Returns.{IsReturned, AreReturned}};
 
 use crate::waiting::map_waiting;
 use shop_round::PieceSearcher;

@@ -1,7 +1,5 @@
 // Calls on threads that are made by a thread which computes nothing.
-ghost use Rattle.std.specs.Prelude.{◌≡◌, ◌∷◌, [], vec_len, IfOk};
-ghost use Rattle.std.specs.Fork.{AcceptsJobs, GivesJobs};
-ghost use Rattle.std.specs.Fork.Halves.{GivesFor};
+ghost use Rattle.std.specs.{Prelude.{◌≡◌, ◌∷◌, [], vec_len, IfOk}, Fork.{AcceptsJobs, GivesJobs}, Fork.Halves.GivesFor};
 ghost use denote.Param.Send.{IsSync, IsSend};
 
 use std::alloc::{AllocError as NoMemory, Global};

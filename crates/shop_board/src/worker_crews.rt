@@ -1,6 +1,5 @@
 // The crew that the program makes for a number of workers.
-ghost use Rattle.std.specs.Prelude.{◌≡◌};
-ghost use Rattle.std.specs.Thread.{IsSync};
+ghost use Rattle.std.specs.{Prelude.◌≡◌, Thread.IsSync};
 ghost use Rattle.shop_board.specs.Crews.{workers_of};
 
 use crate::board_crews::BoardCrew;

@@ -1,8 +1,7 @@
 // The verdict on a table: its makespan if it is feasible, else its first fault.
 ghost use Rattle.std.specs.Prelude.{◌≡◌, ℕ, ◌↔◌, IsTrue, IfOk};
-ghost use Rattle.shop_model.specs.Shop.{end_of};
+ghost use Rattle.shop_model.specs.{Shop.end_of, inner.FirstFaults.{TellsFirstEarly, TellsFirstOverlap}};
 ghost use Rattle.shop_model.specs.Checking.{HasShape, starts_of, EndsAt, IsVerdict, IsChecked, NoneEarly};
-ghost use Rattle.shop_model.specs.inner.FirstFaults.{TellsFirstEarly, TellsFirstOverlap};
 
 use crate::instances::Instance;
 use crate::ops::OperationId;

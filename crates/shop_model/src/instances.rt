@@ -98,8 +98,7 @@ impl Model for Instance {
 
     ghost Value = { Shop };
 
-    ghost use Rattle.shop_model.specs.Given.{shop_of_given};
-    ghost use Rattle.shop_model.specs.Limits.{IsWithinLimits};
+    ghost use Rattle.shop_model.specs.{Given.shop_of_given, Limits.IsWithinLimits};
 
     ghost view = { λ a. shop_of_given a.machine_count a.given };
 

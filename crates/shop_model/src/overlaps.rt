@@ -1,10 +1,8 @@
 // Operations that overlap on their machine.
 ghost use Rattle.std.specs.Prelude.{◌<◌, ◌↔◌, IsTrue, length};
-ghost use Rattle.shop_model.specs.Shop.{IsOperation};
-ghost use Rattle.shop_model.specs.Checking.{HasShape, starts_of, NoneEarly};
+ghost use Rattle.shop_model.specs.{Shop.IsOperation, Checking.{HasShape, starts_of, NoneEarly}};
 ghost use Rattle.shop_model.specs.inner.FirstFaults.{IsJobApart, TellsFirstAfter, TellsFirstOverlapOf};
-ghost use Rattle.shop_model.specs.inner.FirstFaults.{TellsFirstOverlap};
-ghost use Rattle.shop_model.specs.inner.ClearSpans.{AreOfApart};
+ghost use Rattle.shop_model.specs.{inner.FirstFaults.TellsFirstOverlap, inner.ClearSpans.AreOfApart};
 
 use crate::instances::Instance;
 use crate::ops::OperationId;

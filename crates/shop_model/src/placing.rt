@@ -1,7 +1,6 @@
 // The table that a word places.
 ghost use Rattle.std.specs.Prelude.{◌≡◌, [], IfOk, length, map, replicate};
-ghost use Rattle.shop_model.specs.Word.{IsFull, placed, rows_of};
-ghost use Rattle.shop_model.specs.Placed.{IsPlacedBy, AllEndSoon};
+ghost use Rattle.shop_model.specs.{Word.{IsFull, placed, rows_of}, Placed.{IsPlacedBy, AllEndSoon}};
 
 use crate::instances::Instance;
 use crate::placements::Placement;

@@ -1,9 +1,7 @@
 // Words that share their jobs with others.
-ghost use Rattle.std.specs.Prelude.{◌≡◌, ◌*◌, ◌≤◌, ◌<◌, ◌++◌, ◌∷◌, [], length, take, slice_index};
-ghost use Rattle.std.specs.Prelude.{vec_capacity, IfOk, OnOk};
-ghost use Rattle.std.specs.Arc.{arc_slice_items};
-ghost use Rattle.shop_model.specs.declared.limits.TheConstants.{MAX_JOBS, MAX_STEPS};
-ghost use Rattle.shop_model.specs.SharedWords.{CanBeShared};
+ghost use Rattle.std.specs.Prelude.{◌≡◌, ◌*◌, ◌≤◌, ◌<◌, ◌++◌, ◌∷◌, [], length, take, slice_index, vec_capacity, IfOk};
+ghost use Rattle.std.specs.{Prelude.OnOk, Arc.arc_slice_items};
+ghost use Rattle.shop_model.specs.{declared.limits.TheConstants.{MAX_JOBS, MAX_STEPS}, SharedWords.CanBeShared};
 
 use crate::words::set_jobs;
 use std::alloc::{AllocError as NoMemory, Global};
@@ -19,8 +17,7 @@ pub struct SharedWord {
 }
 
 impl Model for SharedWord {
-    ghost use Rattle.std.specs.Prelude.{List, ℕ, ◌≤◌, length};
-    ghost use Rattle.std.specs.Arc.{arc_slice_items};
+    ghost use Rattle.std.specs.{Prelude.{List, ℕ, ◌≤◌, length}, Arc.arc_slice_items};
     ghost use Rattle.shop_model.specs.SharedWords.{shared_word};
 
     ghost Value = { List ℕ };

@@ -1,7 +1,6 @@
 // The first operations that overlap, found by sorting.
 ghost use Rattle.std.specs.Prelude.{IfOk};
-ghost use Rattle.shop_model.specs.Checking.{HasShape, starts_of};
-ghost use Rattle.shop_model.specs.inner.FirstFaults.{TellsFirstOverlap};
+ghost use Rattle.shop_model.specs.{Checking.{HasShape, starts_of}, inner.FirstFaults.TellsFirstOverlap};
 ghost use Rattle.shop_model.specs.inner.ClearSpans.{AreOfApart};
 
 use crate::instances::Instance;

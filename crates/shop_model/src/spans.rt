@@ -1,7 +1,6 @@
 // The spans of a table: when each machine is taken, sorted by machine and by start.
 ghost use Rattle.std.specs.Prelude.{◌≡◌, ◌<◌, ◌⊎◌, ◌↔◌, ◌++◌, length, IsTrue, IfOk, OnOk};
-ghost use Rattle.shop_model.specs.inner.Steps.{AreSmall};
-ghost use Rattle.shop_model.specs.Checking.{HasShape};
+ghost use Rattle.shop_model.specs.{inner.Steps.AreSmall, Checking.HasShape};
 ghost use Rattle.shop_model.specs.inner.Spans.{spans_at, spans_of, IsInTurn, AreInTurn};
 ghost use Rattle.shop_model.specs.inner.ClearSpans.{EndsNotAfter, IsBetween, AreInOrder, AreClearOf};
 

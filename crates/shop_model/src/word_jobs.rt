@@ -1,6 +1,5 @@
 // The jobs of a word, one after the other.
-ghost use Rattle.std.specs.Prelude.{◌≡◌};
-ghost use Rattle.std.specs.Iterator.{YieldsFirst, item_count};
+ghost use Rattle.std.specs.{Prelude.◌≡◌, Iterator.{YieldsFirst, item_count}};
 
 use crate::words::Word;
 use std::marker::Model;

@@ -1,7 +1,6 @@
 // Job sequences: the order in which operations are dispatched.
 ghost use Rattle.std.specs.Prelude.{◌≡◌, ◌↔◌, ◌<◌, ◌≤◌, All, IfOk, OnOk, IsTrue, length, slice_index, vec_capacity};
-ghost use Rattle.shop_model.specs.SharedWords.{CanBeShared};
-ghost use Rattle.shop_model.specs.Word.{count_of, IsWord, IsFull, start_jobs};
+ghost use Rattle.shop_model.specs.{SharedWords.CanBeShared, Word.{count_of, IsWord, IsFull, start_jobs}};
 
 use crate::instances::Instance;
 use crate::shared_words::SharedWord;

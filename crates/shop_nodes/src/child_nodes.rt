@@ -1,10 +1,8 @@
 // Makes the children of a node.
-ghost use Rattle.std.specs.Prelude.{◌≡◌, [], ◌∷◌, ◌++◌, IfOk};
-ghost use Rattle.std.specs.Arc.{arc_slice_items};
+ghost use Rattle.std.specs.{Prelude.{◌≡◌, [], ◌∷◌, ◌++◌, IfOk}, Arc.arc_slice_items};
 ghost use Rattle.shop_model.specs.Word.{IsWord, IsFull};
 ghost use Rattle.shop_bound.specs.Bound.{lb};
-ghost use Rattle.shop_nodes.specs.Branching.{branch};
-ghost use Rattle.shop_nodes.specs.Nodes.{IsNode, AreNodes, words_of, AreBetterChildren};
+ghost use Rattle.shop_nodes.specs.{Branching.branch, Nodes.{IsNode, AreNodes, words_of, AreBetterChildren}};
 ghost use Rattle.shop_nodes.specs.inner.Places.{IsPlaceFor};
 
 use crate::conflicts::conflict;

@@ -1,8 +1,6 @@
 // The nodes that the search of a piece left.
-ghost use Rattle.std.specs.Prelude.{◌≡◌, ◌++◌, take, OnOk, IfOk};
-ghost use Rattle.std.specs.Arc.{arc_slice_items};
-ghost use Rattle.shop_nodes.specs.Branching.{branch};
-ghost use Rattle.shop_nodes.specs.Nodes.{AreNodes, words_of};
+ghost use Rattle.std.specs.{Prelude.{◌≡◌, ◌++◌, take, OnOk, IfOk}, Arc.arc_slice_items};
+ghost use Rattle.shop_nodes.specs.{Branching.branch, Nodes.{AreNodes, words_of}};
 ghost use Rattle.shop_nodes.specs.Halts.{IsClosed, IsHalt, IsWaiting, last_of, stack_words, waiting_words};
 ghost use Rattle.shop_nodes.specs.Left.{left_words, open_nodes, AreLeft};
 ghost use Rattle.shop_nodes.specs.inner.HeldNodes.{nodes_below, halted_nodes, AreSharable, IsHaltWithin};

@@ -1,7 +1,6 @@
 // The next operation of each job after a word, with its machine, head and end.
 ghost use Rattle.std.specs.Prelude.{◌≡◌, ◌<◌, length};
-ghost use Rattle.shop_model.specs.Placements.{IsPlacement};
-ghost use Rattle.shop_model.specs.Word.{placing, IsWord};
+ghost use Rattle.shop_model.specs.{Placements.IsPlacement, Word.{placing, IsWord}};
 
 use shop_model::{Instance, Placement, Word};
 

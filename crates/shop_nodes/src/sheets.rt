@@ -1,7 +1,6 @@
 // The result of the search of a piece.
 ghost use Rattle.std.specs.Prelude.{◌≡◌, ◌≤◌};
-ghost use Rattle.shop_nodes.specs.Laws.{AreWords};
-ghost use Rattle.shop_nodes.specs.Pieces.{IsSheet};
+ghost use Rattle.shop_nodes.specs.{Laws.AreWords, Pieces.IsSheet};
 
 use crate::left::Left;
 use crate::pieces::Piece;

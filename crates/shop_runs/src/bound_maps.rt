@@ -1,9 +1,7 @@
 // Open nodes for the order `Bound` where bounds are large: a map with a stack of words for each bound.
 ghost use Rattle.std.specs.Prelude.{◌≡◌, ◌==◌, ◌^◌, ◌≤◌, [], length, IfOk, OnOk, OnErr};
-ghost use Rattle.shop_nodes.specs.Branching.{insert_by};
-ghost use Rattle.shop_nodes.specs.inner.HeldNodes.{nodes_below};
-ghost use Rattle.shop_runs.specs.inner.NodeLists.{least_of_bounds};
-ghost use Rattle.shop_runs.specs.inner.Stacks.{IsNextOf};
+ghost use Rattle.shop_nodes.specs.{Branching.insert_by, inner.HeldNodes.nodes_below};
+ghost use Rattle.shop_runs.specs.{inner.NodeLists.least_of_bounds, inner.Stacks.IsNextOf};
 
 use crate::stacks::Stack;
 use shop_model::Word;

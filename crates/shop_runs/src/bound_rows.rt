@@ -1,11 +1,8 @@
 // Open nodes for the order `Bound` where bounds are small: a row of stacks of words, one for each bound.
-ghost use Rattle.std.specs.Prelude.{◌≡◌, ◌==◌, ◌^◌, ◌<◌, ◌≤◌, ◌∷◌, [], length, vec_len};
-ghost use Rattle.std.specs.Prelude.{IfOk, OnOk, OnErr};
-ghost use Rattle.shop_nodes.specs.Branching.{insert_by};
-ghost use Rattle.shop_nodes.specs.inner.HeldNodes.{nodes_below};
-ghost use Rattle.shop_runs.specs.inner.NodeLists.{least_of_bounds};
+ghost use Rattle.std.specs.Prelude.{◌≡◌, ◌==◌, ◌^◌, ◌<◌, ◌≤◌, ◌∷◌, [], length, vec_len, IfOk, OnOk, OnErr};
+ghost use Rattle.shop_nodes.specs.{Branching.insert_by, inner.HeldNodes.nodes_below};
+ghost use Rattle.shop_runs.specs.{inner.NodeLists.least_of_bounds, inner.BoundRows.{IsFirstFrom, StaysEmpty, TakesTop}};
 ghost use Rattle.shop_runs.specs.inner.Stacks.{words_at, nodes_in_row, IsNextOf, IsTopIfMore};
-ghost use Rattle.shop_runs.specs.inner.BoundRows.{IsFirstFrom, StaysEmpty, TakesTop};
 
 use crate::stacks::Stack;
 use shop_model::{SharedWord, Word};
@@ -107,10 +104,9 @@ pub(crate) struct BoundRow {
 }
 
 impl Model for BoundRow {
-    ghost use Rattle.shop_runs.specs.inner.Stacks.{nodes_in_row};
+    ghost use Rattle.shop_runs.specs.{inner.Stacks.nodes_in_row, inner.BoundRows.AreEmptyBelow};
     ghost use Rattle.std.specs.Prelude.{List};
     ghost use Rattle.shop_nodes.specs.declared.nodes.Node.{Node};
-    ghost use Rattle.shop_runs.specs.inner.BoundRows.{AreEmptyBelow};
 
     ghost Value = { List Node };
 

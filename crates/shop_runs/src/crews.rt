@@ -1,7 +1,6 @@
 // The traits of crews, which search the pieces of a round, and of their makers.
 ghost use Rattle.std.specs.Prelude.{IfOk};
-ghost use Rattle.shop_runs.specs.Entries.{told};
-ghost use Rattle.shop_runs.specs.Crews.{OneForEach};
+ghost use Rattle.shop_runs.specs.{Entries.told, Crews.OneForEach};
 
 use crate::entries::Entry;
 use crate::rounds::Round;

@@ -1,8 +1,7 @@
 // A stack of open nodes that knows the least of their bounds, for the order `Kept`.
 ghost use Rattle.std.specs.Prelude.{◌≡◌, ◌==◌, ◌∷◌, [], length, OnOk};
 ghost use Rattle.shop_nodes.specs.inner.HeldNodes.{nodes_below};
-ghost use Rattle.shop_runs.specs.inner.NodeLists.{least_of_bounds};
-ghost use Rattle.shop_runs.specs.inner.KeptStacks.{AreLeasts, nodes_of};
+ghost use Rattle.shop_runs.specs.{inner.NodeLists.least_of_bounds, inner.KeptStacks.{AreLeasts, nodes_of}};
 ghost use Rattle.shop_runs.specs.inner.Stacks.{IsNextOf};
 
 use shop_nodes::{Node, SharedNode};

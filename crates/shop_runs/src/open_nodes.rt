@@ -1,10 +1,8 @@
 // The store of a run's open nodes, in the order in which the next round takes them.
-ghost use Rattle.std.specs.Prelude.{◌≡◌, ◌==◌, ◌^◌, ◌≤◌, [], length, IfOk, OnOk, OnErr};
-ghost use Rattle.std.specs.Arc.{arc_slice_items};
-ghost use Rattle.shop_nodes.specs.inner.HeldNodes.{nodes_below, child_nodes, stack_nodes};
-ghost use Rattle.shop_nodes.specs.inner.HeldNodes.{AreSharable, AreWithin, IsWithin};
-ghost use Rattle.shop_runs.specs.inner.NodeLists.{least_of_bounds};
-ghost use Rattle.shop_runs.specs.inner.OpenNodes.{AreBelow};
+ghost use Rattle.std.specs.{Prelude.{◌≡◌, ◌==◌, ◌^◌, ◌≤◌, [], length, IfOk, OnOk, OnErr}, Arc.arc_slice_items};
+ghost use Rattle.shop_nodes.specs.inner.HeldNodes.{nodes_below, child_nodes, stack_nodes, AreSharable, AreWithin};
+ghost use Rattle.shop_nodes.specs.inner.HeldNodes.{IsWithin};
+ghost use Rattle.shop_runs.specs.{inner.NodeLists.least_of_bounds, inner.OpenNodes.AreBelow};
 ghost use Rattle.shop_runs.specs.inner.Outcomes.{left_open, open_of};
 
 use crate::bound_maps::BoundMap;
@@ -47,8 +45,7 @@ impl Drop for OpenNodes {
 }
 
 impl OpenNodes {
-    ghost use Rattle.shop_runs.specs.inner.Stores.{open_list, order_of, IsPut, ArePut, IsTaken};
-    ghost use Rattle.shop_runs.specs.inner.Stores.{IsKeptBelow, HasPopped};
+    ghost use Rattle.shop_runs.specs.inner.Stores.{open_list, order_of, IsPut, ArePut, IsTaken, IsKeptBelow, HasPopped};
 
     /// Makes an empty store, which will hold open nodes of bounds below `makespan` in `order`, of an instance of
     /// `operations` operations.

@@ -1,9 +1,7 @@
 // The result of a round, from the sheets of its pieces, and the standing after the round.
 ghost use Rattle.std.specs.Prelude.{◌≡◌, ◌+◌, ◌<◌, ◌^◌, IfOk, OnOk};
-ghost use Rattle.shop_runs.specs.Entries.{told};
-ghost use Rattle.shop_runs.specs.Crews.{OneForEach};
+ghost use Rattle.shop_runs.specs.{Entries.told, Crews.OneForEach, inner.Outcomes.{IsOutcome, TakesIn, left_open}};
 ghost use Rattle.shop_runs.specs.Standings.{IsGatheredOf, GatheredCovers, IsStandingOf};
-ghost use Rattle.shop_runs.specs.inner.Outcomes.{IsOutcome, TakesIn, left_open};
 
 use crate::entries::{Entry, Kind};
 use crate::rounds::{Round, copies_of};

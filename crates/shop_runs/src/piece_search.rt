@@ -1,7 +1,6 @@
 // The trait of searchers, which search single pieces of a round.
 ghost use Rattle.std.specs.Prelude.{◌≡◌, ◌<◌, length, IfOk};
-ghost use Rattle.shop_runs.specs.Entries.{told, IsOf, TellsHit};
-ghost use Rattle.shop_runs.specs.declared.rounds.Round.{Round};
+ghost use Rattle.shop_runs.specs.{Entries.{told, IsOf, TellsHit}, declared.rounds.Round.Round};
 
 use crate::rounds::Round;
 use shop_nodes::Sheet;

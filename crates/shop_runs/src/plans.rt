@@ -37,8 +37,7 @@ pub struct Plan {
 
 impl Plan {
     ghost use Rattle.std.specs.Prelude.{◌↔◌, IsSome, IfSome};
-    ghost use Rattle.shop_runs.specs.Plans.{IsPlanMadeOf};
-    ghost use Rattle.shop_runs.specs.declared.plans.Order.TheVariants.{Kept};
+    ghost use Rattle.shop_runs.specs.{Plans.IsPlanMadeOf, declared.plans.Order.TheVariants.Kept};
 
     /// Makes a plan, or answers `None` if `rounds`, `budget` or `piece` is outside its limits.
     pub fn ordered(rounds: u64, budget: u64, piece: usize, order: Order) -> Option<Plan>

@@ -2,11 +2,8 @@
 ghost use Rattle.std.specs.Prelude.{◌≡◌, ◌≤◌, ◌<◌, [], length, take, drop, true, IfOk, OnOk};
 ghost use Rattle.std.specs.Vec.Iter.{into_iter_items};
 ghost use Rattle.shop_nodes.specs.Nodes.{AreNodes};
-ghost use Rattle.shop_runs.specs.Limits.{IsCountWithin};
-ghost use Rattle.shop_runs.specs.Round.{cut_into};
-ghost use Rattle.shop_runs.specs.Nodes.{numbered, told_of, ArePieces};
-ghost use Rattle.shop_runs.specs.Laws.{IsRound};
-ghost use Rattle.shop_runs.specs.inner.NodeLists.{nodes_in};
+ghost use Rattle.shop_runs.specs.{Limits.IsCountWithin, Round.cut_into, Nodes.{numbered, told_of, ArePieces}};
+ghost use Rattle.shop_runs.specs.{Laws.IsRound, inner.NodeLists.nodes_in};
 ghost use Rattle.shop_runs.specs.declared.plans.TheConstants.{MAX_BUDGET, MAX_PIECES, MAX_ROUNDS};
 
 use crate::plans::{MAX_PIECES, Plan};

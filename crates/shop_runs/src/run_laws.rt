@@ -1,6 +1,5 @@
 // Laws of answers, stated over their definitions and not over code.
-ghost use Rattle.shop_runs.specs.Trust.{AnswersAreTrustworthy};
-ghost use Rattle.shop_runs.specs.Exact.{SearchesEnd, MoreRoundsAreNoWorse, SolvedStays};
+ghost use Rattle.shop_runs.specs.{Trust.AnswersAreTrustworthy, Exact.{SearchesEnd, MoreRoundsAreNoWorse, SolvedStays}};
 
 /// For every instance and plan, the answer's word is full, and its schedule is feasible and ends at the makespan. No
 /// feasible schedule ends before the bound. If no node is open, the makespan is least.

@@ -1,7 +1,6 @@
 // Runs, which search round after round until no node is open or the plan's rounds are done.
 ghost use Rattle.std.specs.Prelude.{◌≡◌, ◌^◌, ◌<◌, IfOk, IfSome};
-ghost use Rattle.shop_runs.specs.Limits.{IsCountWithin};
-ghost use Rattle.shop_runs.specs.Runs.{SaysAnswer, IsTrusted};
+ghost use Rattle.shop_runs.specs.{Limits.IsCountWithin, Runs.{SaysAnswer, IsTrusted}};
 
 use crate::crews::Crew;
 use crate::machine_orders::layout_for;
@@ -30,9 +29,8 @@ pub(crate) struct OpenRun {
 }
 
 impl OpenRun {
-    ghost use Rattle.shop_runs.specs.Standings.{IsStandingOf, stands};
+    ghost use Rattle.shop_runs.specs.{Standings.{IsStandingOf, stands}, Plans.planned};
     ghost use Rattle.shop_runs.specs.inner.Searches.{stand_of, IsSearchAt, IsSearchOf, IsFront};
-    ghost use Rattle.shop_runs.specs.Plans.{planned};
     ghost use Rattle.shop_runs.specs.Round.{round as next_round};
     ghost use Rattle.shop_runs.specs.Answers.{answer as answer_of_plan};
 

@@ -20,9 +20,7 @@ pub struct Standing {
 
 impl Standing {
     ghost use Rattle.std.specs.Prelude.{IfOk};
-    ghost use Rattle.shop_runs.specs.Round.{opening};
-    ghost use Rattle.shop_runs.specs.Laws.{StandsCovering};
-    ghost use Rattle.shop_runs.specs.Standings.{stands, StandsAt, IsStandingOf};
+    ghost use Rattle.shop_runs.specs.{Round.opening, Laws.StandsCovering, Standings.{stands, StandsAt, IsStandingOf}};
 
     /// Makes the standing with which a search begins: the best word is the start word, and the empty word is open if
     /// its bound is below the start word's makespan. Fails with `NoMemory` if memory runs out.
