@@ -39,7 +39,8 @@ impl Table {
         Table { rows }
     }
 
-    /// Makes the table of `rows`, one for each job; `None` if a start is over `MAX_START`.
+    /// Makes the table of `rows`, one for each job; `None` if a start is over `MAX_START`. For library callers: the
+    /// program's readers and `place` keep to `MAX_START` on the way.
     pub fn new(rows: Vec<Vec<u64>>) -> Option<Table>
         ensures none { IsNone result ↔ (AreStarts (map (λ r. r.items) rows.items) → ⊥) }
         ensures some { IfSome result (λ t. t ≡ map (λ r. r.items) rows.items) }

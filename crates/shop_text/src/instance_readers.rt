@@ -1,18 +1,49 @@
-// Reads an instance text line by line.
-ghost use Rattle.std.specs.Prelude.{◌≡◌, ℕ, ◌≤◌, List, [], length, map, MatchOption, Some, None, IfOk, string_bytes};
-ghost use Rattle.std.specs.Fmt.{decimal};
-ghost use Rattle.shop_text.specs.{Formats.grammar_of, Lines.{Numbered, Numbers, Words, line_of}, Names.IsRead};
-ghost use Rattle.shop_text.specs.{inner.LineReading.{capped, lines_after, IsBehind}, Texts.lines_left};
-ghost use Rattle.shop_text.specs.inner.InstanceReading.{name_or, IsReadUpTo, Takes, Ends};
+// Reads an instance text line by line, and the names that its text lines give to instances.
+ghost use Rattle.std.specs.{Prelude.{◌≡◌, ℕ, ◌≤◌, List, [], length, map, MatchOption, Some, None}, List.list_all};
+ghost use Rattle.shop_text.specs.{Formats.{grammar_of, header_of, is_visible, orlib, taillard, routes}, Names.IsRead};
+ghost use Rattle.shop_text.specs.{Lines.{Numbered, Numbers, Words, line_of, tokens_of}, Texts.lines_left};
+ghost use Rattle.shop_text.specs.inner.LineReading.{capped, lines_after, IsBehind};
+ghost use Rattle.shop_text.specs.inner.InstanceReading.{IsReadUpTo, Takes, Ends};
 
 use crate::faults::ReadFault;
 use crate::formats::Format;
-use crate::header_lines::header_in;
 use crate::instance_drafts::Draft;
 use crate::limits::MAX_TEXT;
-use crate::lines::{next_line, next_number};
+use crate::lines::{next_line, next_number, next_token};
 use crate::names::Named;
-use std::alloc::{AllocError as NoMemory, Global};
+use std::alloc::Global;
+
+/// Tells whether `token` has bytes from 33 to 126 alone, as a name does.
+fn is_name(token: &[u8]) -> bool
+    ensures { result ≡ list_all is_visible token.now }
+{
+    token.iter().all(|b| 33 <= *b && *b <= 126)
+}
+
+/// Answers the name in a line `instance NAME`; `None` if the line is another.
+fn name_in(line: &[u8]) -> Option<&[u8]>
+    ensures { MatchOption result (header_of (Words (tokens_of line.now)) ≡ None)
+        (λ n. header_of (Words (tokens_of line.now)) ≡ Some n.now) }
+{
+    let (word, rest) = next_token(line)?;
+    let (name, rest) = next_token(rest)?;
+    if next_token(rest).is_none() && word == b"instance".as_slice() && is_name(name) {
+        Some(name)
+    } else {
+        None
+    }
+}
+
+/// Answers the name that a text line gives to an instance in `format`; `None` if it gives none.
+fn header_in(format: Format, line: &[u8]) -> Option<&[u8]>
+    ensures { MatchOption result ((grammar_of format).header (Words (tokens_of line.now)) ≡ None)
+        (λ n. (grammar_of format).header (Words (tokens_of line.now)) ≡ Some n.now) }
+{
+    match format {
+        Format::Orlib | Format::Routes => name_in(line),
+        Format::Taillard => None,
+    }
+}
 
 /// The instances read so far, the name of the last header behind them, and the draft of the next instance.
 #[derive(Drop)]
@@ -75,8 +106,8 @@ impl Reader {
         Ok(())
     }
 
-    /// Reads a line; `numbers` is room for its numbers, where one above `u64::MAX` counts as `u64::MAX`. Fails with the
-    /// fault of the line, or with `NoMemory` if memory runs out.
+    /// Reads a line of the text; `numbers` is room for the numbers of the line, and a number above `u64::MAX` counts as
+    /// `u64::MAX`. Fails with the fault of the line, or with `NoMemory` if memory runs out.
     fn take_line(
         &mut self,
         alloc: Global,
@@ -158,4 +189,36 @@ pub fn read(alloc: Global, format: Format, text: &[u8]) -> Result<Vec<Named>, Re
         reader.take_line(alloc, number, line, &mut numbers)?;
     }
     reader.finish(number)
+}
+
+/// Reads the instances of `text`, at least one, in the form of the OR-Library file `jobshop1`. The name of an instance
+/// is that of the last line `instance NAME` before it, else its number, from 1.
+///
+/// Fails with `TooLong` above 16,777,216 bytes, and else with the fault of the first faulty line. Fails with `NoMemory`
+/// if memory runs out. For library callers: the program doesn't use `read_orlib`.
+pub fn read_orlib(alloc: Global, text: &[u8]) -> Result<Vec<Named>, ReadFault>
+    ensures { IsRead orlib text.now result }
+{
+    read(alloc, Format::Orlib, text)
+}
+
+/// Reads the instances of `text`, at least one, in the form that goes by Taillard's name: a size line, a row of times
+/// for each job, and a row of machines for each job, counted from 1. Numbers behind jobs and machines in a size line
+/// are skipped. The names of instances are their numbers, from 1.
+///
+/// Fails as `read_orlib` does. For library callers: the program doesn't use `read_taillard`.
+pub fn read_taillard(alloc: Global, text: &[u8]) -> Result<Vec<Named>, ReadFault>
+    ensures { IsRead taillard text.now result }
+{
+    read(alloc, Format::Taillard, text)
+}
+
+/// Reads the instances of `text`, at least one, in the format `routes`: that of `read_orlib`, except that the row of a
+/// job is its release, 0 to 1,000,000,000, and then 0 to 100 pairs of machine and time.
+///
+/// Fails as `read_orlib` does. For library callers: the program doesn't use `read_routes`.
+pub fn read_routes(alloc: Global, text: &[u8]) -> Result<Vec<Named>, ReadFault>
+    ensures { IsRead routes text.now result }
+{
+    read(alloc, Format::Routes, text)
 }

@@ -49,10 +49,7 @@ pub(crate) fn next_token(line: &[u8]) -> Option<(&[u8], &[u8])>
         (λ t. tokens_of line.now ≡ t.0.now ∷ tokens_of t.1.now) }
     ensures shorter { MatchOption result (Unit {0}) (λ t. length t.1.now < length line.now) }
 {
-    let Some(start) = token_start(line) else {
-        return None;
-    };
-    let rest = &line[start..];
+    let rest = &line[token_start(line)?..];
     match token_end(rest) {
         Some(end) => Some((&rest[..end], &rest[end + 1..])),
         None => Some((rest, &rest[rest.len()..])),
@@ -93,11 +90,7 @@ pub(crate) fn number_of(token: &[u8]) -> Option<u64>
     ensures { result ≡ number_in token.now }
 {
     let (value, digits) = leading_digits(token);
-    if digits == token.len() {
-        Some(value)
-    } else {
-        None
-    }
+    (digits == token.len()).then_some(value)
 }
 
 /// Reads the first token of a line: answers its value, or `None` if it is no number, and what follows the separator
@@ -106,10 +99,7 @@ pub(crate) fn next_number(line: &[u8]) -> Option<(Option<u64>, &[u8])>
     ensures cut { MatchOption result (tokens_of line.now ≡ []) (λ t. IsNumberCut line.now t.0 t.1.now) }
     ensures shorter { MatchOption result (Unit {0}) (λ t. length t.1.now < length line.now) }
 {
-    let Some(start) = token_start(line) else {
-        return None;
-    };
-    let rest = &line[start..];
+    let rest = &line[token_start(line)?..];
     let (value, end) = leading_digits(rest);
     if end == rest.len() {
         return Some((Some(value), &rest[rest.len()..]));
@@ -117,8 +107,6 @@ pub(crate) fn next_number(line: &[u8]) -> Option<(Option<u64>, &[u8])>
     if is_between_tokens(rest[end]) {
         return Some((Some(value), &rest[end + 1..]));
     }
-    match next_token(line) {
-        Some((token, rest)) => Some((number_of(token), rest)),
-        None => None,
-    }
+    let (token, rest) = next_token(line)?;
+    Some((number_of(token), rest))
 }

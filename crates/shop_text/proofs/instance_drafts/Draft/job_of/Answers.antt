@@ -12,8 +12,8 @@ returns-in-Orlib-clause-judged c =
 pub returns-in-Routes-clause-judged : goal.returns-in-Routes-clause-judged
 returns-in-Routes-clause-judged c =
     rw c.in-Routes.is
-    (routes_next c.args.self.now c.args.line c.args.row.now c.job_of_release.result c.requires.some
-    c.job_of_release.ensures.judged)
+    (routes_next c.args.self.now c.args.line c.args.row.now c.released_job.result c.requires.some
+    c.released_job.ensures.judged)
 
 pub returns-in-Taillard-clause-judged : goal.returns-in-Taillard-clause-judged
 returns-in-Taillard-clause-judged c =

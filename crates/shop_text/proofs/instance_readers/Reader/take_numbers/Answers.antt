@@ -35,8 +35,8 @@ returns-in_ok-push c = λ front written read numbers.
     ]
     in (
       refl,
-      part_read reader later c.in-Some.instance name c.args.line written front read last named c.in_ok-push.ensures.items
-          c.take.ensures.after,
+      part_read reader later c.in-Some.instance name c.args.line written front read last named
+          c.in_ok-push.ensures.items c.take.ensures.after,
     )
 
 pub returns-in_default : goal.returns-in_default

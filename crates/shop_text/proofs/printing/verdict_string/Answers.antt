@@ -1,0 +1,22 @@
+use Rattle.std.proofs.Common.{sym, ap, ◌∙◌, string_bytes, ℕ}
+use Rattle.std.specs.Fmt.{decimal}
+use Rattle.shop_text.specs.Writing.{verdict_text, printed_line}
+use Rattle.shop_text.proofs.TextLemmas.{same_text, unreleased_is, early_is, overlap_is, early_tokens}
+use Rattle.shop_text.proofs.printing.verdict_string.Goals as goal
+
+pub returns-in-Unreleased : goal.returns-in-Unreleased
+returns-in-Unreleased c = same_text string_bytes c.format-in-Unreleased.result _ _ c.format-in-Unreleased.ensures.ok
+    (unreleased_is (decimal c.in-Unreleased.job) ∙ sym (ap verdict_text c.in-Unreleased.is))
+
+pub returns-in-Early : goal.returns-in-Early
+returns-in-Early c =
+    same_text string_bytes c.format-in-Early.result _ _ c.format-in-Early.ensures.ok
+    (early_is (decimal c.in-Early.job) (decimal c.in-Early.step) (decimal c.saturating_sub-before.result)
+    ∙ ap (λ (before : ℕ). printed_line (early_tokens (decimal c.in-Early.job) (decimal c.in-Early.step)
+    (decimal before))) c.saturating_sub-before.ensures ∙ sym (ap verdict_text c.in-Early.is))
+
+pub returns-in-Overlap : goal.returns-in-Overlap
+returns-in-Overlap c =
+    same_text string_bytes c.format-in-Overlap.result _ _ c.format-in-Overlap.ensures.ok
+    (overlap_is (decimal c.in-Overlap.machine) (decimal c.in-Overlap.first.job) (decimal c.in-Overlap.first.step)
+    (decimal c.in-Overlap.second.job) (decimal c.in-Overlap.second.step) ∙ sym (ap verdict_text c.in-Overlap.is))
