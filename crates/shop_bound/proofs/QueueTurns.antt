@@ -6,7 +6,7 @@ use Rattle.std.proofs.lemmas.List.{get_or-set_same, get_or-set_other, length-set
 use Rattle.std.proofs.{lemmas.List.Elements.{All-cons, All-head, All-tail}, lemmas.List.Sums.sum_by-cons}
 use Rattle.std.proofs.lemmas.List.Sorted.{All-permutation, sum_by-IsPermutation}
 use Rattle.std.specs.{BinaryHeap.{heap_items, heap_len, heap_capacity}, List.All, Prelude.IsPermutation}
-use Rattle.std.specs.Option.{MatchOption, is_some}
+use Rattle.std.specs.Option.{is_some, unwrap_or}
 use Rattle.shop_bound.specs.{declared.triples.Triple.Triple, declared.queues.Work.Work, inner.Thresholds.no_triple}
 use Rattle.shop_bound.specs.inner.Serving.{work_at, fresh, undone_of, Waits, IsServed, IsStop, IsReady}
 use Rattle.shop_bound.specs.{inner.HeapOrders.{Coming, Waiting}, inner.Queues.KeepsRoom, declared.queues.Queue.Queue}
@@ -145,7 +145,7 @@ module _ (ws : List Work) (clock : ℕ) (cs : List Coming) (hs : List Waiting) (
 
     -- when a turn stops
     pub stops : (r : Option ℕ) (end stop : ℕ) → IsNextRelease cs r → clock ≤ end
-        → MatchOption r (stop ≡ end) (λ head. stop ≡ min head end) → IsStop (length ws) ws clock end stop
+        → stop ≡ min (unwrap_or r end) end → IsStop (length ws) ws clock end stop
     stops None end stop over after e = grind (arith, count_undone, not_done, not_waiting, times-none)
     stops (Some head) end stop (c, n) after e =
         let a = all-top coming_place (IsToCome ws) cs c n.some n.top q.coming
@@ -160,6 +160,12 @@ module _ (ws : List Work) (clock : ℕ) (cs : List Coming) (hs : List Waiting) (
               in let t = ap (λ (j : ℕ). (work_at ws j).triple.head) s.1 in omega arith);
           reason = grind (arith, cases_lt end head);
         }
+
+pub stop_is : {ws : List Work} {clock : ℕ} {q : Queue} → IsQueue ws clock q → ComeLater clock (heap_items q.coming)
+    → (r : Option ℕ) → IsNextRelease (heap_items q.coming) r → {end next stop : ℕ} → next ≡ unwrap_or r end
+    → stop ≡ min next end → clock ≤ end → IsStop (length ws) ws clock end stop
+stop_is {ws} {clock} {q} is later r release {end} {next} {stop} e f after =
+    stops ws clock _ _ is.are later r end stop release after (f ∙ ap (λ n. min n end) e)
 
 pub first_none : (hs : List Waiting) (r : Option ℕ) → IsFirst hs r → is_some r ≡ false → IsFirst hs None
 first_none hs None first none = first

@@ -1,9 +1,10 @@
 -- The greatest span over the thresholds that occur is the greatest over all sublists.
 use Rattle.std.proofs.Common.{◌≡◌, ℕ, zero, suc, ◌+◌, ◌≤◌, ◌<◌, max, Bool, true, List, [], ◌∷◌, ◌++◌, length, get_or}
-use Rattle.std.proofs.{Common.{take, map, refl, sym, ◌∙◌, ap, subst, arith}, lemmas.Bool.Decides.eqb_tells}
+use Rattle.std.proofs.{Common.{take, map, fold, unwrap_or, refl, sym, ◌∙◌, ap, subst, arith}}
+use Rattle.std.proofs.{lemmas.Bool.Decides.eqb_tells}
 use Rattle.std.proofs.{lemmas.Bool.{cases_Bool, leb-true, le-leb, and_from, and_parts}, lemmas.List.take_more}
 use Rattle.std.proofs.lemmas.List.Sums.{sum_by-cons}
-use Rattle.std.specs.List.{AllByRecursion, filter, sum_by}
+use Rattle.std.specs.List.{AllByRecursion, filter, reduce, sum_by}
 use Rattle.shop_bound.specs.declared.triples.Triple.{Triple}
 use Rattle.shop_bound.specs.OneMachine.{sublists, greatest_of, least_of, span_of, one, extent}
 use Rattle.shop_bound.specs.inner.Thresholds.{is_above, span_above, head_at, tail_at, no_triple, greatest_span_of}
@@ -67,6 +68,16 @@ module _ {A : Type 0} where
       → b ≤ least_of f (x ∷ xs)
   le-least_of f b x [] h = h.0
   le-least_of f b x (y ∷ ys) h = let a = le-least_of f b y ys h.1 in let c = h.0 in omega arith
+
+-- as an iterator finds the greatest
+pub greatest_of-fold : {A : Type 0} (f : A → ℕ) (xs : List A) (a : ℕ)
+    → fold (λ b x. max b (f x)) a xs ≡ max a (greatest_of f xs)
+greatest_of-fold f [] a = omega arith
+greatest_of-fold f (x ∷ xs) a = greatest_of-fold f xs (max a (f x)) ∙ omega arith
+
+pub greatest_of-reduce : (xs : List ℕ) → unwrap_or (reduce max xs) 0 ≡ greatest_of (λ n. n) xs
+greatest_of-reduce [] = refl
+greatest_of-reduce (x ∷ xs) = greatest_of-fold (λ n. n) xs x
 
 pub greatest_of-map : {A B : Type 0} (g : A → B) (f : B → ℕ) (xs : List A)
     → greatest_of f (map g xs) ≡ greatest_of (λ x. f (g x)) xs

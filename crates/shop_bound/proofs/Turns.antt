@@ -6,11 +6,12 @@ use Rattle.std.proofs.lemmas.List.{get_or-set_same, get_or-set_other, length-set
 use Rattle.std.specs.List.{filter, sum_by}
 use Rattle.shop_bound.specs.{declared.triples.Triple.Triple, declared.queues.Work.Work}
 use Rattle.shop_bound.specs.{OneMachine.{one, greatest_of, IsSmall}, inner.Thresholds.{is_above, span_above}}
-use Rattle.shop_bound.specs.inner.Serving.{no_work, work_at, triples_of, Waits, IsFresh, fresh, IsServed, IsStop}
+use Rattle.shop_bound.specs.inner.Serving.{no_work, work_at, triples_of, Waits, fresh, IsServed, IsStop}
 use Rattle.shop_bound.specs.inner.Serving.{IsRelease, IsReady, worked, IsBusy, IsRun, turns_left, undone}
-use Rattle.shop_bound.proofs.{Lists.get_or-le-greatest_of, WorkSums.{span_above-parts, worked-none, none_above}}
+use Rattle.shop_bound.proofs.{Lists.get_or-le-greatest_of, WorkSums.{IsFresh, span_above-parts, worked-none}}
 use Rattle.shop_bound.proofs.ThresholdLemmas.{one-le, span_above-some, span_above-le, is_above-from, is_above-true}
 use Rattle.shop_bound.proofs.ThresholdLemmas.{sublist_sum, sublist_filter, greatest_of-map}
+use Rattle.shop_bound.proofs.WorkSums.{none_above}
 use Rattle.shop_bound.proofs.WorkSums.{triple_at, triples-set, set_all, worked-set, some_above, worked-le, worked-all}
 use Rattle.shop_bound.proofs.TurnCounts.{turns_left-le, turns_left-release, turns_left-same, turns_left-done}
 
@@ -235,7 +236,11 @@ served_to_release ws clock best i d v run s quiet undone =
 -- the two ways in which a turn goes
 abbrev pub held : List Work → ℕ → ℕ → ℕ → Work
 held ws clock i stop =
-    record { triple = (work_at ws i).triple; spent = (work_at ws i).spent + (stop - clock); done = false }
+    record {
+      triple = (work_at ws i).triple;
+      spent = (work_at ws i).spent + (stop - clock);
+      done = (work_at ws i).done;
+    }
 
 abbrev pub finished : List Work → ℕ → Work
 finished ws i = record { triple = (work_at ws i).triple; spent = (work_at ws i).triple.time; done = true }
@@ -258,7 +263,7 @@ held_run ws clock best i stop run c h =
     (serving_held ws clock best i stop run c h)
     (record {
       no_release = λ (k : ℕ) (lt : k < length ws) (r : clock < (work_at ws k).triple.head). grind arith;
-    }) refl)
+    }) c.undone)
 
 pub held_fewer : (ws : List Work) (clock i stop : ℕ) → IsServed (length ws) ws clock i
     → IsStop (length ws) ws clock (clock + left_of ws i) stop → stop < clock + left_of ws i

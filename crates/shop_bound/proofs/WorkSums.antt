@@ -6,7 +6,7 @@ use Rattle.std.proofs.lemmas.List.Sums.{sum_by-cons, sum_by-set}
 use Rattle.std.specs.List.{filter, sum_by}
 use Rattle.shop_bound.specs.{declared.triples.Triple.Triple, declared.queues.Work.Work}
 use Rattle.shop_bound.specs.inner.Thresholds.{is_above, span_above}
-use Rattle.shop_bound.specs.inner.Serving.{no_work, work_at, triples_of, IsFresh, fresh, worked, undone}
+use Rattle.shop_bound.specs.inner.Serving.{no_work, work_at, triples_of, fresh, worked, undone}
 use Rattle.shop_bound.proofs.ThresholdLemmas.{span_above-some}
 
 -- one operation changed
@@ -102,6 +102,11 @@ none_above test (w ∷ ws) undone all =
 pub fresh-triples : (ts : List Triple) → triples_of (map fresh ts) ≡ ts
 fresh-triples [] = refl
 fresh-triples (t ∷ ts) = ap (λ (us : List Triple). t ∷ us) (fresh-triples ts)
+
+-- of each work nothing is done
+pub record IsFresh (ws : List Work) : Type 0 where
+  pub spent : (i : ℕ) → i < length ws → (work_at ws i).spent ≡ 0
+  pub undone : (i : ℕ) → i < length ws → (work_at ws i).done ≡ false
 
 pub fresh-spent : (ts : List Triple) (i : ℕ) → (work_at (map fresh ts) i).spent ≡ 0
 fresh-spent [] i = refl

@@ -1,16 +1,16 @@
 // The lower bound of a word: the greatest of the ends of its operations and of the machines' one-machine bounds.
-ghost use Rattle.std.specs.Prelude.{◌≡◌, ℕ, ◌<◌, ◌≤◌, ◌^◌, max, length, slice_index, vec_len, IfOk};
+ghost use Rattle.std.specs.Prelude.{◌≡◌, ℕ, ◌+◌, ◌<◌, ◌≤◌, ◌^◌, max, length, slice_index, vec_len, IfOk, IsTrue};
 ghost use Rattle.shop_model.specs.Word.{IsWord, placing};
 ghost use Rattle.shop_bound.specs.{Bound.{lb, triples_on, waiting}, Laws.{IsLower, EndsThereIfFull}};
-ghost use Rattle.shop_bound.specs.{OneMachine.{one, IsSmall}, inner.BoundRooms.IsRoomFor, inner.PlacedWords.IsOfWord};
-ghost use Rattle.shop_bound.specs.inner.Unplaced.{IsGreatestBound};
+ghost use Rattle.shop_bound.specs.{OneMachine.{one, greatest_of, IsSmall}, inner.Unplaced.IsGreatestBound};
+ghost use Rattle.shop_bound.specs.inner.{BoundRooms.IsRoomFor, PlacedWords.IsOfWord, Thresholds.span_above};
 
-use crate::leaps::may_exceed;
-use crate::machine_lists::{count_visits, greatest, list_unplaced, lists_with_room};
+use crate::machine_lists::{count_visits, list_unplaced};
 use crate::schedules::Jackson;
 use crate::triples::Triple;
 use shop_model::{Instance, Placement, Word};
 use std::alloc::{AllocError as NoMemory, Global};
+use std::cmp::Reverse;
 
 /// Memory to bound words of an instance: for the waiting operations of each machine, and for the preemptive schedule of
 /// any machine.
@@ -20,18 +20,75 @@ pub(crate) struct BoundRoom {
     jackson: Jackson,
 }
 
-/// Answers the greater of `bound` and the one-machine bound of `triples`, whose order it may change. Makes Jackson's
-/// schedule only where a few passes don't tell that `bound` is the greater one.
+/// The most leaps that are tried. On random instances, one to three settle a machine that has no more to do than
+/// another one. Where they don't, Jackson's schedule is made, so a machine of n operations takes n log n steps.
+const LEAPS: usize = 4;
+
+/// Answers the greatest head in `triples`; 0 if `triples` is empty.
+fn greatest_head(triples: &[Triple]) -> u64
+    ensures { result ≡ greatest_of (λ t. t.head) triples.now }
+{
+    triples.iter().map(|t| t.head).max().unwrap_or(0)
+}
+
+/// Answers the load from `from` on: when the last of the operations with a head of at least `from` ends, tail included,
+/// if the machine serves these from 0 on, one after the other, in the order of `triples`; 0 if there are none. So no
+/// span from a head of at least `from` is greater than that head and the load.
+fn load_from(triples: &[Triple], from: u64) -> u64
+    requires { IsSmall triples.now }
+    ensures covers { (head tail : ℕ) → from ≤ head → span_above triples.now head tail ≤ head + result }
+    ensures small { result < 2 ^ 50 }
+{
+    let mut time = 0;
+    let mut load = 0;
+    for t in triples {
+        if from <= t.head {
+            time += t.time;
+            load = load.max(time + t.tail);
+        }
+    }
+    load
+}
+
+/// Answers `true` only if the one-machine bound of `triples` is at most `bound`. The load never rises with the head
+/// from which on it is taken, so one load settles all heads up to `bound` less that load, and the next load is taken
+/// from one above that.
+fn is_settled(triples: &[Triple], bound: u64) -> bool
+    requires { IsSmall triples.now }
+    ensures { IsTrue result → one triples.now ≤ bound }
+{
+    let greatest = greatest_head(triples);
+    let mut from = 0;
+    for _ in 0..LEAPS {
+        let load = load_from(triples, from);
+        if greatest + load <= bound {
+            return true;
+        }
+        if bound < from + load {
+            return false;
+        }
+        from = bound - load + 1;
+    }
+    false
+}
+
+/// Answers the greater of `bound` and the one-machine bound of `triples`. Makes Jackson's schedule only where the times
+/// alone are greater than `bound`, or a few passes don't tell that the one-machine bound is at most `bound`. These
+/// passes go over `triples` by nonincreasing tail, in which order loads are least. May change the order of `triples`.
 fn raise(jackson: &mut Jackson, triples: &mut [Triple], bound: u64) -> u64
     requires room { length triples.old ≤ jackson.old.room }
     requires small { IsSmall triples.old }
     ensures bound { result ≡ max bound (one triples.old) }
     ensures room { jackson.new.room ≡ jackson.old.room }
 {
-    if may_exceed(triples, bound) {
-        return jackson.bound(triples).max(bound);
+    let total: u64 = triples.iter().map(|t| t.time).sum();
+    if total <= bound {
+        triples.sort_unstable_by_key(|t| Reverse(t.tail));
+        if is_settled(triples, bound) {
+            return bound;
+        }
     }
-    bound
+    jackson.bound(triples).max(bound)
 }
 
 impl BoundRoom {
@@ -40,8 +97,12 @@ impl BoundRoom {
         ensures { IfOk result (IsRoomFor instance.now) }
     {
         let counts = count_visits(alloc, instance)?;
-        let lists = lists_with_room(alloc, counts.as_slice())?;
-        let jackson = Jackson::with_room(alloc, greatest(counts.as_slice()))?;
+        let mut lists = Vec::with_capacity(alloc, counts.len())?;
+        for &count in counts.as_slice() {
+            lists.push(Vec::with_capacity(alloc, count)?)?;
+        }
+        let most = counts.iter().copied().max().unwrap_or(0);
+        let jackson = Jackson::with_room(alloc, most)?;
         Ok(BoundRoom { lists, jackson })
     }
 

@@ -2,11 +2,11 @@
 // room for all operations of their machine.
 ghost use Rattle.std.specs.Prelude.{◌≡◌, ℕ, ◌+◌, ◌^◌, ◌≤◌, ◌<◌, [], length, slice_index_or, All, IfOk};
 ghost use Rattle.shop_model.specs.Shop.{no_op};
-ghost use Rattle.shop_bound.specs.{OneMachine.greatest_of, inner.MachineLists.{HaveRoomFor, KeepRoom}};
-ghost use Rattle.shop_bound.specs.inner.MachineLists.{visits, rooms_in, rows_in, visits_in, AreVisits, HaveRoom};
+ghost use Rattle.shop_bound.specs.inner.MachineLists.{HaveRoomFor, KeepRoom};
+ghost use Rattle.shop_bound.specs.inner.MachineLists.{visits, rows_in, visits_in, AreVisits, HaveRoom};
 ghost use Rattle.shop_bound.specs.{inner.PlacedWords.IsOfWord, inner.Unplaced.{Adds, AreUnplaced, CanGoOn}};
 
-use crate::tail_rows::total_time;
+use crate::heads_and_tails::total_time;
 use crate::triples::Triple;
 use shop_model::{Instance, Op, Placement};
 use std::alloc::{AllocError as NoMemory, Global};
@@ -32,29 +32,6 @@ pub(crate) fn count_visits(alloc: Global, instance: &Instance) -> Result<Vec<usi
         add_visits(counts.as_mut_slice(), instance.route(j));
     }
     Ok(counts)
-}
-
-/// Makes an empty list for each of `counts`, with room for that many operations. Fails with `NoMemory` if memory runs
-/// out.
-pub(crate) fn lists_with_room(alloc: Global, counts: &[usize]) -> Result<Vec<Vec<Triple>>, NoMemory>
-    ensures { IfOk result (λ v. rooms_in v.items ≡ counts.now) }
-{
-    let mut lists = Vec::with_capacity(alloc, counts.len())?;
-    for &count in counts {
-        lists.push(Vec::with_capacity(alloc, count)?)?;
-    }
-    Ok(lists)
-}
-
-/// Answers the greatest of `counts`; 0 if there are none.
-pub(crate) fn greatest(counts: &[usize]) -> usize
-    ensures { result ≡ greatest_of (λ n. n) counts.now }
-{
-    let mut greatest = 0;
-    for &count in counts {
-        greatest = greatest.max(count);
-    }
-    greatest
 }
 
 /// Adds the operations in `rest`, the rest of a job's route, to the lists of their machines. The job is ready at

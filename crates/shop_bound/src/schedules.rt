@@ -1,26 +1,14 @@
 // Jackson's preemptive schedule of one machine: its greatest end is the one-machine bound.
-ghost use Rattle.std.specs.Prelude.{◌≡◌, ℕ, ◌+◌, ◌*◌, ◌^◌, ◌<◌, ◌≤◌, List, length, map, vec_len, IfOk};
+ghost use Rattle.std.specs.Prelude.{◌≡◌, ◌+◌, ◌*◌, ◌<◌, ◌≤◌, length, map, vec_len, IfOk};
 ghost use Rattle.std.specs.BinaryHeap.{heap_items};
 ghost use Rattle.shop_bound.specs.{OneMachine.{one, IsSmall}, Schedules.JacksonState, declared.queues.Work.Work};
 ghost use Rattle.shop_bound.specs.inner.Queues.{ComeLater, HasRoom, IsFirst, IsQueue, KeepsRoom};
-ghost use Rattle.shop_bound.specs.inner.Serving.{IsReady, IsRun, IsStop, fresh, triples_of, turns_left, undone};
+ghost use Rattle.shop_bound.specs.inner.Serving.{IsReady, IsRun, fresh, triples_of, turns_left, undone};
 
 use crate::queues::{Queue, Work};
 use crate::triples::{NO_TRIPLE, Triple};
 use std::alloc::{AllocError as NoMemory, Global};
 use std::marker::Model;
-
-/// Answers when the machine stops serving an operation: at `end`, or at the next release if it is earlier.
-fn stop_of_turn(queue: &Queue, end: u64) -> u64
-    ensures { (ws : List Work) (clock : ℕ) → IsQueue ws clock queue.now
-        → ComeLater clock (heap_items queue.now.coming) → clock ≤ end
-        → IsStop (length ws) ws clock end result }
-{
-    match queue.next_release() {
-        Some(release) => release.min(end),
-        None => end,
-    }
-}
 
 /// Answers when the machine serves next: at `clock` if an operation waits or none is left, else at the next release.
 /// Moves the operations that are released by then to the waiting ones.
@@ -59,13 +47,9 @@ fn serve(works: &mut [Work], queue: &mut Queue, clock: u64, chosen: usize, best:
 {
     let work = works[chosen];
     let end = clock + (work.triple.time - work.spent);
-    let stop = stop_of_turn(queue, end);
+    let stop = queue.next_release().unwrap_or(end).min(end);
     if stop < end {
-        works[chosen] = Work {
-            triple: work.triple,
-            spent: work.spent + (stop - clock),
-            done: false,
-        };
+        works[chosen].spent += stop - clock;
         return stop;
     }
     works[chosen] = Work {
@@ -77,13 +61,6 @@ fn serve(works: &mut [Work], queue: &mut Queue, clock: u64, chosen: usize, best:
     let reached = end + work.triple.tail;
     *best = reached.max(*best);
     end
-}
-
-/// The result of a preemptive schedule: its greatest completion time, tail included, and its number of turns.
-#[derive(Clone, Copy)]
-struct Outcome {
-    bound: u64,
-    turns: u64,
 }
 
 /// Writes the operations of `triples` over `works`, none of them served.
@@ -100,29 +77,29 @@ fn fill(works: &mut [Work], triples: &[Triple])
     }
 }
 
-/// Makes the whole preemptive schedule of the operations of `triples`, turn by turn. `works` and `queue` have room for
-/// these operations.
-fn schedule(works: &mut [Work], queue: &mut Queue, triples: &[Triple]) -> Outcome
+/// Makes the whole preemptive schedule of the operations of `triples`, turn by turn. Answers its greatest end, tail
+/// included, and counts its turns in `turns`. `works` and `queue` have room for these operations.
+fn schedule(works: &mut [Work], queue: &mut Queue, triples: &[Triple], turns: &mut u64) -> u64
     requires works { length triples.now ≤ length works.old }
     requires queue { HasRoom (length triples.now) queue.old }
     requires small { IsSmall triples.now }
-    ensures bound { result.bound ≡ one triples.now }
-    ensures turns { result.turns ≤ 2 * length triples.now }
-    ensures each { length triples.now ≤ result.turns }
+    ensures bound { result ≡ one triples.now }
+    ensures turns { turns.new ≤ 2 * length triples.now }
+    ensures each { length triples.now ≤ turns.new }
     ensures room { KeepsRoom queue.old queue.new }
 {
     let works = &mut works[..triples.len()];
     fill(works, triples);
     queue.fill(triples);
     let mut best = 0;
-    let mut turns = 0;
+    *turns = 0;
     let mut clock = ready_at(works, queue, 0);
     while let Some(chosen) = queue.next_to_serve() {
         let stop = serve(works, queue, clock, chosen, &mut best);
         clock = ready_at(works, queue, stop);
-        turns += 1;
+        *turns += 1;
     }
-    Outcome { bound: best, turns }
+    best
 }
 
 /// Jackson's preemptive schedule of one machine (Carlier 1982): at each moment it serves the released operation of
@@ -175,9 +152,8 @@ impl Jackson {
         ensures each { length triples.now ≤ self.new.turns }
         ensures room { self.new.room ≡ self.old.room }
     {
-        let outcome = schedule(self.works.as_mut_slice(), &mut self.queue, triples);
-        self.last_turns = outcome.turns;
-        outcome.bound
+        let works = self.works.as_mut_slice();
+        schedule(works, &mut self.queue, triples, &mut self.last_turns)
     }
 
     /// The number of turns in the last schedule: from n to 2 n for n operations, 0 before the first schedule. A turn

@@ -7,7 +7,7 @@ use Rattle.std.proofs.lemmas.List.Elements.{filter-append}
 use Rattle.std.proofs.lemmas.List.Sums.{fold-append}
 use Rattle.shop_model.specs.Shop.{Shop, route_of}
 use Rattle.shop_model.specs.Word.{Placing}
-use Rattle.shop_nodes.specs.declared.next_operations.NextOperation.{NextOperation}
+use Rattle.shop_nodes.specs.declared.conflicts.NextOperation.{NextOperation}
 use Rattle.shop_nodes.specs.Branching.{next_end, chosen_of, conflicts_with}
 use Rattle.shop_nodes.specs.inner.Choosing.{IsNext, IsChoice}
 

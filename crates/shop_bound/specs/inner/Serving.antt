@@ -17,10 +17,6 @@ triples_of ws = map (λ w. w.triple) ws
 abbrev pub fresh : Triple → Work
 fresh t = record { triple = t; spent = 0; done = false }
 
-pub record IsFresh (ws : List Work) : Type 0 where
-  pub spent : (i : ℕ) → i < length ws → (work_at ws i).spent ≡ 0
-  pub undone : (i : ℕ) → i < length ws → (work_at ws i).done ≡ false
-
 -- operation i waits at the clock: it is released and not done
 pub record Waits (ws : List Work) (clock i : ℕ) : Type 0 where
   pub here : i < length ws

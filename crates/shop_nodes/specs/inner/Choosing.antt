@@ -10,8 +10,8 @@ use Rattle.std.specs.Prelude.{◌≡◌, ℕ, ◌≤◌, Bool, ◌==◌, ◌&&�
 use Rattle.std.specs.Prelude.{nat_lt}
 use Rattle.shop_model.specs.{Shop.{Shop, route_of, IsOperation}, Word.{Placing, placing}}
 use Rattle.shop_nodes.specs.Branching.{open_jobs, next_machine, next_head, next_end, chosen_of, conflicts_with}
-use Rattle.shop_nodes.specs.declared.next_operations.NextOperation.{NextOperation}
-use Rattle.shop_nodes.specs.declared.next_operations.Placed.{Placed}
+use Rattle.shop_nodes.specs.declared.conflicts.NextOperation.{NextOperation}
+use Rattle.shop_nodes.specs.declared.conflicts.Placed.{Placed}
 
 pub record IsNext (shop : Shop) (p : Placing) (j : ℕ) (n : NextOperation) : Type 0 where
   pub job : n.job ≡ j

@@ -1,8 +1,8 @@
 use Rattle.std.proofs.{Common.{rules, inl, inr, arith, ap, ◌≡◌, ◌∙◌, List, length}, lemmas.List.length-map}
-use Rattle.shop_bound.specs.{inner.Serving.{IsFresh, triples_of}, declared.triples.Triple.Triple, OneMachine.one}
+use Rattle.shop_bound.specs.{inner.Serving.triples_of, declared.triples.Triple.Triple, OneMachine.one}
 use Rattle.shop_bound.proofs.{QueueTurns.{none_waits, room_kept}, Turns.{ready_or_done, ready_run, started, all_done}}
 use Rattle.shop_bound.proofs.TurnCounts.{ready_turns, undone-none, undone-fresh, turns_left-two}
-use Rattle.shop_bound.proofs.WorkSums.{fresh-is, fresh-triples}
+use Rattle.shop_bound.proofs.WorkSums.{IsFresh, fresh-is, fresh-triples}
 use Rattle.shop_bound.proofs.schedules.schedule.Goals as goal
 
 pub loop-chosen-init : goal.loop-chosen-init

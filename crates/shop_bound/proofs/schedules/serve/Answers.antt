@@ -2,7 +2,7 @@ use Rattle.std.proofs.Common.{◌≡◌, ℕ, ◌+◌, max, rules, arith, subst,
 use Rattle.shop_bound.specs.inner.Serving.{IsRun, work_at}
 use Rattle.shop_bound.proofs.Turns.{held, finished, left_of, held_run, held_fewer, finished_run, finished_fewer}
 use Rattle.shop_bound.proofs.{Turns.end_small, WorkSums.triples-set, TurnCounts.undone-set}
-use Rattle.shop_bound.proofs.QueueTurns.{first_served, queue_done, queue_held}
+use Rattle.shop_bound.proofs.QueueTurns.{stop_is, first_served, queue_done, queue_held}
 use Rattle.shop_bound.proofs.schedules.serve.Goals as goal
 
 pub overflow_add-end : goal.overflow_add-end
@@ -13,18 +13,20 @@ overflow_add-end c =
 
 pub returns-then-stop-end-clause-run : goal.returns-then-stop-end-clause-run
 returns-then-stop-end-clause-run c =
-    held_run c.args.works.now c.args.clock c.args.best.now c.args.chosen c.stop_of_turn-stop.result c.requires.run
+    held_run c.args.works.now c.args.clock c.args.best.now c.args.chosen c.min-stop.result c.requires.run
     (first_served _ _ _ _ c.requires.queue.are c.requires.later c.args.chosen c.requires.chosen)
-    (c.stop_of_turn-stop.ensures c.args.works.now c.args.clock c.requires.queue c.requires.later (omega arith))
+    (stop_is c.requires.queue c.requires.later c.next_release.result c.next_release.ensures c.unwrap_or.ensures
+    c.min-stop.ensures (omega arith))
 
 pub returns-then-stop-end-clause-same : goal.returns-then-stop-end-clause-same
 returns-then-stop-end-clause-same c = grind (arith, triples-set, held)
 
 pub returns-then-stop-end-clause-fewer : goal.returns-then-stop-end-clause-fewer
 returns-then-stop-end-clause-fewer c =
-    held_fewer c.args.works.now c.args.clock c.args.chosen c.stop_of_turn-stop.result (first_served _ _ _ _
+    held_fewer c.args.works.now c.args.clock c.args.chosen c.min-stop.result (first_served _ _ _ _
     c.requires.queue.are c.requires.later c.args.chosen c.requires.chosen)
-    (c.stop_of_turn-stop.ensures c.args.works.now c.args.clock c.requires.queue c.requires.later (omega arith))
+    (stop_is c.requires.queue c.requires.later c.next_release.result c.next_release.ensures c.unwrap_or.ensures
+    c.min-stop.ensures (omega arith))
     c.if-stop-end.true
 
 pub overflow_add-reached : goal.overflow_add-reached
@@ -35,9 +37,10 @@ overflow_add-reached c =
 
 pub returns-clause-run : goal.returns-clause-run
 returns-clause-run c =
-    let h = finished_run c.args.works.now c.args.clock c.args.best.now c.args.chosen c.stop_of_turn-stop.result
+    let h = finished_run c.args.works.now c.args.clock c.args.best.now c.args.chosen c.min-stop.result
     c.requires.run (first_served _ _ _ _ c.requires.queue.are c.requires.later c.args.chosen c.requires.chosen)
-    (c.stop_of_turn-stop.ensures c.args.works.now c.args.clock c.requires.queue c.requires.later (omega arith))
+    (stop_is c.requires.queue c.requires.later c.next_release.result c.next_release.ensures c.unwrap_or.ensures
+    c.min-stop.ensures (omega arith))
     c.if-stop-end.false
     in let m : c.max.result ≡ max (c.args.clock + left_of c.args.works.now
     c.args.chosen + (work_at c.args.works.now c.args.chosen).triple.tail) c.args.best.now = search rules
@@ -58,14 +61,17 @@ returns-clause-single c = grind (arith, undone-set, finished, first_served)
 
 pub overflow_sub-works : goal.overflow_sub-works
 overflow_sub-works c =
-    (c.stop_of_turn-stop.ensures c.args.works.now c.args.clock c.requires.queue c.requires.later (omega arith)).later
+    (stop_is c.requires.queue c.requires.later c.next_release.result c.next_release.ensures c.unwrap_or.ensures
+    c.min-stop.ensures (omega arith)).later
 
 pub returns-then-stop-end-clause-queue : goal.returns-then-stop-end-clause-queue
 returns-then-stop-end-clause-queue c =
-    queue_held c.args.works.now c.args.clock c.args.chosen c.stop_of_turn-stop.result
-    (held c.args.works.now c.args.clock c.args.chosen c.stop_of_turn-stop.result) c.args.queue.now c.requires.queue
-    (first_served _ _ _ _ c.requires.queue.are c.requires.later c.args.chosen c.requires.chosen) refl refl
-    (c.stop_of_turn-stop.ensures c.args.works.now c.args.clock c.requires.queue c.requires.later (omega arith)).later
+    let served = first_served _ _ _ _ c.requires.queue.are c.requires.later c.args.chosen c.requires.chosen
+    in queue_held c.args.works.now c.args.clock c.args.chosen c.min-stop.result
+    (held c.args.works.now c.args.clock c.args.chosen c.min-stop.result) c.args.queue.now c.requires.queue
+    served refl served.undone
+    (stop_is c.requires.queue c.requires.later c.next_release.result c.next_release.ensures c.unwrap_or.ensures
+    c.min-stop.ensures (omega arith)).later
 
 pub returns-clause-queue : goal.returns-clause-queue
 returns-clause-queue c =

@@ -1,6 +1,16 @@
-use Rattle.std.proofs.{Common.arith, lemmas.List.length-map}
-use Rattle.shop_bound.proofs.Lists.{get_or-le-greatest_of}
+use Rattle.std.proofs.{Common.{◌≡◌, ◌∙◌, ap, arith, sym, unwrap_or}, lemmas.List.{length-map, take_all}}
+use Rattle.std.proofs.{lemmas.Iterator.Adapters.option_map_id}
+use Rattle.std.proofs.lemmas.Iterator.{YieldsList-from_slice}
+use Rattle.std.proofs.lemmas.Iterator.Consumers.{YieldsList-from_copied, max_from_yields_List}
+use Rattle.shop_bound.specs.OneMachine.{greatest_of}
+use Rattle.shop_bound.proofs.{Lists.get_or-le-greatest_of, ThresholdLemmas.greatest_of-reduce}
 use Rattle.shop_bound.proofs.lower.BoundRoom.of.Goals as goal
 
 pub returns : goal.returns
-returns c = grind (arith, length-map, get_or-le-greatest_of)
+returns c =
+    let counts = c.in_ok-counts.counts.items
+    in let most : c.unwrap_or-most.result ≡ greatest_of (λ n. n) counts = c.unwrap_or-most.ensures
+    ∙ ap (λ o. unwrap_or o 0) (sym (option_map_id _)
+    ∙ max_from_yields_List _ _ c.max.ensures.ran (YieldsList-from_copied (YieldsList-from_slice counts cc)))
+    ∙ greatest_of-reduce counts
+    in grind (arith, length-map, take_all, get_or-le-greatest_of, most)

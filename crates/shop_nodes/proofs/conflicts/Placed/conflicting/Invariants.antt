@@ -1,0 +1,12 @@
+use Rattle.std.proofs.Common.{◌≡◌}
+use Rattle.std.specs.List.{filter}
+use Rattle.shop_nodes.specs.Branching.{conflicts_with}
+use Rattle.shop_nodes.specs.inner.Choosing.{placing_of}
+use Rattle.shop_nodes.proofs.ChoosingLemmas.{open_below}
+use Rattle.shop_nodes.proofs.conflicts.Placed.conflicting.Given as goal
+
+abbrev pub invariant-loop-job : goal.invariant-loop-job
+invariant-loop-job l =
+    let shop = l.self.instance.now
+    in let p = placing_of l.self
+    in l.jobs.items ≡ filter (conflicts_with shop p l.chosen.job) (open_below shop p l.job)
