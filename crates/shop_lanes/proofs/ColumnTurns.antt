@@ -78,6 +78,10 @@ pub record IsServedTo (least : ℕ) (part : ℕ → ℕ → List Lane) (j : ℕ)
   pub clocks_are : clocks ≡ eight (λ k. clock_after least 0 (part k j))
   pub most_are : most ≡ eight (λ k. span least 0 (part k j))
 
+pub served_whole : {least count : ℕ} {part : ℕ → ℕ → List Lane} {j : ℕ} {clocks most : List ℕ} → j ≡ count
+    → IsServedTo least part j clocks most → IsServedTo least part count clocks most
+served_whole e served = rw (sym e) served
+
 -- what a pass has served of column k, j blocks down, each block one lane more
 pub record AreParts (count : ℕ) (hs ts qs : List ℕ) (all : List Lane) (part : ℕ → ℕ → List Lane) : Type 0 where
   pub more : (k j : ℕ) → k < 8 → j < count → part k (suc j) ≡ part k j ++ (lane_at hs ts qs (8 * j + k) ∷ [])

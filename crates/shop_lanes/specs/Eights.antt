@@ -6,8 +6,9 @@
 --     later_head rest least head       `head` if it is at least `least`, else `rest`
 --     ahead_of greatest from x         how far x lies ahead of `from`; 0 follows on `greatest`
 --     is_between above upto x          x is above `above` and at most `upto`
-use Rattle.std.specs.Prelude.{◌≡◌, ℕ, ◌+◌, ◌-◌, ◌≤◌, Bool, ◌&&◌, List, [], ◌∷◌, ◌++◌, length, replicate, map, nat_le}
-use Rattle.std.specs.{Prelude.{nat_lt, if◌then◌else◌, slice_index}, Simd.Lanes.{pick_l, sel_l, zip2, Each2}}
+--     is_marked equal number x         if `equal`, x is the number; else x is above 0 and at most the number
+use Rattle.std.specs.Prelude.{◌≡◌, ℕ, ◌+◌, ◌-◌, ◌≤◌, Bool, ◌&&◌, ◌==◌, List, [], ◌∷◌, ◌++◌, length, replicate, map}
+use Rattle.std.specs.{Prelude.{nat_le, nat_lt, if◌then◌else◌, slice_index}, Simd.Lanes.{pick_l, sel_l, zip2, Each2}}
 
 abbrev pub eight_zeros : List ℕ
 eight_zeros = 0 ∷ 0 ∷ 0 ∷ 0 ∷ 0 ∷ 0 ∷ 0 ∷ 0 ∷ []
@@ -67,3 +68,6 @@ ahead_of greatest from x = if nat_le from x then x - from else x + greatest + 1 
 
 abbrev pub is_between : ℕ → ℕ → ℕ → Bool
 is_between above upto x = nat_lt above x && nat_le x upto
+
+abbrev pub is_marked : Bool → ℕ → ℕ → Bool
+is_marked equal number x = if equal then x == number else is_between 0 number x

@@ -1,10 +1,9 @@
 // What each width of lanes offers: blocks of eight numbers, which are read, added and compared lane by lane at once.
-ghost use Rattle.std.specs.Prelude.{◌≡◌, ℕ, ◌+◌, ◌*◌, ◌<◌, ◌≤◌, List, length, replicate, map, min, IfOk};
-ghost use Rattle.std.specs.Prelude.{max, ◌==◌, take, drop};
-ghost use Rattle.std.specs.Simd.Lanes.{mask_l, zip2, put_chunk};
-ghost use Rattle.shop_lanes.specs.Eights.{first_of, is_between, IsSplat, up_one, up_two, up_four};
-ghost use Rattle.shop_lanes.specs.Eights.{down_one, down_two, down_four, halves, quarters};
-ghost use Rattle.shop_lanes.specs.Eights.{neighbours, added, lessened, waiting, AddsFit, ahead_of};
+ghost use Rattle.std.specs.Prelude.{◌≡◌, ℕ, ◌+◌, ◌*◌, ◌<◌, ◌≤◌, List, length, replicate, map, min, max, IfOk, take};
+ghost use Rattle.std.specs.{Prelude.drop, Simd.Lanes.{mask_l, zip2, put_chunk}};
+ghost use Rattle.shop_lanes.specs.Eights.{first_of, is_marked, IsSplat, up_one, up_two, up_four, down_one, down_two};
+ghost use Rattle.shop_lanes.specs.Eights.{down_four, halves, quarters, neighbours, added, lessened, waiting, AddsFit};
+ghost use Rattle.shop_lanes.specs.Eights.{ahead_of};
 
 use std::alloc::{AllocError as NoMemory, Global};
 
@@ -119,34 +118,20 @@ pub trait Block: Copy + Drop {
         ensures { numbers result ≡ map (ahead_of GREATEST (first_of (numbers from)))
             (take 8 (drop (8 * block) (map value row.now))) };
 
-    /// Sets bit i of the result if lane i of `block` is above `above` and at most `upto`.
-    fn bits_between(block: Self, above: u64, upto: u64) -> u64
-        requires eight { length (numbers block) ≡ 8 }
-        requires above { above ≤ GREATEST }
-        requires upto { upto ≤ GREATEST }
-        ensures { result ≡ mask_l (map (is_between above upto) (numbers block)) };
-
-    /// Sets bit i of the result if lane i of `block` equals `number`.
-    fn bits_equal(block: Self, number: u64) -> u64
+    /// Sets bit i of the result if lane i of `block` is marked: if `equal`, where it is `number`; else, where it is
+    /// above 0 and at most `number`.
+    fn bits(block: Self, equal: bool, number: u64) -> u64
         requires eight { length (numbers block) ≡ 8 }
         requires fits { number ≤ GREATEST }
-        ensures { result ≡ mask_l (map (λ x. x == number) (numbers block)) };
+        ensures { result ≡ mask_l (map (is_marked equal number) (numbers block)) };
 
-    /// Sets bit i of the result if number i of the 16 numbers of `row` from number 16 * `pair` on is above `above` and
-    /// at most `upto`. Two blocks share what turns lanes into bits.
-    fn pair_between(row: &[Self::Number], pair: usize, above: u64, upto: u64) -> u64
-        requires within { 16 * (pair + 1) ≤ length row.now }
-        requires above { above ≤ GREATEST }
-        requires upto { upto ≤ GREATEST }
-        ensures { result
-            ≡ mask_l (map (is_between above upto) (take 16 (drop (16 * pair) (map value row.now)))) };
-
-    /// Sets bit i of the result if number i of the 16 numbers of `row` from number 16 * `pair` on equals `number`.
-    fn pair_equal(row: &[Self::Number], pair: usize, number: u64) -> u64
+    /// Sets bit i of the result if number i of the 16 numbers of `row` from number 16 * `pair` on is marked, as for
+    /// `bits`. Two blocks share what turns lanes into bits.
+    fn pair_bits(row: &[Self::Number], pair: usize, equal: bool, number: u64) -> u64
         requires within { 16 * (pair + 1) ≤ length row.now }
         requires fits { number ≤ GREATEST }
         ensures { result
-            ≡ mask_l (map (λ x. x == number) (take 16 (drop (16 * pair) (map value row.now)))) };
+            ≡ mask_l (map (is_marked equal number) (take 16 (drop (16 * pair) (map value row.now)))) };
 
     ghost has_numbers: { 0 < GREATEST };
 }

@@ -134,28 +134,21 @@ impl Block for Block16 {
     }
 
     #[inline(always)]
-    fn bits_between(block: Self, above: u64, upto: u64) -> u64 {
-        let later = block.0.simd_gt(u16x8::splat(above as u16));
-        let early = block.0.simd_le(u16x8::splat(upto as u16));
-        (later & early).to_bitmask()
+    fn bits(block: Self, equal: bool, number: u64) -> u64 {
+        let number = u16x8::splat(number as u16);
+        if equal {
+            return block.0.simd_eq(number).to_bitmask();
+        }
+        (block.0.simd_gt(u16x8::splat(0)) & block.0.simd_le(number)).to_bitmask()
     }
 
     #[inline(always)]
-    fn bits_equal(block: Self, number: u64) -> u64 {
-        block.0.simd_eq(u16x8::splat(number as u16)).to_bitmask()
-    }
-
-    #[inline(always)]
-    fn pair_between(row: &[u16], pair: usize, above: u64, upto: u64) -> u64 {
+    fn pair_bits(row: &[u16], pair: usize, equal: bool, number: u64) -> u64 {
         let numbers = u16x16::from_slice(&row[16 * pair..]);
-        let later = numbers.simd_gt(u16x16::splat(above as u16));
-        let early = numbers.simd_le(u16x16::splat(upto as u16));
-        (later & early).to_bitmask()
-    }
-
-    #[inline(always)]
-    fn pair_equal(row: &[u16], pair: usize, number: u64) -> u64 {
-        let numbers = u16x16::from_slice(&row[16 * pair..]);
-        numbers.simd_eq(u16x16::splat(number as u16)).to_bitmask()
+        let number = u16x16::splat(number as u16);
+        if equal {
+            return numbers.simd_eq(number).to_bitmask();
+        }
+        (numbers.simd_gt(u16x16::splat(0)) & numbers.simd_le(number)).to_bitmask()
     }
 }

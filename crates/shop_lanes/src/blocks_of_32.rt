@@ -134,28 +134,21 @@ impl Block for Block32 {
     }
 
     #[inline(always)]
-    fn bits_between(block: Self, above: u64, upto: u64) -> u64 {
-        let later = block.0.simd_gt(u32x8::splat(above as u32));
-        let early = block.0.simd_le(u32x8::splat(upto as u32));
-        (later & early).to_bitmask()
+    fn bits(block: Self, equal: bool, number: u64) -> u64 {
+        let number = u32x8::splat(number as u32);
+        if equal {
+            return block.0.simd_eq(number).to_bitmask();
+        }
+        (block.0.simd_gt(u32x8::splat(0)) & block.0.simd_le(number)).to_bitmask()
     }
 
     #[inline(always)]
-    fn bits_equal(block: Self, number: u64) -> u64 {
-        block.0.simd_eq(u32x8::splat(number as u32)).to_bitmask()
-    }
-
-    #[inline(always)]
-    fn pair_between(row: &[u32], pair: usize, above: u64, upto: u64) -> u64 {
+    fn pair_bits(row: &[u32], pair: usize, equal: bool, number: u64) -> u64 {
         let numbers = u32x16::from_slice(&row[16 * pair..]);
-        let later = numbers.simd_gt(u32x16::splat(above as u32));
-        let early = numbers.simd_le(u32x16::splat(upto as u32));
-        (later & early).to_bitmask()
-    }
-
-    #[inline(always)]
-    fn pair_equal(row: &[u32], pair: usize, number: u64) -> u64 {
-        let numbers = u32x16::from_slice(&row[16 * pair..]);
-        numbers.simd_eq(u32x16::splat(number as u32)).to_bitmask()
+        let number = u32x16::splat(number as u32);
+        if equal {
+            return numbers.simd_eq(number).to_bitmask();
+        }
+        (numbers.simd_gt(u32x16::splat(0)) & numbers.simd_le(number)).to_bitmask()
     }
 }

@@ -1,6 +1,5 @@
 // Running sums, running maxima, and the greatest and least of the eight numbers of a block.
-ghost use Rattle.std.specs.Prelude.{◌≡◌, ◌≤◌, length};
-ghost use Rattle.std.specs.Simd.Lanes.{sum_l};
+ghost use Rattle.std.specs.{Prelude.{◌≡◌, ◌≤◌, length}, Simd.Lanes.sum_l};
 ghost use Rattle.shop_lanes.specs.Folds.{sums_before, greatest, least_up_to, greatest_before, maxima_behind};
 
 use crate::blocks::Block;

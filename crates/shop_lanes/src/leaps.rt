@@ -1,9 +1,7 @@
 // Raises a bound to the greatest span from a head in a range. The span from head h is h plus the load L of the
 // operations with no lesser head. Later heads have no greater load, so `leap` skips the heads up to the bound less L.
 ghost use Rattle.std.specs.Prelude.{◌≡◌, ◌%◌, ◌≤◌, max, length, map};
-ghost use Rattle.shop_lanes.specs.Eights.{ahead_of};
-ghost use Rattle.shop_lanes.specs.Folds.{least_up_to};
-ghost use Rattle.shop_lanes.specs.Rows.{lanes_in};
+ghost use Rattle.shop_lanes.specs.{Eights.ahead_of, Folds.least_up_to, Rows.lanes_in};
 ghost use Rattle.shop_lanes.specs.Spans.{spans_between, IsRaisedBelow};
 ghost use Rattle.shop_lanes.specs.inner.Passes.{CanRaiseBound};
 

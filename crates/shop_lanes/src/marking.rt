@@ -1,7 +1,6 @@
 // A set of marked positions, one bit for each.
 ghost use Rattle.std.specs.Prelude.{◌≡◌, ℕ, ◌<◌, ◌+◌, ◌≤◌, ◌↔◌, ◌^◌, List, [], IsTrue, All};
-ghost use Rattle.shop_lanes.specs.Marks.{IsPopped, without};
-ghost use Rattle.shop_lanes.specs.SetBits.{set_bits};
+ghost use Rattle.shop_lanes.specs.{Marks.{IsPopped, without}, SetBits.set_bits};
 
 use std::marker::Model;
 

@@ -1,11 +1,8 @@
 // The own span of each waiting operation of a machine: how late the operation, and the others with their tails, end if
 // it goes first. Takes two passes: one goes down the columns and sums each up by itself, one goes back up.
-ghost use Rattle.std.specs.Prelude.{◌≡◌, ◌/◌, length, max};
-ghost use Rattle.std.specs.Simd.Lanes.{zip2};
-ghost use Rattle.shop_lanes.specs.Eights.{added, lessened, AddsFit};
-ghost use Rattle.shop_lanes.specs.Rows.{lanes_in};
-ghost use Rattle.shop_lanes.specs.inner.Passes.{AreColumns};
-ghost use Rattle.shop_lanes.specs.inner.OwnSpans.{AreEnds, AreNoted, CanOwn, WritesOwnSpans};
+ghost use Rattle.std.specs.{Prelude.{◌≡◌, ◌/◌, length, max}, Simd.Lanes.zip2};
+ghost use Rattle.shop_lanes.specs.{Eights.{added, lessened, AddsFit}, Rows.lanes_in};
+ghost use Rattle.shop_lanes.specs.inner.{Passes.AreColumns, OwnSpans.{AreEnds, AreNoted, CanOwn, WritesOwnSpans}};
 
 use crate::blocks::Block;
 use crate::folds::{greatest_before, greatest_behind, sums_before};
@@ -24,7 +21,7 @@ struct ColumnEnds<B> {
     behind: B,
 }
 
-/// Serves all waiting operations as `serve_columns` does, down each of eight columns from time 0 on. Writes into
+/// Serves all waiting operations as `load_of` does, down each of eight columns from time 0 on. Writes into
 /// `owns`, for each position, the greatest end, tail included, of the operations before it in its column.
 #[inline(always)]
 fn note_columns<B: Block>(
@@ -128,8 +125,8 @@ fn own_spans_of<B: Block>(count: usize, rows: &LaneRows<B::Number>, owns: &mut [
     write_back::<B>(count, rows, columns, owns);
 }
 
-/// Does `own_spans` out of line, for numbers of blocks without inlined code: four and more, or five and more where `EACH`
-/// is 4.
+/// Does `own_spans` out of line, for numbers of blocks without inlined code: four and more or, where `EACH` is 4, five
+/// and more.
 #[inline(never)]
 fn own_spans_of_longer<B: Block>(rows: &LaneRows<B::Number>, owns: &mut [B::Number])
     requires { CanOwn B.value B.GREATEST rows.now owns.old }

@@ -1,48 +1,18 @@
 // Passes over rows of numbers, eight at a time: find the load of a machine, the least number of a row, and (as bits of
-// a mask) which numbers lie in a range or equal a number.
-ghost use Rattle.std.specs.Prelude.{◌≡◌, ◌+◌, ◌*◌, ◌/◌, ◌%◌, ◌^◌, ◌≤◌, ◌==◌, length, map, drop};
-ghost use Rattle.std.specs.Simd.Lanes.{mask_l};
-ghost use Rattle.shop_lanes.specs.Rows.{lanes_in};
-ghost use Rattle.shop_lanes.specs.Spans.{span, FitsSpan};
-ghost use Rattle.shop_lanes.specs.Eights.{is_between};
+// a mask) which numbers are positive and at most a limit, or equal a number.
+ghost use Rattle.std.specs.{Prelude.{◌≡◌, ◌+◌, ◌*◌, ◌/◌, ◌%◌, ◌≤◌, length, map}, Simd.Lanes.mask_l};
+ghost use Rattle.shop_lanes.specs.{Rows.lanes_in, Spans.{span, FitsSpan}, Eights.{is_between, is_marked}};
 ghost use Rattle.shop_lanes.specs.Folds.{least_up_to};
-ghost use Rattle.shop_lanes.specs.inner.Passes.{AreColumns, CanFindLeast, IsLeastFound};
+ghost use Rattle.shop_lanes.specs.inner.Passes.{CanFindLeast, IsLeastFound};
 
 use crate::blocks::Block;
 use crate::folds::{greatest_of, least_of, sums_before};
 use crate::lane_rows::LaneRows;
 use crate::served_blocks::serve;
 
-/// Serves, down each of eight columns from time 0 on, the operations with a head of at least `least`. Answers when each
-/// column ends, and the greatest end in it, tail included. A literal `count` of positions unrolls the loop over blocks.
-#[inline(always)]
-fn serve_columns<B: Block>(count: usize, rows: &LaneRows<B::Number>, least: u64) -> (B, B)
-    requires count { length rows.now.heads.now ≡ count }
-    requires whole_blocks { length rows.now.heads.now % 8 ≡ 0 }
-    requires least { least ≤ B.GREATEST }
-    requires fits { FitsSpan B.GREATEST 0 (lanes_in B.value rows.now) }
-    ensures { AreColumns B.numbers (count / 8) (lanes_in B.value rows.now) least result }
-{
-    let least = B::splat(least);
-    let mut clocks = B::splat(0);
-    let mut most = B::splat(0);
-    for block in 0..count / 8 {
-        let (after, later) = serve(
-            B::load(rows.heads, block),
-            B::load(rows.times, block),
-            B::load(rows.tails, block),
-            least,
-            clocks,
-            most,
-        );
-        clocks = after;
-        most = later;
-    }
-    (clocks, most)
-}
-
 /// The load of the operations with a head of at least `least`: their greatest end, tail included, if they are served by
-/// rank from time 0 on. A literal `count`, the number of positions, unrolls the loop over blocks.
+/// rank from time 0 on. Serves each of eight columns by itself first. A literal `count`, the number of positions,
+/// unrolls the loop over blocks.
 #[inline(always)]
 pub(crate) fn load_of<B: Block>(count: usize, rows: &LaneRows<B::Number>, least: u64) -> u64
     requires count { length rows.now.heads.now ≡ count }
@@ -51,43 +21,42 @@ pub(crate) fn load_of<B: Block>(count: usize, rows: &LaneRows<B::Number>, least:
     requires fits { FitsSpan B.GREATEST 0 (lanes_in B.value rows.now) }
     ensures { result ≡ span least 0 (lanes_in B.value rows.now) }
 {
-    let (clocks, most) = serve_columns::<B>(count, rows, least);
+    let from = B::splat(least);
+    let mut clocks = B::splat(0);
+    let mut most = B::splat(0);
+    for block in 0..count / 8 {
+        let (after, later) = serve(
+            B::load(rows.heads, block),
+            B::load(rows.times, block),
+            B::load(rows.tails, block),
+            from,
+            clocks,
+            most,
+        );
+        clocks = after;
+        most = later;
+    }
     greatest_of(B::sum(sums_before(clocks), most))
 }
 
-/// Sets the bits of the last block of `heads`, as `Block::bits_between` does, if the number of blocks is odd; else
-/// none.
+/// Sets bit i of the result if number i of `numbers` is marked, as `Block::bits` tells. A literal `count`, the length
+/// of `numbers`, unrolls the loop over pairs of blocks.
 #[inline(always)]
-fn odd_between<B: Block>(count: usize, heads: &[B::Number], above: u64, upto: u64) -> u64
-    requires count { length heads.now ≡ count }
-    requires whole_blocks { count % 8 ≡ 0 }
-    requires above { above ≤ B.GREATEST }
-    requires upto { upto ≤ B.GREATEST }
-    ensures { result
-        ≡ mask_l (map (is_between above upto) (drop (16 * (count / 16)) (map B.value heads.now))) }
-{
-    if count % 16 == 0 {
-        return 0;
-    }
-    B::bits_between(B::load(heads, 2 * (count / 16)), above, upto)
-}
-
-/// Sets bit i of the result if number i of `heads` is above `above` and at most `upto`. A literal `count`, the length
-/// of `heads`, unrolls the loop over pairs of blocks.
-#[inline(always)]
-fn bits_between<B: Block>(count: usize, heads: &[B::Number], above: u64, upto: u64) -> u64
-    requires count { length heads.now ≡ count }
+fn bits_of<B: Block>(count: usize, numbers: &[B::Number], equal: bool, number: u64) -> u64
+    requires count { length numbers.now ≡ count }
     requires whole_blocks { count % 8 ≡ 0 }
     requires few { count ≤ 64 }
-    requires above { above ≤ B.GREATEST }
-    requires upto { upto ≤ B.GREATEST }
-    ensures { result ≡ mask_l (map (is_between above upto) (map B.value heads.now)) }
+    requires fits { number ≤ B.GREATEST }
+    ensures { result ≡ mask_l (map (is_marked equal number) (map B.value numbers.now)) }
 {
-    let mut bits = odd_between::<B>(count, heads, above, upto);
+    let mut bits = 0;
     let mut pair = count / 16;
+    if count % 16 > 0 {
+        bits = B::bits(B::load(numbers, 2 * pair), equal, number);
+    }
     while pair > 0 {
         pair -= 1;
-        bits = B::pair_between(heads, pair, above, upto) + 65536 * bits;
+        bits = B::pair_bits(numbers, pair, equal, number) + 65536 * bits;
     }
     bits
 }
@@ -99,8 +68,8 @@ pub fn are_wide(greatest: u64) -> bool {
     greatest > u32::MAX as u64
 }
 
-/// Does `bits_up_to` out of line, for numbers of blocks without inlined code: four and more, or five and more where `EACH`
-/// is 4.
+/// Does `bits_up_to` out of line, for numbers of blocks without inlined code: four and more or, where `EACH` is 4, five
+/// and more.
 #[inline(never)]
 fn bits_of_longer<B: Block>(heads: &[B::Number], upto: u64) -> u64
     requires whole_blocks { length heads.now % 8 ≡ 0 }
@@ -109,15 +78,15 @@ fn bits_of_longer<B: Block>(heads: &[B::Number], upto: u64) -> u64
     ensures { result ≡ mask_l (map (is_between 0 upto) (map B.value heads.now)) }
 {
     if are_wide(B::GREATEST) {
-        return bits_between::<B>(heads.len(), heads, 0, upto);
+        return bits_of::<B>(heads.len(), heads, false, upto);
     }
     match heads.len() {
-        32 => bits_between::<B>(32, heads, 0, upto),
-        40 => bits_between::<B>(40, heads, 0, upto),
-        48 => bits_between::<B>(48, heads, 0, upto),
-        56 => bits_between::<B>(56, heads, 0, upto),
-        64 => bits_between::<B>(64, heads, 0, upto),
-        _ => bits_between::<B>(heads.len(), heads, 0, upto),
+        32 => bits_of::<B>(32, heads, false, upto),
+        40 => bits_of::<B>(40, heads, false, upto),
+        48 => bits_of::<B>(48, heads, false, upto),
+        56 => bits_of::<B>(56, heads, false, upto),
+        64 => bits_of::<B>(64, heads, false, upto),
+        _ => bits_of::<B>(heads.len(), heads, false, upto),
     }
 }
 
@@ -131,46 +100,12 @@ pub(crate) fn bits_up_to<B: Block, const EACH: usize>(heads: &[B::Number], upto:
     ensures { result ≡ mask_l (map (is_between 0 upto) (map B.value heads.now)) }
 {
     match heads.len() {
-        8 => bits_between::<B>(8, heads, 0, upto),
-        16 => bits_between::<B>(16, heads, 0, upto),
-        24 => bits_between::<B>(24, heads, 0, upto),
-        32 if EACH == 4 => bits_between::<B>(32, heads, 0, upto),
+        8 => bits_of::<B>(8, heads, false, upto),
+        16 => bits_of::<B>(16, heads, false, upto),
+        24 => bits_of::<B>(24, heads, false, upto),
+        32 if EACH == 4 => bits_of::<B>(32, heads, false, upto),
         _ => bits_of_longer::<B>(heads, upto),
     }
-}
-
-/// Sets the bits of the last block of `numbers`, as `Block::bits_equal` does, if the number of blocks is odd; else
-/// none.
-#[inline(always)]
-fn odd_equal<B: Block>(count: usize, numbers: &[B::Number], number: u64) -> u64
-    requires count { length numbers.now ≡ count }
-    requires whole_blocks { count % 8 ≡ 0 }
-    requires fits { number ≤ B.GREATEST }
-    ensures { result
-        ≡ mask_l (map (λ x. x == number) (drop (16 * (count / 16)) (map B.value numbers.now))) }
-{
-    if count % 16 == 0 {
-        return 0;
-    }
-    B::bits_equal(B::load(numbers, 2 * (count / 16)), number)
-}
-
-/// Sets bit i of the result if number i of `numbers` equals `number`. A literal length `count` unrolls the loop.
-#[inline(always)]
-fn bits_equal<B: Block>(count: usize, numbers: &[B::Number], number: u64) -> u64
-    requires count { length numbers.now ≡ count }
-    requires whole_blocks { count % 8 ≡ 0 }
-    requires few { count ≤ 64 }
-    requires fits { number ≤ B.GREATEST }
-    ensures { result ≡ mask_l (map (λ x. x == number) (map B.value numbers.now)) }
-{
-    let mut bits = odd_equal::<B>(count, numbers, number);
-    let mut pair = count / 16;
-    while pair > 0 {
-        pair -= 1;
-        bits = B::pair_equal(numbers, pair, number) + 65536 * bits;
-    }
-    bits
 }
 
 /// The least of the `count` numbers in `numbers`.
@@ -196,7 +131,7 @@ fn first_least_of<B: Block>(count: usize, numbers: &[B::Number]) -> (usize, u64)
     ensures { IsLeastFound (map B.value numbers.now) result }
 {
     let least = least_number::<B>(count, numbers);
-    let bits = bits_equal::<B>(count, numbers, least);
+    let bits = bits_of::<B>(count, numbers, true, least);
     (bits.trailing_zeros() as usize, least)
 }
 
@@ -208,7 +143,7 @@ fn first_least_of_any<B: Block>(numbers: &[B::Number]) -> (usize, u64)
 {
     let least = least_number::<B>(numbers.len(), numbers);
     for block in 0..numbers.len() / 8 {
-        let bits = B::bits_equal(B::load(numbers, block), least);
+        let bits = B::bits(B::load(numbers, block), true, least);
         if bits != 0 {
             return (8 * block + bits.trailing_zeros() as usize, least);
         }
@@ -216,8 +151,8 @@ fn first_least_of_any<B: Block>(numbers: &[B::Number]) -> (usize, u64)
     (numbers.len(), least)
 }
 
-/// Does `first_least` out of line, for numbers of blocks without inlined code: four and more, or five and more where `EACH`
-/// is 4.
+/// Does `first_least` out of line, for numbers of blocks without inlined code: four and more or, where `EACH` is 4,
+/// five and more.
 #[inline(never)]
 fn first_least_of_longer<B: Block>(numbers: &[B::Number]) -> (usize, u64)
     requires { CanFindLeast B.value B.GREATEST numbers.now }

@@ -1,10 +1,9 @@
 // `StateLanes`: what lanes of any width offer to store the heads and ends of a word's state and to bound the word.
-ghost use Rattle.std.specs.Prelude.{◌≡◌, ℕ, ◌+◌, ◌-◌, ◌*◌, ◌%◌, ◌<◌, ◌≤◌, max, List, All, IfOk};
-ghost use Rattle.std.specs.Prelude.{length, map, replicate, slice_index, slice_index_or, slice_set};
+ghost use Rattle.std.specs.Prelude.{◌≡◌, ℕ, ◌+◌, ◌-◌, ◌*◌, ◌%◌, ◌<◌, ◌≤◌, max, List, All, IfOk, length, map, replicate};
+ghost use Rattle.std.specs.Prelude.{slice_index, slice_index_or, slice_set};
 ghost use Rattle.shop_lanes.specs.Rows.{lanes_in, lanes_of, AreBlocksOf};
 ghost use Rattle.shop_lanes.specs.Spans.{spans_between, FitsSpan, FitOwnSpans, AreOwnSpans, IsRaisedBelow};
-ghost use Rattle.shop_lanes.specs.Marks.{positions_among};
-ghost use Rattle.shop_lanes.specs.Ends.{IsFirstLeast};
+ghost use Rattle.shop_lanes.specs.{Marks.positions_among, Ends.IsFirstLeast};
 
 use crate::lane_rows::{HeadRange, LaneRows};
 use crate::marking::Marks;

@@ -17,7 +17,8 @@ pub struct LaidOut<'a, L: StateLanes> {
     instance: &'a Instance,
     /// the number of each machine in the layout, which only contracts read
     ranks: Vec<usize>,
-    grid: Grid<L>,
+    /// in a box, since a layout is handed from round to round
+    grid: Box<Grid<L>>,
 }
 
 // Written by hand so that code that drops a layout calls this one function and does not drop each field itself.
@@ -41,10 +42,10 @@ impl<'a, L: StateLanes> Model for LaidOut<'a, L> {
     ghost view = { λ l. record {
       shop = ranked l.ranks.items l.instance.now;
       asked = l.instance.now;
-      layout = l.grid;
+      layout = l.grid.value;
     } };
 
-    ghost invariant = { λ l. IsReady L.GREATEST (ranked l.ranks.items l.instance.now) l.grid
+    ghost invariant = { λ l. IsReady L.GREATEST (ranked l.ranks.items l.instance.now) l.grid.value
         × (0 < L.EACH → l.instance.now.machines ≤ 64)
         × IsWithinLimits l.instance.now
         × AreRanks l.instance.now.machines l.ranks.items };
@@ -66,7 +67,7 @@ impl<'a, L: StateLanes> LaidOut<'a, L> {
         ensures { IfOk result (λ l. l.asked ≡ instance.now) }
     {
         instance.keeps_limits();
-        let grid = Grid::of(alloc, positions)?;
+        let grid = Box::new(alloc, Grid::of(alloc, positions)?)?;
         Ok(LaidOut {
             instance,
             ranks,

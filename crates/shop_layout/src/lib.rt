@@ -5,7 +5,6 @@ mod grid;
 mod laid_outs;
 mod layouts;
 mod legs;
-mod machine_ranks;
 mod positions;
 mod slots;
 

@@ -1,7 +1,6 @@
 // `Positions`: the operations of an instance by position.
 ghost use Rattle.std.specs.Prelude.{◌≡◌, ℕ, ◌+◌, ◌-◌, ◌*◌, ◌/◌, ◌%◌, ◌<◌, ◌≤◌, ◌^◌, All, IfOk, OnOk, List, length, map};
 ghost use Rattle.std.specs.Prelude.{slice_index};
-ghost use Rattle.shop_lanes.specs.Rows.{place_at_rank};
 ghost use Rattle.shop_model.specs.declared.limits.TheConstants.{MAX_JOBS, MAX_MACHINES, MAX_STEPS};
 ghost use Rattle.shop_layout.specs.{Positions.{AreMachinesOf, IsLaidOut}, Ranks.{AreRanks, ranked}};
 ghost use Rattle.shop_layout.specs.{Slots.AreMachineSlots, inner.Vectors.items_in};
@@ -139,20 +138,6 @@ fn steps_of(alloc: Global, slots: &[Slot]) -> Result<Vec<u32>, NoMemory>
     slots.iter().map(|s| s.step as u32).collect(alloc)
 }
 
-/// Lists the time of each slot, in order of position. Fails with `NoMemory` if memory runs out.
-fn times_of(alloc: Global, slots: &[Slot]) -> Result<Vec<u64>, NoMemory>
-    ensures { IfOk result (λ v. v.items ≡ map (λ s. s.time) slots.now) }
-{
-    slots.iter().map(|s| s.time).collect(alloc)
-}
-
-/// Lists the tail of each slot, in order of position. Fails with `NoMemory` if memory runs out.
-fn tails_of(alloc: Global, slots: &[Slot]) -> Result<Vec<u64>, NoMemory>
-    ensures { IfOk result (λ v. v.items ≡ map (λ s. s.tail) slots.now) }
-{
-    slots.iter().map(|s| s.tail).collect(alloc)
-}
-
 /// Writes into `places` the positions of `slots`: down the columns of `count` blocks from position `first` on.
 fn note_places(places: &mut [Vec<u32>], slots: &[Slot], first: usize, count: usize)
     requires rows { All (IsInRows (items_in places.old)) slots.now }
@@ -193,7 +178,8 @@ fn places_of(
         places.push(vec![in alloc; 0; instance.route(j).len()]?)?;
     }
     for m in 0..lists.len() {
-        let (from, to) = (blocks[m] as usize, blocks[m + 1] as usize);
+        let from = blocks[m] as usize;
+        let to = blocks[m + 1] as usize;
         note_places(
             places.as_mut_slice(),
             lists[m].as_slice(),
@@ -254,13 +240,14 @@ impl Positions {
         let lists = machine_slots(alloc, instance, ranks)?;
         let Cells { slots, blocks } = cells_of(alloc, lists.as_slice())?;
         let places = places_of(alloc, instance, lists.as_slice(), blocks.as_slice())?;
+        let slots = slots.as_slice();
         Ok(Positions {
-            jobs: jobs_of(alloc, slots.as_slice())?,
-            steps: steps_of(alloc, slots.as_slice())?,
-            times: times_of(alloc, slots.as_slice())?,
-            tails: tails_of(alloc, slots.as_slice())?,
+            jobs: jobs_of(alloc, slots)?,
+            steps: steps_of(alloc, slots)?,
             machines: machines_of(alloc, blocks.as_slice())?,
-            following: following_of(alloc, slots.as_slice(), places.as_slice())?,
+            following: following_of(alloc, slots, places.as_slice())?,
+            times: slots.iter().map(|s| s.time).collect(alloc)?,
+            tails: slots.iter().map(|s| s.tail).collect(alloc)?,
             places,
             blocks,
             end: slots.len() as u32,

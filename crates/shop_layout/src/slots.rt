@@ -1,9 +1,9 @@
 // Lists the operations of each machine by nonincreasing tail. The list at index r is that of the machine of rank r.
-ghost use Rattle.std.specs.Prelude.{◌≡◌, ℕ, ◌<◌, slice_index_or, IfOk, OnOk, length, map};
+ghost use Rattle.std.specs.Prelude.{ℕ, ◌<◌, slice_index_or, IfOk, OnOk, length, map};
 ghost use Rattle.shop_model.specs.Shop.{no_op};
 ghost use Rattle.shop_bound.specs.Heads.{AreTimesSmall};
 ghost use Rattle.shop_layout.specs.{Ranks.{AreRanks, ranked, ranked_op}, Slots.AreMachineSlots, inner.Vectors.items_in};
-ghost use Rattle.shop_layout.specs.inner.MachineLists.{AddsOperations, AreOperations};
+ghost use Rattle.shop_layout.specs.inner.MachineLists.{AddsOperations};
 
 use shop_bound::total_time;
 use shop_model::{Instance, Op};
@@ -48,29 +48,6 @@ fn add_operations(
     Ok(())
 }
 
-/// Lists the operations of each machine, job by job, the machines by rank. Each list begins with room for one operation
-/// of each job. Fails with `NoMemory` if memory runs out.
-fn operations_by_machine(
-    alloc: Global,
-    instance: &Instance,
-    ranks: &[usize],
-) -> Result<Vec<Vec<Slot>>, NoMemory>
-    requires { AreRanks instance.now.machines ranks.now }
-    ensures { IfOk result (λ v. AreOperations (ranked ranks.now instance.now)
-        (map (λ slots. slots.items) v.items)) }
-{
-    let mut lists = Vec::with_capacity(alloc, instance.machines())?;
-    for _ in 0..instance.machines() {
-        lists
-            .push(Vec::with_capacity(alloc, instance.jobs())?)
-            .unwrap();
-    }
-    for j in 0..instance.jobs() {
-        add_operations(lists.as_mut_slice(), instance.route(j), j, ranks)?;
-    }
-    Ok(lists)
-}
-
 /// Lists the operations of each machine by nonincreasing tail, the machines by rank. Fails with `NoMemory` if memory
 /// runs out.
 pub(crate) fn machine_slots(
@@ -82,7 +59,15 @@ pub(crate) fn machine_slots(
     ensures { IfOk result (λ v. AreMachineSlots (ranked ranks.now instance.now)
         (map (λ slots. slots.items) v.items)) }
 {
-    let mut lists = operations_by_machine(alloc, instance, ranks)?;
+    let mut lists = Vec::with_capacity(alloc, instance.machines())?;
+    for _ in 0..instance.machines() {
+        lists
+            .push(Vec::with_capacity(alloc, instance.jobs())?)
+            .unwrap();
+    }
+    for j in 0..instance.jobs() {
+        add_operations(lists.as_mut_slice(), instance.route(j), j, ranks)?;
+    }
     for m in 0..lists.len() {
         lists[m].sort_by_key(|slot| Reverse(slot.tail))?;
     }

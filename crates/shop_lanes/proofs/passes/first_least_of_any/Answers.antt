@@ -4,8 +4,8 @@ use Rattle.shop_lanes.proofs.BlockMasks.{least_found, position_in_block, none_in
 use Rattle.shop_lanes.proofs.Extremes.{least_le_top}
 use Rattle.shop_lanes.proofs.passes.first_least_of_any.Goals as goal
 
-pub bits_equal-bits-requires-clause-fits : goal.bits_equal-bits-requires-clause-fits
-bits_equal-bits-requires-clause-fits g c = grind (arith, least_le_top)
+pub bits-bits-requires-clause-fits : goal.bits-bits-requires-clause-fits
+bits-bits-requires-clause-fits g c = grind (arith, least_le_top)
 
 pub overflow_add-result : goal.overflow_add-result
 overflow_add-result g c =
@@ -13,7 +13,7 @@ overflow_add-result g c =
     in let long = length-map c.args.numbers.now g.B.Block.value
     in let found = position_in_block c.least_number-least.result c.loop-block.block
     (map g.B.Block.value c.args.numbers.now) (omega (arith, long)) c.loop-block.invariant c.load.ensures
-    c.bits_equal-bits.ensures c.if-bits-ne0.true
+    c.bits-bits.ensures c.if-bits-ne0.true
     in let within = found.within
     in let room = c.requires.room
     in record { fits = omega (arith, long) }
@@ -25,14 +25,14 @@ returns-then-bits-ne0 g c =
     in let long = length-map c.args.numbers.now g.B.Block.value
     in least_found g.B.Block.GREATEST row c.least_number-least.result _ (omega (arith, long, c.requires.some))
     c.requires.fits c.least_number-least.ensures (position_in_block c.least_number-least.result c.loop-block.block row
-    (omega (arith, long)) c.loop-block.invariant c.load.ensures c.bits_equal-bits.ensures c.if-bits-ne0.true)
+    (omega (arith, long)) c.loop-block.invariant c.load.ensures c.bits-bits.ensures c.if-bits-ne0.true)
 
 pub loop-block-preserved : goal.loop-block-preserved
 loop-block-preserved g c =
     let test = c.loop-block-test.true
     in none_in_block c.least_number-least.result c.loop-block.block (map g.B.Block.value c.args.numbers.now)
     (omega (arith, length-map c.args.numbers.now g.B.Block.value)) c.loop-block.invariant c.load.ensures
-    c.bits_equal-bits.ensures c.if-bits-ne0.false
+    c.bits-bits.ensures c.if-bits-ne0.false
 
 pub returns : goal.returns
 returns g c =

@@ -1,27 +1,54 @@
-use Rattle.std.proofs.Common.{arith, ◌∙◌, ap, length}
+use Rattle.std.proofs.Common.{◌∙◌, ap, arith, length}
 use Rattle.shop_lanes.specs.Folds.{greatest}
-use Rattle.shop_lanes.proofs.ColumnTurns.{columns_in}
+use Rattle.shop_lanes.proofs.ColumnTurns.{columns_in, parts, both_fit, served_more, served_whole}
 use Rattle.shop_lanes.proofs.ColumnScan.{works_fit, ends_fit, ends_eight, last_end}
 use Rattle.shop_lanes.proofs.passes.load_of.Goals as goal
 
+pub serve-after-requires-clause-fits : goal.serve-after-requires-clause-fits
+serve-after-requires-clause-fits g c =
+    let cols = columns_in g.B.Block.value c.args.rows.now c.args.count c.requires.count c.requires.whole_blocks
+    in let fit = both_fit cols (parts cols) c.args.least c.loop-block-test.true c.load.ensures
+    c.load-in-loop-block.ensures c.load-in-loop-block-2.ensures c.splat-from.ensures c.loop-block.invariant
+    g.B.Block.GREATEST c.requires.fits
+    in record { clocks_fit = fit.0; ends_fit = fit.1 }
+
+pub loop-block-preserved : goal.loop-block-preserved
+loop-block-preserved g c =
+    let cols = columns_in g.B.Block.value c.args.rows.now c.args.count c.requires.count c.requires.whole_blocks
+    in served_more cols (parts cols) c.args.least c.loop-block-test.true c.load.ensures c.load-in-loop-block.ensures
+    c.load-in-loop-block-2.ensures c.splat-from.ensures c.loop-block.invariant c.serve-after.ensures.clocks_are
+    c.serve-after.ensures.most_are
+
 pub sums_before-requires-clause-eight : goal.sums_before-requires-clause-eight
-sums_before-requires-clause-eight g c = ap length c.serve_columns-clocks.ensures.clocks_are
+sums_before-requires-clause-eight g c = ap length c.loop-block.invariant.clocks_are
 
 pub sums_before-requires-clause-fits : goal.sums_before-requires-clause-fits
 sums_before-requires-clause-fits g c =
     let cols = columns_in g.B.Block.value c.args.rows.now c.args.count c.requires.count c.requires.whole_blocks
-    in works_fit c.args.least cols c.serve_columns-clocks.ensures.clocks_are g.B.Block.GREATEST c.requires.fits
+    in let past = c.loop-block-test.false
+    in works_fit c.args.least cols (served_whole (omega (arith, past)) c.loop-block.invariant).clocks_are
+    g.B.Block.GREATEST c.requires.fits
 
 pub sum-requires : goal.sum-requires
-sum-requires g c = grind (arith, columns_in, ends_fit)
+sum-requires g c =
+    let cols = columns_in g.B.Block.value c.args.rows.now c.args.count c.requires.count c.requires.whole_blocks
+    in let past = c.loop-block-test.false
+    in let served = served_whole (omega (arith, past)) c.loop-block.invariant
+    in ends_fit c.args.least cols served.clocks_are c.sums_before.ensures served.most_are g.B.Block.GREATEST
+    c.requires.fits
 
 pub greatest_of-requires : goal.greatest_of-requires
-greatest_of-requires g c = grind (arith, columns_in, ends_eight)
+greatest_of-requires g c =
+    let cols = columns_in g.B.Block.value c.args.rows.now c.args.count c.requires.count c.requires.whole_blocks
+    in let past = c.loop-block-test.false
+    in let served = served_whole (omega (arith, past)) c.loop-block.invariant
+    in ap length (ends_eight c.args.least cols served.clocks_are c.sums_before.ensures served.most_are c.sum.ensures)
 
 pub returns : goal.returns
 returns g c =
     let cols = columns_in g.B.Block.value c.args.rows.now c.args.count c.requires.count c.requires.whole_blocks
+    in let past = c.loop-block-test.false
+    in let served = served_whole (omega (arith, past)) c.loop-block.invariant
     in c.greatest_of.ensures
-    ∙ ap greatest (ends_eight c.args.least cols c.serve_columns-clocks.ensures.clocks_are c.sums_before.ensures
-    c.serve_columns-clocks.ensures.ends_are c.sum.ensures)
+    ∙ ap greatest (ends_eight c.args.least cols served.clocks_are c.sums_before.ensures served.most_are c.sum.ensures)
     ∙ last_end c.args.least cols

@@ -1,10 +1,30 @@
-use Rattle.std.proofs.Common.{◌≡◌, ◌+◌, ◌<◌, List, length, get_or, map, arith, rules, sym, subst}
+use Rattle.std.proofs.Common.{◌≡◌, ◌∙◌, ◌+◌, ◌<◌, List, ap, length, get_or, map, arith, rules, sym, subst}
 use Rattle.std.proofs.{lemmas.Fn.always_returns_same, lemmas.List.length-map}
 use Rattle.std.specs.Prelude.{IsPermutation}
-use Rattle.shop_layout.specs.{declared.slots.Slot.Slot, Ranks.ranked}
+use Rattle.shop_layout.specs.{declared.slots.Slot.Slot, Ranks.{ranked, ranked_op}}
 use Rattle.shop_bound.proofs.SortedTails.{falls_from_sort}
-use Rattle.shop_layout.proofs.SlotLists.{IsSortedUpTo, sorted_more, items_written, items_read}
+use Rattle.shop_layout.proofs.SlotLists.{IsSortedUpTo, jobs_written, sorted_more, items_written, items_read}
+use Rattle.shop_layout.proofs.RankedShops.{jobs_ranked, route_ranked}
+use Rattle.shop_bound.proofs.TimeSums.{times_small}
 use Rattle.shop_layout.proofs.slots.machine_slots.Goals as goal
+
+pub add_operations-requires-clause-times : goal.add_operations-requires-clause-times
+add_operations-requires-clause-times c = grind (arith, times_small)
+
+pub add_operations-requires-clause-ranks : goal.add_operations-requires-clause-ranks
+add_operations-requires-clause-ranks c = grind (arith, length-map)
+
+pub loop-j-preserved : goal.loop-j-preserved
+loop-j-preserved c = jobs_written (ranked c.args.ranks.now c.args.instance.now) c.loop-j.j
+    (map (ranked_op c.args.ranks.now) c.route.result.now) c.loop-j.lists.items
+    c.as_mut_slice.result.now c.add_operations.new.lists c.loop-j.lists.len c.loop-j.invariant
+    c.as_mut_slice.ensures.value c.add_operations.auto.lists c.loop-j.lists.ok.0
+    (ap (map (ranked_op c.args.ranks.now)) c.route.ensures.route
+    ∙ sym (route_ranked c.args.ranks.now c.args.instance.now c.loop-j.j))
+    c.in_ok-add_operations.ensures
+
+pub loop-m-init : goal.loop-m-init
+loop-m-init c = grind (arith, jobs_ranked)
 
 pub loop-m-preserved : goal.loop-m-preserved
 loop-m-preserved c =
@@ -13,11 +33,11 @@ loop-m-preserved c =
     in let m = c.loop-m.m
     in let row = c.sort_by_key.new.self.items
     in let here : m < length lists = (let a = c.loop-m-test.true
-    in let b = c.len-m-end.ensures in let full = c.in_ok-lists.lists.ok.0 in let before = c.in_ok-lists.ensures.machines
+    in let b = c.len-m-end.ensures in let full = c.loop-j.lists.ok.0 in let before = c.loop-j.invariant.machines
     in let now = c.loop-m.invariant.machines
     in omega (
       arith,
-      length-map c.in_ok-lists.lists.items (λ slots. slots.items),
+      length-map c.loop-j.lists.items (λ slots. slots.items),
       length-map lists (λ slots. slots.items),
     ))
     in let read : c.index_mut.result.now ≡ get_or lists m c.index_mut.result.now = c.index_mut.ensures.value

@@ -74,8 +74,8 @@ following_of-requires c =
     in let rows = c.in_ok-places.ensures.shape.jobs
     in record {
       jobs = job_known c.keeps_limits.ensures c.requires c.as_slice.ensures.value c.in_ok-lists.ensures
-          c.in_ok-slots.ensures c.as_slice-9.ensures.value (length c.as_slice-10.result.now)
-          (ap length c.as_slice-10.ensures.value
+          c.in_ok-slots.ensures c.as_slice-slots.ensures.value (length c.as_slice-5.result.now)
+          (ap length c.as_slice-5.ensures.value
           ∙ (sym (length-map c.in_ok-places.places.items (λ v. v.items)) ∙ rows));
       steps = grind (arith, step_small);
       few = grind arith;
@@ -112,20 +112,20 @@ returns c =
     (record {
       jobs = c.in_ok-jobs_of.field-0.items;
       steps = c.in_ok-steps_of.field-0.items;
-      times = c.in_ok-times_of.field-0.items;
-      tails = c.in_ok-tails_of.field-0.items;
+      times = c.in_ok-collect.field-0.items;
+      tails = c.in_ok-collect-2.field-0.items;
       places = places;
       blocks = blocks;
       machines = c.in_ok-machines_of.field-0.items;
       following = c.in_ok-following_of.field-0.items;
     })
-    (c.in_ok-jobs_of.ensures ∙ ap (map (λ s. s.job)) c.as_slice-4.ensures.value)
-    (c.in_ok-steps_of.ensures ∙ ap (map (λ s. s.step)) c.as_slice-5.ensures.value)
-    (c.in_ok-times_of.ensures ∙ ap (map (λ s. s.time)) c.as_slice-6.ensures.value)
-    (c.in_ok-tails_of.ensures ∙ ap (map (λ s. s.tail)) c.as_slice-7.ensures.value)
+    (c.in_ok-jobs_of.ensures ∙ ap (map (λ s. s.job)) c.as_slice-slots.ensures.value)
+    (c.in_ok-steps_of.ensures ∙ ap (map (λ s. s.step)) c.as_slice-slots.ensures.value)
+    (search rules)
+    (search rules)
     refl refl
-    (machines_are c.as_slice-8.result.now blocks c.as_slice-8.ensures.value shop.machines
+    (machines_are c.as_slice-4.result.now blocks c.as_slice-4.ensures.value shop.machines
     cells.machines c.in_ok-machines_of.field-0.items c.in_ok-machines_of.ensures)
-    (following_is c.as_slice-9.result.now slots c.as_slice-9.ensures.value c.as_slice-10.result.now
-    c.in_ok-places.places.items c.as_slice-10.ensures.value c.in_ok-following_of.field-0.items
+    (following_is c.as_slice-slots.result.now slots c.as_slice-slots.ensures.value c.as_slice-5.result.now
+    c.in_ok-places.places.items c.as_slice-5.ensures.value c.in_ok-following_of.field-0.items
     c.in_ok-following_of.ensures)

@@ -1,6 +1,0 @@
-use Rattle.std.proofs.Common.{arith, w32, eqb}
-use Rattle.std.proofs.lemmas.Simd.{bitmask_splat}
-use Rattle.shop_lanes.proofs.blocks_of_32.Block32Block.bits_equal.Goals as goal
-
-pub returns : goal.returns
-returns c = bitmask_splat w32 eqb c.args.block.0 8 c.args.number c.requires.eight (omega arith)
