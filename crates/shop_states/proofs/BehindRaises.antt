@@ -253,7 +253,8 @@ module _ {l : LayoutState} {first last end second : ℕ} where
                 | inr none ↦ (let rests = raises.raised.rests q (omega arith) in omega arith)
               ],
             );
-        rises = subst Rises (sym are) (below_rises now.heads from to end ordered (let a = raises.positions in omega arith));
+        rises = subst Rises (sym are)
+            (below_rises now.heads from to end ordered (let a = raises.positions in omega arith));
       }
 
     module _ {to : ℕ} {todo : List ℕ} (so_far : AreLateUpTo l first to last end second todo old now) where

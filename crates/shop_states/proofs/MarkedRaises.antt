@@ -26,7 +26,7 @@ pub record AreBlocksRaised (greatest : ℕ) (l : LayoutState) (nexts : List ℕ)
   pub within : from ≤ get_or l.blocks (d.machine + 1) 0
   pub raises : Raises greatest l nexts (IsInBlocks (get_or l.blocks d.machine 0) from) d.end old now
 
--- and noted
+-- the heads in these blocks are raised, and how far later heads rose is noted
 pub record AreRaisedUpTo (greatest : ℕ) (l : LayoutState) (nexts : List ℕ) (d : Dispatch) (from : ℕ)
     (old now : Rows) (before after : List Raise) : Type 0 where
   pub blocks : AreBlocksRaised greatest l nexts d from old now

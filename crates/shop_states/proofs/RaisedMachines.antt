@@ -31,7 +31,7 @@ module _ {N : Type 0} (value : N → ℕ) where
       → length (raises_in value after) ≡ length (raises_in value before) → length after ≡ length before
   lengths_in before after same = sym (length-map after (raise_in value)) ∙ same ∙ length-map before (raise_in value)
 
--- raises at rest are noted into from an empty set on
+-- notes begin with raises at rest and an empty set
 pub can_note : {N : Type 0} (value : N → ℕ) {few : Bool} {ms : List ℕ} {raises items : List (LaneRaise N)}
     {old : List Raise} {raised : List ℕ} → raises ≡ items → raises_in value items ≡ old → length items ≤ 128
     → AreEmpty old → AreKnown ms (length old) → raised ≡ [] → (IsTrue few → length raises ≤ 64)

@@ -16,7 +16,8 @@ use Rattle.shop_layout.specs.Positions.{place_or, LayoutState, first_position, p
 use Rattle.shop_states.specs.inner.Raises.{AreFirst}
 use Rattle.shop_states.proofs.ChildReads.{is_operation}
 use Rattle.shop_states.proofs.ChildTurns.{its_job}
-use Rattle.shop_states.proofs.LaneEnds.{AreEndsOf, HasEnds, beside_more, can_keep, end_here, end_other, ends_at, ends_of}
+use Rattle.shop_states.proofs.LaneEnds.{AreEndsOf, HasEnds, beside_more, can_keep, end_here, end_other, ends_at}
+use Rattle.shop_states.proofs.LaneEnds.{ends_of}
 use Rattle.shop_states.proofs.LaneEnds.{next_first, nexts_at, with_ends}
 use Rattle.shop_states.proofs.NextOperations.{next_there, next_within}
 use Rattle.shop_states.proofs.RaisedHeads.{followed}

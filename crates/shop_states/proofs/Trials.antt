@@ -184,7 +184,8 @@ module _ {greatest : ℕ} {shop : Shop} {w : List ℕ} {l : LayoutState} {rows :
 -- the operation of a dispatch is struck out: its end can raise heads
 pub can_delay : {greatest : ℕ} {shop : Shop} {w : List ℕ} {l : LayoutState} {hs es nexts : List ℕ}
     (kept : IsKeptInLanes greatest shop w l (rows_of l hs es) nexts) (d : Dispatch)
-    (fits : IsWord shop (w ++ d.job ∷ [])) (is : IsDispatchOf l hs nexts d) {hs' es' : List ℕ} (struck : hs' ≡ set hs d.position 0) (beside : es' ≡ es)
+    (fits : IsWord shop (w ++ d.job ∷ [])) (is : IsDispatchOf l hs nexts d) {hs' es' : List ℕ}
+    (struck : hs' ≡ set hs d.position 0) (beside : es' ≡ es)
     → CanDelay greatest l nexts (rows_of l hs' es') d
 can_delay kept d fits is struck beside = record {
   machine = trial_blocks kept d.job fits is.position_is is.machine_is is.end_is struck beside;

@@ -1,16 +1,11 @@
 // Dispatches one operation in a state.
 ghost use Rattle.std.specs.Prelude.{◌≡◌, ◌<◌, ◌^◌, ◌++◌, ◌∷◌, [], List, ℕ, OnSome, length, slice_index, slice_set};
-ghost use Rattle.shop_model.specs.Shop.{Shop};
-ghost use Rattle.shop_model.specs.Word.{IsWord};
-ghost use Rattle.shop_bound.specs.Bound.{lb};
-ghost use Rattle.shop_bound.specs.Conflicts.{conflict};
+ghost use Rattle.shop_model.specs.{Shop.Shop, Word.IsWord};
+ghost use Rattle.shop_bound.specs.{Bound.lb, Conflicts.conflict};
 ghost use Rattle.shop_states.specs.States.{TellsBoundBelow};
-ghost use Rattle.shop_states.specs.inner.Advances.{CanAdvance, CanGoOn, CanStrike, IsAdvancing};
-ghost use Rattle.shop_states.specs.inner.Dispatches.{IsDispatchOf};
-ghost use Rattle.shop_states.specs.inner.LaneEnds.{CanKeepEnds, end_at};
-ghost use Rattle.shop_states.specs.inner.LaidLanes.{KeepsWord, rows_in};
-ghost use Rattle.shop_states.specs.inner.LaneStates.{GoesOn};
-ghost use Rattle.shop_states.specs.inner.MachineRaises.{AreEmpty};
+ghost use Rattle.shop_states.specs.inner.Advances.{CanAdvance, CanGoOn, CanStrike, IsAdvancing, IsRaisedFor};
+ghost use Rattle.shop_states.specs.inner.{Dispatches.IsDispatchOf, LaneEnds.CanKeepEnds};
+ghost use Rattle.shop_states.specs.inner.{LaidLanes.{KeepsWord, rows_in}, LaneStates.GoesOn, MachineRaises.AreEmpty};
 ghost use Rattle.shop_states.specs.inner.StateCopies.{IsAsLong};
 
 use crate::delays::delay;
@@ -28,22 +23,8 @@ pub(crate) struct BoundRange {
     pub limit: u64,
 }
 
-/// Answers the earliest end of the next operation of `job`, plus one like heads in lanes; `GREATEST` if none is left.
-#[inline(always)]
-fn end_of<L: StateLanes>(lanes: &L, grid: &Grid<L>, next: &[u32], job: usize) -> u64
-    requires keep { CanKeepEnds L.GREATEST grid.now next.now (rows_in L.StateLanes grid.now lanes.now) }
-    requires times { length grid.now.times ≡ length (L.heads lanes.now) }
-    requires job { job < length next.now }
-    ensures { result ≡ end_at L.GREATEST next.now (rows_in L.StateLanes grid.now lanes.now) job }
-{
-    let position = next[job] as usize;
-    if position >= grid.positions() {
-        return L::GREATEST;
-    }
-    lanes.head(position) + grid.time(position)
-}
-
-/// Makes the operation behind `position` on the route of `job` the job's next one, and sets that operation's end.
+/// Makes the operation behind `position` on the route of `job` the job's next one, and sets that operation's end, plus
+/// one like heads in lanes: `GREATEST` if the job has no operation left.
 #[inline(always)]
 pub(crate) fn go_on<L: StateLanes>(
     lanes: &mut L,
@@ -60,60 +41,101 @@ pub(crate) fn go_on<L: StateLanes>(
     ensures { GoesOn L.GREATEST grid.now position job (rows_in L.StateLanes grid.now lanes.old)
         (rows_in L.StateLanes grid.now lanes.new) next.old next.new }
 {
-    next[job] = grid.next_behind(position);
-    let end = end_of(lanes, grid, next, job);
+    let behind = grid.next_behind(position);
+    next[job] = behind;
+    let ahead = behind as usize;
+    let mut end = L::GREATEST;
+    if ahead < grid.positions() {
+        end = lanes.head(ahead) + grid.time(ahead);
+    }
     lanes.set_end(job, end);
 }
 
-/// Dispatches the operation of `dispatch`, which was looked up in this state, or in one that this state is a copy of.
-/// Answers the bound of the extended word if it is below `range.limit`, else `None`. `range.least` is at most that
-/// bound, and at least the former word's bound and the operation's own span: how late the operation, and the others of
-/// its machine with their tails, end if it goes first. `ceilings` is empty, or has for each machine one more than a
-/// number that the extended word's bound there doesn't exceed.
+/// Strikes the operation of `dispatch` out of the lanes of a word's state, or out of a copy of them, and raises the
+/// heads that its end delays. `next` has the word's next operations. Answers the bound of the extended word if it is
+/// below `range.limit`; then `go_on` completes its state. Else answers `None`. `range.least` is at most that bound, and
+/// at least the former word's bound and the operation's own span: how late the operation, and the others of its machine
+/// with their tails, end if it goes first. `ceilings` is empty, or has for each machine one more than a number that the
+/// extended word's bound there doesn't exceed.
 #[inline(always)]
 pub(crate) fn advance_below<L: StateLanes>(
-    state: &mut State<L>,
+    lanes: &mut L,
     raises: &mut MachineRaises<L>,
     ceilings: &[u64],
     grid: &Grid<L>,
+    next: &[u32],
     dispatch: Dispatch,
     range: BoundRange,
 ) -> Option<u64>
-    requires is { IsDispatchOf grid.now (L.heads state.old.lanes) state.old.next.items dispatch }
-    requires can { CanAdvance L.GREATEST grid.now (rows_in L.StateLanes grid.now state.old.lanes) state.old.next.items
+    requires is { IsDispatchOf grid.now (L.heads lanes.old) next.now dispatch }
+    requires can { CanAdvance L.GREATEST grid.now (rows_in L.StateLanes grid.now lanes.old) next.now
         dispatch.job range.least (length raises.old) ceilings.now }
     requires at_rest { AreEmpty raises.old }
     requires limit { range.limit < 2 ^ 63 }
     ensures told { (shop : Shop) (w : List ℕ) → IsAdvancing L.GREATEST shop w grid.now
-        (rows_in L.StateLanes grid.now state.old.lanes) state.old.next.items dispatch.job range.least
+        (rows_in L.StateLanes grid.now lanes.old) next.now dispatch.job range.least
         → TellsBoundBelow range.limit (lb shop (w ++ dispatch.job ∷ [])) result }
-    ensures state { (shop : Shop) (w : List ℕ) → KeepsWord L.StateLanes grid.now state.old shop w
-        → IsWord shop (w ++ dispatch.job ∷ [])
-        → OnSome result (KeepsWord L.StateLanes grid.now state.new shop (w ++ dispatch.job ∷ [])) }
-    ensures room { IsAsLong L.heads L.ends state.old state.new }
+    ensures ready { OnSome result (IsRaisedFor L.GREATEST grid.now dispatch.position dispatch.job
+        (rows_in L.StateLanes grid.now lanes.old) (rows_in L.StateLanes grid.now lanes.new) next.now) }
+    ensures positions { length (L.heads lanes.new) ≡ length (L.heads lanes.old) }
+    ensures ends { length (L.ends lanes.new) ≡ length (L.ends lanes.old) }
     ensures machines { length raises.new ≡ length raises.old }
     ensures rest { AreEmpty raises.new }
 {
     if range.limit <= range.least {
         return None;
     }
-    let job = dispatch.job;
-    let position = dispatch.position;
-    let lanes = &mut state.lanes;
-    let next = state.next.as_mut_slice();
-    lanes.set_head(position, 0);
+    lanes.set_head(dispatch.position, 0);
     let raised = raises.raise(lanes, grid, next, dispatch);
     let laid = LaidLanes { lanes, grid };
     let bound = raises.take_bound(raised, ceilings, &laid, range.least, range.limit);
     if range.limit <= bound {
         return None;
     }
-    go_on(lanes, next, grid, job, position);
     Some(bound)
 }
 
-/// Dispatches the operation of `dispatch`, which was looked up in this state. Does what `advance_below` does, but
-/// bounds nothing, so that heads rise without notes.
+/// Makes `to` a copy of the state `from` in which the next operation of `job` is dispatched, and answers as
+/// `advance_below` does. The dispatch is looked up before the copy. Next operations are copied last, and only if the
+/// bound of the extended word is below the limit: else `to` is no word's state.
+#[inline(always)]
+pub(crate) fn dispatch_in_copy<L: StateLanes>(
+    from: &State<L>,
+    to: &mut State<L>,
+    raises: &mut MachineRaises<L>,
+    ceilings: &[u64],
+    grid: &Grid<L>,
+    job: usize,
+    range: BoundRange,
+) -> Option<u64>
+    requires can { CanAdvance L.GREATEST grid.now (rows_in L.StateLanes grid.now from.now.lanes) from.now.next.items
+        job range.least (length raises.old) ceilings.now }
+    requires long { IsAsLong L.heads L.ends from.now to.old }
+    requires at_rest { AreEmpty raises.old }
+    requires limit { range.limit < 2 ^ 63 }
+    ensures told { (shop : Shop) (w : List ℕ) → IsAdvancing L.GREATEST shop w grid.now
+        (rows_in L.StateLanes grid.now from.now.lanes) from.now.next.items job range.least
+        → TellsBoundBelow range.limit (lb shop (w ++ job ∷ [])) result }
+    ensures state { (shop : Shop) (w : List ℕ) → KeepsWord L.StateLanes grid.now from.now shop w
+        → IsWord shop (w ++ job ∷ [])
+        → OnSome result (KeepsWord L.StateLanes grid.now to.new shop (w ++ job ∷ [])) }
+    ensures room { IsAsLong L.heads L.ends from.now to.new }
+    ensures machines { length raises.new ≡ length raises.old }
+    ensures rest { AreEmpty raises.new }
+{
+    let next = from.next.as_slice();
+    let dispatch = Dispatch::of(from, grid, job);
+    let position = dispatch.position;
+    to.lanes.copy_from(&from.lanes);
+    let bound = advance_below(&mut to.lanes, raises, ceilings, grid, next, dispatch, range)?;
+    let copied = to.next.as_mut_slice();
+    copied.copy_from_slice(next);
+    go_on(&mut to.lanes, copied, grid, job, position);
+    Some(bound)
+}
+
+/// Dispatches the operation of `dispatch`, which was looked up in this state. Does what `advance_below` and `go_on` do,
+/// but bounds nothing, so that heads rise without notes.
 #[inline(always)]
 pub(crate) fn advance<L: StateLanes>(state: &mut State<L>, grid: &Grid<L>, dispatch: Dispatch)
     requires is { IsDispatchOf grid.now (L.heads state.old.lanes) state.old.next.items dispatch }

@@ -1,8 +1,7 @@
 // Keeps the placement of a word's first jobs, since words filled one after the other mostly begin alike.
 ghost use Rattle.std.specs.Prelude.{◌≡◌, ◌≤◌, IfOk, length, take};
 ghost use Rattle.shop_model.specs.Word.{IsWord, placing};
-ghost use Rattle.shop_states.specs.inner.Beginnings.{HasRoomOf, IsBeginningOf, Begins};
-ghost use Rattle.shop_states.specs.inner.PlacedNexts.{IsPlacedAt};
+ghost use Rattle.shop_states.specs.inner.{Beginnings.{HasRoomOf, IsBeginningOf, Begins}, PlacedNexts.IsPlacedAt};
 
 use crate::placing::{place_from, place_none};
 use shop_lanes::StateLanes;

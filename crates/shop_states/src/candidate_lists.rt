@@ -1,14 +1,11 @@
 // Lists a word's candidates: the jobs of its conflict set, each with a lower bound of the word extended by that job.
-ghost use Rattle.std.specs.Prelude.{◌≡◌, ℕ, ◌+◌, ◌*◌, ◌^◌, ◌≤◌, ◌<◌, List, [], ◌∷◌, ◌++◌, length, map, vec_capacity};
+ghost use Rattle.std.specs.Prelude.{◌≡◌, ℕ, ◌+◌, ◌*◌, ◌^◌, ◌≤◌, ◌<◌, List, [], ◌++◌, length, map, vec_capacity};
 ghost use Rattle.std.specs.Prelude.{MatchOption};
 ghost use Rattle.shop_model.specs.Shop.{Shop};
 ghost use Rattle.shop_bound.specs.Conflicts.{conflict};
 ghost use Rattle.shop_states.specs.inner.Candidates.{AreCandidatesOf, CanGather, CanList, IsChosenBy, IsTold};
-ghost use Rattle.shop_states.specs.inner.Candidates.{ListsGathered, ListsOwn, told_at};
-ghost use Rattle.shop_states.specs.inner.JobSets.{members};
-ghost use Rattle.shop_states.specs.inner.LaneChoices.{IsJobBelow};
-ghost use Rattle.shop_states.specs.inner.LaidLanes.{KeepsWord, rows_in};
-ghost use Rattle.shop_states.specs.inner.Raises.{IsInBlocks};
+ghost use Rattle.shop_states.specs.inner.{Candidates.{ListsGathered, ListsOwn, told_at}, LaneChoices.IsJobBelow};
+ghost use Rattle.shop_states.specs.inner.{LaidLanes.{KeepsWord, rows_in}, Raises.IsInBlocks};
 ghost use Rattle.shop_states.specs.inner.RisingLists.{IsGatheredWith, IsIn};
 ghost use Rattle.shop_layout.specs.Positions.{HoldsMachines};
 
@@ -20,46 +17,9 @@ use crate::states::State;
 use shop_lanes::{Marks, StateLanes};
 use shop_layout::Grid;
 
-/// Makes the candidate of `job`. `owns[i]` is the own span of the operation at position `first` + `i`: how late it, and
-/// the others of its machine with their tails, end if it goes first.
-#[inline(always)]
-fn candidate_for<L: StateLanes>(
-    job: usize,
-    next: &[u32],
-    first: usize,
-    owns: &[L::Number],
-) -> Candidate
-    requires small { length next.now < 1024 }
-    requires told { IsTold next.now first (length owns.now) job }
-    ensures job { result.job ≡ job }
-    ensures own { result.own ≡ told_at next.now first (map L.value owns.now) job }
-{
-    let own = L::widened(owns[next[job] as usize - first]);
-    Candidate {
-        job: job as u16,
-        own: own.saturating_sub(1),
-    }
-}
-
-/// Appends `candidate` if its bound `own` is below `limit`. Answers how many candidates are left out: 0 or 1.
-#[inline(always)]
-fn list_below(candidates: &mut Vec<Candidate>, candidate: Candidate, limit: u64) -> usize
-    requires room { length candidates.old.items < vec_capacity candidates.old }
-    ensures listed { (own : ℕ → ℕ) (js : List ℕ) (n : ℕ) → candidate.own ≡ own candidate.job
-        → ListsOwn limit own js candidates.old.items n
-        → ListsOwn limit own (js ++ candidate.job ∷ []) candidates.new.items (n + result) }
-    ensures count { length candidates.new.items + result ≡ length candidates.old.items + 1 }
-    ensures room { vec_capacity candidates.new ≡ vec_capacity candidates.old }
-{
-    let others = usize::from(candidate.own >= limit);
-    candidates.push_reserved(candidate);
-    // no branch, since it would often be mispredicted
-    candidates.truncate(candidates.len() - others);
-    others
-}
-
 /// Appends the candidates of the marked `jobs` whose `own` is below `limit`, and answers how many jobs are left out.
-/// `owns[i]` is the own span, see `candidate_for`, of the operation at position `first` + `i`.
+/// `owns[i]` is the own span of the operation at position `first` + `i`: how late it, and the others of its machine
+/// with their tails, end if it goes first.
 #[inline(always)]
 fn list_marked<L: StateLanes>(
     candidates: &mut Vec<Candidate>,
@@ -84,39 +44,15 @@ fn list_marked<L: StateLanes>(
     let mut others = 0;
     let mut left = jobs;
     while let Some(job) = left.pop_first() {
-        let candidate = candidate_for::<L>(job, next, first, owns);
-        others += list_below(candidates, candidate, limit);
-    }
-    others
-}
-
-/// Fills the empty list with the candidates of a set of jobs whose `own` is below `limit`, and answers how many jobs
-/// are left out. The bits of `words` are the set. `owns[i]` is the own span, see `candidate_for`, at position `first` +
-/// `i`.
-#[inline(always)]
-fn list_words<L: StateLanes>(
-    candidates: &mut Vec<Candidate>,
-    words: &[u64],
-    next: &[u32],
-    first: usize,
-    owns: &[L::Number],
-    limit: u64,
-) -> usize
-    requires words { length words.now ≤ 16 }
-    requires small { length next.now < 1024 }
-    requires told { (j : ℕ) → IsIn (members 0 words.now) j
-        → IsTold next.now first (length owns.now) j }
-    requires none { candidates.old.items ≡ [] }
-    requires room { length next.now ≤ vec_capacity candidates.old }
-    ensures listed { ListsOwn limit (told_at next.now first (map L.value owns.now))
-        (members 0 words.now)
-        candidates.new.items result }
-    ensures room { vec_capacity candidates.new ≡ vec_capacity candidates.old }
-{
-    let mut others = 0;
-    for word in 0..words.len() {
-        let jobs = Marks::new(BITS * word, words[word]);
-        others += list_marked::<L>(candidates, jobs, next, first, owns, limit);
+        let own = L::widened(owns[next[job] as usize - first]).saturating_sub(1);
+        candidates.push_reserved(Candidate {
+            job: job as u16,
+            own,
+        });
+        // no branch, since it would often be mispredicted
+        let left_out = usize::from(own >= limit);
+        candidates.truncate(candidates.len() - left_out);
+        others += left_out;
     }
     others
 }
@@ -131,10 +67,10 @@ pub(crate) struct FirstEnd {
 }
 
 /// Fills the empty list with the candidates of the conflict set in `blocks` whose `own` is below `limit`, and answers
-/// how many jobs are left out. `owns` holds the own spans, see `candidate_for`, from the first of these blocks on. For
-/// up to 64 jobs the set is one number of 64 bits, for more jobs sixteen.
+/// how many jobs are left out. `owns` holds the own spans from the first of these blocks on. The set has a bit for each
+/// job, in `WORDS` numbers of 64 bits.
 #[inline(always)]
-fn list_conflict_set<L: StateLanes>(
+fn list_conflict_set<const WORDS: usize, L: StateLanes>(
     candidates: &mut Vec<Candidate>,
     owns: &[L::Number],
     state: &State<L>,
@@ -144,6 +80,8 @@ fn list_conflict_set<L: StateLanes>(
 ) -> usize
     requires can { CanList L.GREATEST grid.now (rows_in L.StateLanes grid.now state.now.lanes) state.now.next.items
         blocks (length owns.now) }
+    requires words { WORDS ≤ 16 }
+    requires fits { length state.now.next.items ≤ 64 * WORDS }
     requires none { candidates.old.items ≡ [] }
     requires room { length state.now.next.items ≤ vec_capacity candidates.old }
     ensures listed { ListsGathered limit (told_at state.now.next.items (8 * blocks.from) (map L.value owns.now))
@@ -153,12 +91,14 @@ fn list_conflict_set<L: StateLanes>(
 {
     let next = state.next.as_slice();
     let first = 8 * blocks.from;
-    if next.len() <= BITS {
-        let jobs = conflict_set::<1, L>(blocks, &state.lanes, grid);
-        return list_words::<L>(candidates, jobs.words(), next, first, owns, limit);
+    let set = conflict_set::<WORDS, L>(blocks, &state.lanes, grid);
+    let words = set.words();
+    let mut others = 0;
+    for word in 0..words.len() {
+        let jobs = Marks::new(BITS * word, words[word]);
+        others += list_marked::<L>(candidates, jobs, next, first, owns, limit);
     }
-    let jobs = conflict_set::<16, L>(blocks, &state.lanes, grid);
-    list_words::<L>(candidates, jobs.words(), next, first, owns, limit)
+    others
 }
 
 /// Finds the next operation that can end first. Answers `None` if no operation is left.
@@ -225,5 +165,9 @@ pub(crate) fn list_candidates<L: StateLanes>(
         return 0;
     }
     grid.own_spans(&state.lanes, from, behind, owns);
-    list_conflict_set(candidates, owns, state, grid, blocks, limit)
+    // for few jobs the set is one number
+    if next.len() <= BITS {
+        return list_conflict_set::<1, L>(candidates, owns, state, grid, blocks, limit);
+    }
+    list_conflict_set::<16, L>(candidates, owns, state, grid, blocks, limit)
 }

@@ -1,9 +1,7 @@
 // Raises heads after an operation is dispatched, where the bound is known: nothing is noted.
 ghost use Rattle.std.specs.Prelude.{◌≤◌, ◌<◌, [], length, slice_index};
-ghost use Rattle.shop_states.specs.inner.LaidLanes.{RaisesIn, rows_in};
-ghost use Rattle.shop_states.specs.inner.RaiseCalls.{CanDelay};
-ghost use Rattle.shop_states.specs.inner.Raises.{AreWaiting, IsOnMachine, IsPosition, IsRaisable};
-ghost use Rattle.shop_states.specs.inner.RisingLists.{IsIn};
+ghost use Rattle.shop_states.specs.inner.{LaidLanes.{RaisesIn, rows_in}, RaiseCalls.CanDelay};
+ghost use Rattle.shop_states.specs.inner.{Raises.{AreWaiting, IsOnMachine, IsPosition, IsRaisable}, RisingLists.IsIn};
 
 use crate::dispatches::{Dispatch, MOST_MARKED};
 use crate::raises::{OpenRoutes, set_end_at};
@@ -35,20 +33,6 @@ fn delay_route<L: StateLanes>(lanes: &mut L, routes: &Routes, position: usize, e
     }
 }
 
-/// Does what `raise_from` does, but notes nothing.
-#[inline(always)]
-fn delay_from<L: StateLanes>(lanes: &mut L, ahead: &OpenRoutes, position: usize, end: u64)
-    requires waits { 0 < slice_index (L.heads lanes.old) position }
-    requires below { slice_index (L.heads lanes.old) position ≤ end }
-    requires raisable { IsRaisable L.GREATEST ahead.now.routes ahead.now.next.now
-        (rows_in L.StateLanes ahead.now.routes lanes.old) (IsPosition position) end }
-    requires jobs { length ahead.now.routes.places ≤ length ahead.now.next.now }
-    ensures { RaisesIn L.StateLanes ahead.now.routes ahead.now.next.now (IsPosition position) end lanes.old lanes.new }
-{
-    set_end_at(lanes, &ahead.routes, ahead.next, position, end);
-    delay_route(lanes, &ahead.routes, position, end);
-}
-
 /// Does what `raise_marked` does, but notes nothing.
 #[inline(always)]
 fn delay_marked<L: StateLanes>(lanes: &mut L, ahead: &OpenRoutes, marks: Marks, end: u64)
@@ -61,7 +45,8 @@ fn delay_marked<L: StateLanes>(lanes: &mut L, ahead: &OpenRoutes, marks: Marks, 
     let mut todo = marks;
     while let Some(position) = todo.pop_first() {
         if lanes.head(position) < end {
-            delay_from(lanes, ahead, position, end);
+            set_end_at(lanes, &ahead.routes, ahead.next, position, end);
+            delay_route(lanes, &ahead.routes, position, end);
         }
     }
 }

@@ -1,11 +1,7 @@
 // Implements `Dispatching` for a layout, with states in lanes of one width.
-ghost use Rattle.std.specs.Prelude.{◌≡◌, ◌<◌, ◌^◌, length, max, min};
-ghost use Rattle.shop_states.specs.inner.Advances.{CanGoOn};
-ghost use Rattle.shop_states.specs.inner.Dispatches.{IsDispatchOf};
-ghost use Rattle.shop_states.specs.inner.LaidLanes.{rows_in};
-ghost use Rattle.shop_states.specs.inner.StateCopies.{IsAsLong, IsCopied};
+ghost use Rattle.std.specs.Prelude.{◌≡◌, ◌^◌, length, max, min};
 
-use crate::advances::{BoundRange, advance, advance_below, strike};
+use crate::advances::{BoundRange, advance, advance_below, dispatch_in_copy, go_on, strike};
 use crate::beginnings::Beginning;
 use crate::candidate_lists::list_candidates;
 use crate::dispatches::Dispatch;
@@ -15,7 +11,7 @@ use crate::machine_raises::MachineRaises;
 use crate::siblings::{Siblings, bound_children};
 use crate::states::{Scratch, State};
 use shop_lanes::StateLanes;
-use shop_layout::{Grid, LaidOut};
+use shop_layout::LaidOut;
 use std::alloc::{AllocError as NoMemory, Global};
 
 /// A number that is above the bound of every word of an instance within the limits.
@@ -23,35 +19,6 @@ const BOUNDS: u64 = 1 << 50;
 
 /// The least number of candidates whose children are bounded together. A sole child is only tried.
 const MANY: usize = 2;
-
-/// Makes `to` a copy of `from`.
-#[inline(always)]
-fn copy_state<L: StateLanes>(from: &State<L>, to: &mut State<L>)
-    requires { IsAsLong L.heads L.ends from.now to.old }
-    ensures { IsCopied L.heads L.ends from.now to.new }
-{
-    to.lanes.copy_from(&from.lanes);
-    to.next.as_mut_slice().copy_from_slice(from.next.as_slice());
-}
-
-/// Looks up the dispatch of the next operation of `job` in the state `from`, and then makes `to` a copy of that state.
-#[inline(always)]
-fn dispatch_in_copy<L: StateLanes>(
-    grid: &Grid<L>,
-    from: &State<L>,
-    to: &mut State<L>,
-    job: u16,
-) -> Dispatch
-    requires can { CanGoOn L.GREATEST grid.now (rows_in L.StateLanes grid.now from.now.lanes) from.now.next.items job }
-    requires long { IsAsLong L.heads L.ends from.now to.old }
-    ensures job { result.job ≡ job }
-    ensures is { IsDispatchOf grid.now (L.heads to.new.lanes) to.new.next.items result }
-    ensures copied { IsCopied L.heads L.ends from.now to.new }
-{
-    let dispatch = Dispatch::of(from, grid, job as usize);
-    copy_state(from, to);
-    dispatch
-}
 
 /// Answers where the bound of a word extended by `candidate` is sought, if `bound` is the bound of the word itself.
 #[inline(always)]
@@ -66,11 +33,8 @@ fn range_of(candidate: Candidate, bound: u64, limit: u64) -> BoundRange
 }
 
 impl<'a, L: StateLanes> Dispatching<State<L>> for LaidOut<'a, L> {
-    ghost use Rattle.shop_states.specs.inner.Candidates.{IsCandidateOf};
-    ghost use Rattle.shop_states.specs.inner.Ceilings.{AreChildCeilings};
-    ghost use Rattle.shop_states.specs.inner.Scratches.{IsScratchOf};
-    ghost use Rattle.shop_states.specs.inner.AskedStates.{IsKeptFor};
-    ghost use Rattle.shop_states.specs.inner.LaneStates.{HasRoom};
+    ghost use Rattle.shop_states.specs.inner.{Candidates.IsCandidateOf, Ceilings.AreChildCeilings};
+    ghost use Rattle.shop_states.specs.inner.{Scratches.IsScratchOf, AskedStates.IsKeptFor, LaneStates.HasRoom};
     ghost use Rattle.shop_layout.specs.Lanes.{rows_of};
 
     type Scratch = Scratch<L>;
@@ -130,7 +94,8 @@ impl<'a, L: StateLanes> Dispatching<State<L>> for LaidOut<'a, L> {
     }
 
     fn copy(&self, from: &State<L>, to: &mut State<L>) {
-        copy_state(from, to);
+        to.lanes.copy_from(&from.lanes);
+        to.next.as_mut_slice().copy_from_slice(from.next.as_slice());
     }
 
     fn list_candidates(
@@ -165,8 +130,14 @@ impl<'a, L: StateLanes> Dispatching<State<L>> for LaidOut<'a, L> {
     ) -> Option<u64> {
         let grid = self.grid();
         let range = range_of(candidate, bound, limit);
-        let dispatch = Dispatch::of(state, grid, candidate.job as usize);
-        advance_below(state, &mut scratch.raises, &[], grid, dispatch, range)
+        let job = candidate.job as usize;
+        let dispatch = Dispatch::of(state, grid, job);
+        let position = dispatch.position;
+        let lanes = &mut state.lanes;
+        let next = state.next.as_slice();
+        let told = advance_below(lanes, &mut scratch.raises, &[], grid, next, dispatch, range)?;
+        go_on(lanes, state.next.as_mut_slice(), grid, job, position);
+        Some(told)
     }
 
     #[inline(always)]
@@ -181,8 +152,8 @@ impl<'a, L: StateLanes> Dispatching<State<L>> for LaidOut<'a, L> {
     ) -> Option<u64> {
         let grid = self.grid();
         let range = range_of(candidate, bound, limit);
-        let dispatch = dispatch_in_copy(grid, from, to, candidate.job);
-        advance_below(to, &mut scratch.raises, &[], grid, dispatch, range)
+        let job = candidate.job as usize;
+        dispatch_in_copy(from, to, &mut scratch.raises, &[], grid, job, range)
     }
 
     fn bound_children(
@@ -220,9 +191,9 @@ impl<'a, L: StateLanes> Dispatching<State<L>> for LaidOut<'a, L> {
     ) -> Option<u64> {
         let grid = self.grid();
         let range = range_of(candidate, bound, limit);
-        let dispatch = dispatch_in_copy(grid, from, to, candidate.job);
+        let job = candidate.job as usize;
         let ceilings = scratch.ceilings.as_slice();
-        advance_below(to, &mut scratch.raises, ceilings, grid, dispatch, range)
+        dispatch_in_copy(from, to, &mut scratch.raises, ceilings, grid, job, range)
     }
 
     #[inline(never)]

@@ -1,8 +1,6 @@
 // A dispatch of an operation: where the operation stands, when it ends, and which heads its end raises.
 ghost use Rattle.std.specs.Prelude.{◌≡◌, ◌≤◌, length};
-ghost use Rattle.shop_states.specs.inner.Advances.{CanGoOn};
-ghost use Rattle.shop_states.specs.inner.Dispatches.{AreDelayedOn, IsDispatchOf};
-ghost use Rattle.shop_states.specs.inner.LaidLanes.{rows_in};
+ghost use Rattle.shop_states.specs.inner.{Advances.CanGoOn, Dispatches.{AreDelayedOn, IsDispatchOf}, LaidLanes.rows_in};
 ghost use Rattle.shop_states.specs.inner.Raises.{HasBlocks};
 
 use crate::states::State;

@@ -1,14 +1,10 @@
 // The trait `Dispatching`: how a walk fills, copies and extends the states of words.
 ghost use Rattle.std.specs.Prelude.{◌≡◌, ℕ, ◌≤◌, List, [], ◌∷◌, ◌++◌, All, IfOk, IfSome, IsTrue, OnSome, length};
 ghost use Rattle.std.specs.Prelude.{vec_capacity};
-ghost use Rattle.shop_model.specs.Limits.{IsWithinLimits};
-ghost use Rattle.shop_model.specs.Shop.{Shop};
-ghost use Rattle.shop_model.specs.Word.{IsWord};
-ghost use Rattle.shop_bound.specs.Bound.{lb};
-ghost use Rattle.shop_bound.specs.Conflicts.{conflict, SoleCandidateKeepsBound};
+ghost use Rattle.shop_model.specs.{Limits.IsWithinLimits, Shop.Shop, Word.IsWord};
+ghost use Rattle.shop_bound.specs.{Bound.lb, Conflicts.{conflict, SoleCandidateKeepsBound}};
 ghost use Rattle.shop_states.specs.States.{TellsBoundBelow, CanDispatch, HasListed, HasSoleCandidate, IsOfSomeWord};
-ghost use Rattle.shop_states.specs.States.{ListsBelow, Settles};
-ghost use Rattle.shop_states.specs.declared.dispatching.Candidate.{Candidate};
+ghost use Rattle.shop_states.specs.{States.{ListsBelow, Settles}, declared.dispatching.Candidate.Candidate};
 
 use std::alloc::{AllocError as NoMemory, Global};
 

@@ -1,10 +1,8 @@
 // Fills a state from the placement of its word, where each job has the index of its next leg.
 ghost use Rattle.std.specs.Prelude.{◌≡◌, ℕ, ◌<◌, List, length};
-ghost use Rattle.shop_model.specs.Placements.{PlacementState, IsPlacement};
-ghost use Rattle.shop_model.specs.Word.{IsWord, Placing, placing};
+ghost use Rattle.shop_model.specs.{Placements.{PlacementState, IsPlacement}, Word.{IsWord, Placing, placing}};
 ghost use Rattle.shop_states.specs.inner.Fills.{CanFill, HasFilledJob, IsAtLeg, IsAtSomeLeg, IsNextSet, IsOnSomeRoute};
-ghost use Rattle.shop_states.specs.inner.LaidLanes.{rows_in};
-ghost use Rattle.shop_states.specs.inner.LaneStates.{HasRoom, IsKeptInLanes};
+ghost use Rattle.shop_states.specs.inner.{LaidLanes.rows_in, LaneStates.{HasRoom, IsKeptInLanes}};
 ghost use Rattle.shop_states.specs.inner.PlacedNexts.{IsPlacedAt, IsWordAt};
 
 use shop_lanes::StateLanes;

@@ -1,7 +1,6 @@
 // Sets of jobs, one bit a job.
 ghost use Rattle.std.specs.Prelude.{◌≡◌, ℕ, ◌*◌, ◌/◌, ◌<◌, List, [], length};
-ghost use Rattle.shop_states.specs.inner.JobSets.{members, HasPut};
-ghost use Rattle.shop_states.specs.inner.RisingLists.{Rises};
+ghost use Rattle.shop_states.specs.inner.{JobSets.{members, HasPut}, RisingLists.Rises};
 
 use std::marker::Model;
 
@@ -22,18 +21,6 @@ impl<const WORDS: usize> Model for JobSet<WORDS> {
     ghost invariant = { λ s. length s.words ≡ WORDS };
 }
 
-/// Answers the index of the number that has the bit of `job`. Divides only if a set has more than one number.
-#[inline(always)]
-fn word_of<const WORDS: usize>(job: usize) -> usize
-    requires { job < 64 * WORDS }
-    ensures { result ≡ job / 64 }
-{
-    if WORDS == 1 {
-        return 0;
-    }
-    job / BITS
-}
-
 impl<const WORDS: usize> JobSet<WORDS> {
     /// Makes the empty set.
     #[inline(always)]
@@ -49,7 +36,9 @@ impl<const WORDS: usize> JobSet<WORDS> {
         requires { job < 64 * WORDS }
         ensures { HasPut job self.old self.new }
     {
-        self.words[word_of::<WORDS>(job)] |= 1 << (job % BITS);
+        // a set of one number needs no division
+        let word = if WORDS == 1 { 0 } else { job / BITS };
+        self.words[word] |= 1 << (job % BITS);
     }
 
     /// Answers the set as bits, 64 jobs to each number, lowest job first.

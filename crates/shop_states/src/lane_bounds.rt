@@ -2,10 +2,8 @@
 ghost use Rattle.std.specs.Prelude.{◌≡◌, ◌-◌, ◌≤◌, ◌<◌, ◌^◌, ◌⊎◌, IsTrue, length, slice_index};
 ghost use Rattle.shop_lanes.specs.Rows.{lanes_in};
 ghost use Rattle.shop_layout.specs.Positions.{AreEven};
-ghost use Rattle.shop_states.specs.inner.HeadRaises.{raise_in, raises_in};
-ghost use Rattle.shop_states.specs.inner.LaidLanes.{CanTakeSpansIn, TakesSpansIn, laid_rows};
-ghost use Rattle.shop_states.specs.inner.MachineRaises.{CanBoundRows, CanTakeSpans, IsSpanByRaise};
-ghost use Rattle.shop_states.specs.inner.Siblings.{BoundsRaises};
+ghost use Rattle.shop_states.specs.inner.{HeadRaises.{raise_in, raises_in}, LaidLanes.{CanTakeSpansIn, TakesSpansIn}};
+ghost use Rattle.shop_states.specs.inner.MachineRaises.{CanBoundRows, IsSpanByRaise};
 
 use crate::head_raises::{LaneRaise, take_raise};
 use crate::machine_sets::MachineSet;
@@ -24,7 +22,7 @@ pub(crate) struct LaidLanes<'a, L: StateLanes> {
 /// served by rank from that head on. May stop once the bound reaches `limit`. `each` is the number of the machine's
 /// blocks, or 0 if unknown.
 #[inline(always)]
-fn span_of_rows<L: StateLanes>(
+pub(crate) fn span_of_rows<L: StateLanes>(
     each: usize,
     rows: &LaneRows<L::Number>,
     raise: LaneRaise<L::Number>,
@@ -139,45 +137,8 @@ pub(crate) fn take_any_spans<L: StateLanes>(
 
 /// Answers `span`, or `u64::MAX` if `span` reaches `limit`, since the pass may then have stopped early.
 #[inline(always)]
-fn kept_ceiling(span: u64, limit: u64) -> u64
+pub(crate) fn kept_ceiling(span: u64, limit: u64) -> u64
     ensures { ((span < limit) × (result ≡ span)) ⊎ ((limit ≤ span) × (result ≡ 2 ^ 64 - 1)) }
 {
     if span < limit { span } else { u64::MAX }
-}
-
-/// Writes into `ceilings`, for each machine, the greatest of `least` and its spans from the heads within its raise, or
-/// `u64::MAX` where that reaches `limit`. Answers the greatest of all these. Empties the raises. All numbers are one
-/// more than the bounds that they stand for, like heads in lanes.
-#[inline(always)]
-pub(crate) fn take_ceilings<L: StateLanes>(
-    raises: &mut [LaneRaise<L::Number>],
-    raised: MachineSet,
-    ceilings: &mut [u64],
-    laid: &LaidLanes<L>,
-    least: u64,
-    limit: u64,
-) -> u64
-    requires can { CanTakeSpans L.GREATEST (raises_in L.value raises.old) raised laid.now.grid.now
-        (laid_rows L.heads L.ends laid.now) }
-    requires room { length ceilings.old ≡ length raises.old }
-    requires computable { L.GREATEST < 2 ^ 64 }
-    ensures bounds { BoundsRaises laid.now.grid.now
-        (laid_rows L.heads L.ends laid.now)
-        (raises_in L.value raises.old) (raises_in L.value raises.new) ceilings.new least result }
-    ensures long { length ceilings.new ≡ length ceilings.old }
-{
-    ceilings.fill(least);
-    let each = laid.grid.fixed_blocks_each();
-    let rows = laid.grid.rows(laid.lanes);
-    let mut greatest = least;
-    let mut left = raised;
-    while let Some(machine) = left.pop_first() {
-        let raise = take_raise::<L>(raises, machine);
-        let (from, to) = laid.grid.blocks_of(each, machine);
-        let span = span_of_rows::<L>(each, &rows.blocks(from, to), raise, least, limit);
-        let ceiling = kept_ceiling(span, limit);
-        ceilings[machine] = ceilings[machine].max(ceiling);
-        greatest = greatest.max(ceiling);
-    }
-    greatest
 }

@@ -1,8 +1,7 @@
 // Finds the conflict set from the heads in lanes.
 ghost use Rattle.std.specs.Prelude.{ℕ, ◌*◌, ◌≤◌, ◌<◌, IsTrue, length};
 ghost use Rattle.shop_states.specs.inner.LaneChoices.{AreConflictBlocks, HaveJobs, IsAlone, IsJobAt, IsJobBelow};
-ghost use Rattle.shop_states.specs.inner.Raises.{IsInBlocks};
-ghost use Rattle.shop_states.specs.inner.RisingLists.{HasGathered, IsGatheredWith, IsIn};
+ghost use Rattle.shop_states.specs.inner.{Raises.IsInBlocks, RisingLists.{HasGathered, IsGatheredWith, IsIn}};
 
 use crate::dispatches::MOST_MARKED;
 use crate::job_sets::JobSet;
@@ -67,8 +66,9 @@ fn gather_in_blocks<const WORDS: usize, L: StateLanes>(
     }
 }
 
-/// Tells whether no operation but the one at `position` waits in blocks `first` up to `behind` (excluded) with a head
-/// below `limit`. Stays out of line: most machines have no block behind those that were looked at before.
+/// Answers true only if no operation but the one at `position` waits in blocks `first` up to `behind` (excluded) with a
+/// head below `limit`; may answer false all the same. Stays out of line: most machines have at most `MOST_MARKED`
+/// blocks, and none of theirs is left to look at.
 #[inline(never)]
 fn is_alone_in<L: StateLanes>(
     lanes: &L,
@@ -93,7 +93,8 @@ fn is_alone_in<L: StateLanes>(
     true
 }
 
-/// Tells whether no operation but the one at `position` waits in `blocks` with a head below their end.
+/// Answers true only if no operation but the one at `position` waits in `blocks` with a head below `blocks.end`; may
+/// answer false all the same.
 #[inline(always)]
 pub(crate) fn is_alone<L: StateLanes>(blocks: &ConflictBlocks, lanes: &L, position: usize) -> bool
     requires { AreConflictBlocks L.GREATEST (L.heads lanes.now) blocks.now }

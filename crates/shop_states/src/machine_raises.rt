@@ -1,16 +1,14 @@
 // The raises of heads on each machine in a dispatch, and the bound that they give.
-ghost use Rattle.std.specs.Prelude.{◌≡◌, ℕ, ◌+◌, ◌≤◌, ◌<◌, ◌^◌, IfOk, length, replicate};
-ghost use Rattle.shop_states.specs.inner.HeadRaises.{nothing_raised, raises_in};
+ghost use Rattle.std.specs.Prelude.{◌≡◌, ◌+◌, ◌≤◌, ◌<◌, ◌^◌, IfOk, length};
 ghost use Rattle.shop_states.specs.inner.LaidLanes.{CanTakeSpansIn, HasRaisedIn, TakesSpansIn, laid_rows, rows_in};
-ghost use Rattle.shop_states.specs.inner.MachineRaises.{AreEmpty, CanTakeSpans};
-ghost use Rattle.shop_states.specs.inner.RaiseCalls.{CanDelay};
+ghost use Rattle.shop_states.specs.inner.{MachineRaises.{AreEmpty, CanTakeSpans}, RaiseCalls.CanDelay};
 ghost use Rattle.shop_states.specs.inner.Raises.{IsOnMachine};
 ghost use Rattle.shop_states.specs.inner.Siblings.{BoundsRaises, CanRaiseLate, HasRaisedBehind, IsLateOn};
 ghost use Rattle.shop_states.specs.inner.Watchers.{AreKnown};
 
 use crate::dispatches::{Dispatch, MOST_MARKED};
-use crate::head_raises::{LaneRaise, no_raise};
-use crate::lane_bounds::{LaidLanes, take_any_spans, take_ceilings, take_spans_of};
+use crate::head_raises::{LaneRaise, no_raise, take_raise};
+use crate::lane_bounds::{LaidLanes, kept_ceiling, span_of_rows, take_any_spans, take_spans_of};
 use crate::machine_sets::MachineSet;
 use crate::raises::{OpenRoutes, raise_any, raise_marked};
 use crate::siblings::{LateMachine, raise_late};
@@ -73,6 +71,8 @@ impl<L: StateLanes> MachineRaises<L> {
         let mut raised = MachineSet::none();
         let raises = self.raises.as_mut_slice();
         let each = grid.fixed_blocks_each();
+        // a dispatch marks at most `MOST_MARKED` blocks: of longer machines, and of those of unknown length, the other
+        // blocks are marked on the way
         if each == 0 || each > MOST_MARKED {
             if raises.len() <= 64 {
                 raise_any::<L, true>(lanes, raises, &mut raised, grid, next, dispatch);
@@ -169,7 +169,21 @@ impl<L: StateLanes> MachineRaises<L> {
         ensures long { length ceilings.new ≡ length ceilings.old }
     {
         let raises = self.raises.as_mut_slice();
-        let limit = limit.saturating_add(1);
-        take_ceilings(raises, raised, ceilings, laid, least + 1, limit) - 1
+        let lowest = least + 1;
+        let most = limit.saturating_add(1);
+        ceilings.fill(lowest);
+        let each = laid.grid.fixed_blocks_each();
+        let rows = laid.grid.rows(laid.lanes);
+        let mut greatest = lowest;
+        let mut left = raised;
+        while let Some(machine) = left.pop_first() {
+            let raise = take_raise::<L>(raises, machine);
+            let (from, to) = laid.grid.blocks_of(each, machine);
+            let span = span_of_rows::<L>(each, &rows.blocks(from, to), raise, lowest, most);
+            let ceiling = kept_ceiling(span, most);
+            ceilings[machine] = ceilings[machine].max(ceiling);
+            greatest = greatest.max(ceiling);
+        }
+        greatest - 1
     }
 }

@@ -1,7 +1,6 @@
 // Sets of machines, one bit a machine.
 ghost use Rattle.std.specs.Prelude.{◌≡◌, ◌<◌, ◌++◌, ◌^◌, ℕ, List, [], IsTrue};
-ghost use Rattle.shop_lanes.specs.Marks.{IsPopped};
-ghost use Rattle.shop_lanes.specs.SetBits.{set_bits};
+ghost use Rattle.shop_lanes.specs.{Marks.IsPopped, SetBits.set_bits};
 ghost use Rattle.shop_states.specs.inner.JobSets.{HasPut};
 
 use std::marker::Model;

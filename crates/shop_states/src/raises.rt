@@ -1,12 +1,9 @@
-// Raises heads after an operation is dispatched. `delays.rt` does the same without notes.
-ghost use Rattle.std.specs.Prelude.{◌+◌, ◌≤◌, ◌<◌, ◌^◌, [], IsTrue, length, slice_index};
-ghost use Rattle.shop_states.specs.inner.HeadRaises.{raises_in};
-ghost use Rattle.shop_states.specs.inner.LaidLanes.{HasRaisedIn, RaisesIn, rows_in};
+// Raises heads after an operation is dispatched, and notes how far. `delays.rt` raises heads without notes.
+ghost use Rattle.std.specs.Prelude.{◌+◌, ◌≤◌, ◌<◌, ◌^◌, [], length, slice_index};
+ghost use Rattle.shop_states.specs.inner.{HeadRaises.raises_in, LaidLanes.{HasRaisedIn, RaisesIn, rows_in}};
 ghost use Rattle.shop_states.specs.inner.RaiseCalls.{CanDelay, CanNote, CanRaise};
 ghost use Rattle.shop_states.specs.inner.Raises.{AreWaiting, IsOnMachine, IsPosition, IsRaisable, SetsEndAt};
-ghost use Rattle.shop_states.specs.inner.RisingLists.{IsIn};
-ghost use Rattle.shop_states.specs.inner.Watchers.{AreKnown, Notes, Sees};
-ghost use Rattle.shop_states.specs.inner.MachineRaises.{AreListed};
+ghost use Rattle.shop_states.specs.inner.{RisingLists.IsIn, Watchers.{Notes, Sees}, MachineRaises.AreListed};
 
 use crate::dispatches::{Dispatch, MOST_MARKED};
 use crate::head_raises::{LaneRaise, see};
@@ -89,31 +86,9 @@ pub(crate) fn set_end_at<L: StateLanes>(
     }
 }
 
-/// Raises the head at `position` to `end`, then every later head on its route that is now too early. Sets the end of
-/// the operation at `position` if it is its job's next one.
-#[inline(always)]
-fn raise_from<L: StateLanes, const FEW: bool>(
-    lanes: &mut L,
-    raises: &mut [LaneRaise<L::Number>],
-    raised: &mut MachineSet,
-    ahead: &OpenRoutes,
-    position: usize,
-    end: u64,
-)
-    requires waits { 0 < slice_index (L.heads lanes.old) position }
-    requires below { slice_index (L.heads lanes.old) position ≤ end }
-    requires can { CanRaise L.GREATEST ahead.now.routes ahead.now.next.now (IsPosition position) end
-        (rows_in L.StateLanes ahead.now.routes lanes.old) }
-    requires note { CanNote L.value FEW ahead.now.routes.machines raises.old raised.old }
-    ensures { HasRaisedIn L.StateLanes ahead.now.routes ahead.now.next.now (IsPosition position) end
-        lanes.old lanes.new (raises_in L.value raises.old) (raises_in L.value raises.new) raised.new }
-{
-    set_end_at(lanes, &ahead.routes, ahead.next, position, end);
-    raise_route::<L, FEW>(lanes, raises, raised, &ahead.routes, position, end);
-}
-
-/// Raises to `end` each head below `end` at the marked positions, where operations wait. Also raises every later head
-/// on their routes that is too early then, so that a marked head may have risen before its turn comes.
+/// Raises to `end` each head below `end` at the marked positions, where operations wait, and sets the end of each of
+/// these operations that is its job's next one. Also raises every later head on their routes that is too early then, so
+/// that a marked head may have risen before its turn comes.
 #[inline(always)]
 pub(crate) fn raise_marked<L: StateLanes, const FEW: bool>(
     lanes: &mut L,
@@ -133,7 +108,8 @@ pub(crate) fn raise_marked<L: StateLanes, const FEW: bool>(
     let mut todo = marks;
     while let Some(position) = todo.pop_first() {
         if lanes.head(position) < end {
-            raise_from::<L, FEW>(lanes, raises, raised, ahead, position, end);
+            set_end_at(lanes, &ahead.routes, ahead.next, position, end);
+            raise_route::<L, FEW>(lanes, raises, raised, &ahead.routes, position, end);
         }
     }
 }

@@ -2,15 +2,11 @@
 // the other operations that wait there until its own ends, at the latest until the latest of these ends. So if heads
 // are raised as if every operation there had to wait until then, no head of a child is higher, and no span is greater.
 // One pass over the machines whose heads rose thus bounds nearly all children.
-ghost use Rattle.std.specs.Prelude.{◌≡◌, ℕ, ◌+◌, ◌≤◌, ◌<◌, ◌⊎◌, List, ◌∷◌, ◌++◌, [], IsTrue, length, slice_index};
+ghost use Rattle.std.specs.Prelude.{◌≡◌, ℕ, ◌+◌, ◌≤◌, ◌<◌, List, ◌∷◌, ◌++◌, [], length, slice_index};
 ghost use Rattle.shop_model.specs.Shop.{Shop};
 ghost use Rattle.shop_bound.specs.Bound.{lb};
-ghost use Rattle.shop_states.specs.inner.Advances.{IsAdvancing};
-ghost use Rattle.shop_states.specs.inner.Ceilings.{AreChildCeilings};
-ghost use Rattle.shop_states.specs.inner.HeadRaises.{raises_in};
-ghost use Rattle.shop_states.specs.inner.LaidLanes.{rows_in};
-ghost use Rattle.shop_states.specs.inner.LaneStates.{IsKeptInLanes};
-ghost use Rattle.shop_states.specs.inner.MachineRaises.{AreEmpty};
+ghost use Rattle.shop_states.specs.inner.{Advances.IsAdvancing, Ceilings.AreChildCeilings, HeadRaises.raises_in};
+ghost use Rattle.shop_states.specs.inner.{LaidLanes.rows_in, LaneStates.IsKeptInLanes, MachineRaises.AreEmpty};
 ghost use Rattle.shop_states.specs.inner.RaiseCalls.{CanNote};
 ghost use Rattle.shop_states.specs.inner.Siblings.{AreLatest, AreSiblings, CanBoundChildren, CanEnd, CanRaiseBehind};
 ghost use Rattle.shop_states.specs.inner.Siblings.{CanRaiseLate, HasRaisedBehind, IsEndAt, IsLateOn, end_by, job_at};
@@ -111,19 +107,6 @@ fn raise_behind<L: StateLanes, const FEW: bool>(
     raise_route::<L, FEW>(lanes, raises, raised, routes, first, ready);
 }
 
-/// Answers until when the candidates can delay the operation at `position`: until the latest end, or the second latest
-/// for the operation that ends last, at `last`, since it doesn't delay itself.
-#[inline(always)]
-fn free_at(position: usize, last: usize, latest: Latest) -> u64
-    ensures { ((position ≡ last) × (result ≡ latest.second))
-        ⊎ ((position ≡ last → ⊥) × (result ≡ latest.end)) }
-{
-    if position == last {
-        return latest.second;
-    }
-    latest.end
-}
-
 /// A machine whose operations some candidates delay, all on that machine. It has blocks `from` up to `behind`
 /// (excluded); the candidates' operation that ends last stands at `last`, and `latest` tells when.
 #[derive(Clone, Copy)]
@@ -135,10 +118,11 @@ pub(crate) struct LateMachine {
 }
 
 /// Raises the heads behind each operation that waits on a late machine, as if the operation began at the latest time
-/// until which candidates can delay it, see `free_at`. Notes how far heads rose. No head of a child is then higher,
-/// except on that machine, where heads stay. Marks up to eight blocks at once, and visits only what waits there and can
-/// begin before the latest end: behind all else, heads are late enough. So are they where a marked head rises before
-/// its turn. `FEW` says that there are at most 64 machines, see `see`.
+/// until which candidates can delay it: at `late.latest.end` or, if it stands at `late.last`, at `late.latest.second`.
+/// Notes how far heads rose. No head of a child is then higher, except on that machine, where heads stay. Marks up to
+/// eight blocks at once, and visits only what waits there and can begin before the latest end: behind all else, heads
+/// are late enough. So are they where a marked head rises before its turn. `FEW` says that there are at most 64
+/// machines, see `see`.
 pub(crate) fn raise_late<L: StateLanes, const FEW: bool>(
     lanes: &mut L,
     raises: &mut [LaneRaise<L::Number>],
@@ -157,7 +141,12 @@ pub(crate) fn raise_late<L: StateLanes, const FEW: bool>(
         let to = from + (late.behind - from).min(MOST_MARKED);
         let mut todo = lanes.below(from, to, late.latest.end);
         while let Some(position) = todo.pop_first() {
-            let free = free_at(position, late.last, late.latest);
+            // the candidates' operation that ends last doesn't delay itself
+            let free = if position == late.last {
+                late.latest.second
+            } else {
+                late.latest.end
+            };
             raise_behind::<L, FEW>(lanes, raises, raised, routes, position, free);
         }
         from = to;

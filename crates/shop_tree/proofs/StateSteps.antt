@@ -29,11 +29,11 @@ module _ {D S C : Type 0} {g : Ghosts D S C} {v w : Walker D S C g} (s : StandsA
   path_same : w.path.items ≡ v.path.items
   path_same = ap (λ (t : Stage). t.word) s.stage
 
-  best_same : w.progress.best ≡ v.progress.best
+  best_same : w.best ≡ v.best
   best_same = ap (λ (t : Stage). t.walk.best) s.stage
 
-  candidates_stand : {n : ℕ} → Lists g v.states v.path.items v.progress.best v.candidates.items n
-      → Lists g w.states w.path.items w.progress.best w.candidates.items n
+  candidates_stand : {n : ℕ} → Lists g v.states v.path.items v.best v.candidates.items n
+      → Lists g w.states w.path.items w.best w.candidates.items n
   candidates_stand h = rw (s.dispatcher, s.candidates, path_same, best_same) h
 
   state_stands : IsStateIn g v.states v.path.items → IsStateIn g w.states w.path.items
@@ -44,7 +44,7 @@ pub still_at : {D S C : Type 0} {g : Ghosts D S C} {v : Walker D S C g} (w : Wal
     → stage_of w ≡ stage_of v → HasStates w → IsStateIn g w.states w.path.items → StandsAt w b
 still_at {v} w at same states state = record {
   bound = at.bound ∙ sym (ap (λ (t : Stage). lb t.shop t.word) same);
-  below = (let a = at.below in let e : w.progress.best ≡ v.progress.best = ap (λ (t : Stage). t.walk.best) same
+  below = (let a = at.below in let e : w.best ≡ v.best = ap (λ (t : Stage). t.walk.best) same
       in omega arith);
   in_order = subst IsInOrder (sym same) at.in_order;
   states = states;
@@ -70,8 +70,8 @@ pub listed_stand : {D S C : Type 0} {g : Ghosts D S C} {v w : Walker D S C g} {b
     → IsListedAt v b n → IsListedAt w b n
 listed_stand {v} {w} s at = record {
   at = still_at w at.at s.stage s.states (state_stands s at.at.state);
-  short = (let a = at.short in let e = v.progress.counted in let f = w.progress.counted
-      in let h : operation_count w.progress.instance.now ≡ operation_count v.progress.instance.now =
+  short = (let a = at.short in let e = v.counted in let f = w.counted
+      in let h : operation_count w.instance.now ≡ operation_count v.instance.now =
       ap (λ (t : Stage). operation_count t.shop) s.stage
       in let k : length w.path.items ≡ length v.path.items = ap (λ (t : Stage). length t.word) s.stage in omega arith);
   candidates = candidates_stand s at.candidates;
@@ -81,8 +81,8 @@ listed_stand {v} {w} s at = record {
 pub listed_at : {D S C : Type 0} {g : Ghosts D S C} {v w : Walker D S C g} {b n : ℕ} → StandsAt v b
     → stage_of w ≡ stage_of v → w.stack.items ≡ v.stack.items → w.states.dispatcher.now ≡ v.states.dispatcher.now
     → w.states.current.value ≡ v.states.current.value → HoldSlots g w.states
-    → length w.path.items < w.progress.operations
-    → Lists g v.states w.path.items w.progress.best w.candidates.items n → IsListedAt w b n
+    → length w.path.items < w.operations
+    → Lists g v.states w.path.items w.best w.candidates.items n → IsListedAt w b n
 listed_at {g = g} {v} {w} {n = n} at stage stack same current slots short lists =
     let word : w.path.items ≡ v.path.items = ap (λ (t : Stage). t.word) stage
     in record {

@@ -21,8 +21,8 @@ impl<'l, 'a, D: Dispatching<S>, S: Drop> Walker<'l, 'a, D, S> {
     /// Appends `job` to the current word and spends one unit of the budget.
     #[inline(always)]
     fn take_job(&mut self, job: u16)
-        requires some { 0 < self.old.progress.budget }
-        requires short { length self.old.path.items < self.old.progress.operations }
+        requires some { 0 < self.old.budget }
+        requires short { length self.old.path.items < self.old.operations }
         requires held { AreHeld (D.IsStateOf self.old.states.dispatcher.now)
             (self.old.path.items ++ job ∷ []) self.old.stack.items }
         requires slots { HoldSlots D.Dispatching self.old.states }
@@ -31,8 +31,7 @@ impl<'l, 'a, D: Dispatching<S>, S: Drop> Walker<'l, 'a, D, S> {
         ensures states { HasStates self.new }
         ensures state { IsStateIn D.Dispatching self.new.states self.new.path.items }
     {
-        let progress = &mut self.progress;
-        progress.budget -= 1;
+        self.budget -= 1;
         self.path.push(job).unwrap();
     }
 
@@ -40,18 +39,17 @@ impl<'l, 'a, D: Dispatching<S>, S: Drop> Walker<'l, 'a, D, S> {
     /// `count` units on them; else puts an entry for them on the stack. Fails with `NoMemory` if memory runs out.
     #[inline(always)]
     fn close(&mut self, count: usize) -> Result<(), NoMemory>
-        requires word { IsWord self.old.progress.instance.now self.old.path.items }
-        requires limits { IsWithinLimits self.old.progress.instance.now }
-        requires short { length self.old.path.items < self.old.progress.operations }
-        requires closed { AreChildren self.old.progress.instance.now self.old.progress.best self.old.path.items
-            [] count }
+        requires word { IsWord self.old.instance.now self.old.path.items }
+        requires limits { IsWithinLimits self.old.instance.now }
+        requires short { length self.old.path.items < self.old.operations }
+        requires closed { AreChildren self.old.instance.now self.old.best self.old.path.items [] count }
         requires in_order { IsInOrder (stage_of self.old) }
         requires states { HasStates self.old }
         ensures expanded { OnOk result (HasExpanded (stage_of self.old) (stage_of self.new)) }
         ensures states { OnOk result (HasStates self.new) }
     {
-        if self.progress.budget >= count as u64 {
-            self.progress.budget -= count as u64;
+        if self.budget >= count as u64 {
+            self.budget -= count as u64;
             return Ok(());
         }
         put_rest(&mut self.stack, self.path.len(), count)
@@ -64,7 +62,7 @@ impl<'l, 'a, D: Dispatching<S>, S: Drop> Walker<'l, 'a, D, S> {
     #[inline(always)]
     fn go_on(&mut self, bound: u64, closed: usize) -> Result<Option<u64>, NoMemory>
         requires one { length self.old.candidates.items ≡ 1 }
-        requires some { 0 < self.old.progress.budget }
+        requires some { 0 < self.old.budget }
         requires listed { IsListedAt self.old bound closed }
         ensures { IfOk result (HasGoneOn self.old self.new) }
     {
@@ -74,7 +72,7 @@ impl<'l, 'a, D: Dispatching<S>, S: Drop> Walker<'l, 'a, D, S> {
             self.take_job(candidate.job);
             return Ok(Some(bound));
         }
-        let Some(bound) = self.states.advance(candidate, bound, self.progress.best) else {
+        let Some(bound) = self.states.advance(candidate, bound, self.best) else {
             self.close(closed + 1)?;
             return Ok(None);
         };
@@ -83,31 +81,18 @@ impl<'l, 'a, D: Dispatching<S>, S: Drop> Walker<'l, 'a, D, S> {
         Ok(Some(bound))
     }
 
-    /// Takes states from the lowest entries of the stack until `wanted` states are free, or no entry has a state left.
-    /// Fails with `NoMemory` if memory runs out.
-    #[inline(never)]
-    fn strip_lowest(&mut self, wanted: usize) -> Result<(), NoMemory>
-        requires states { HasStates self.old }
-        ensures stands { OnOk result (StandsAs self.old self.new) }
-    {
-        while self.states.free() < wanted && self.stripped < self.stack.len() {
-            let state = self.stack[self.stripped].state.take();
-            self.stripped += 1;
-            self.states.give_back(state)?;
-        }
-        Ok(())
-    }
-
-    /// Takes states from the lowest entries of the stack if fewer are free than the children of this word want. Fails
-    /// with `NoMemory` if memory runs out.
+    /// Takes states from the lowest entries of the stack until as many are free as the children of this word want, at
+    /// most `MOST_WANTED`, or no entry has a state left. Fails with `NoMemory` if memory runs out.
     #[inline(always)]
     fn reclaim(&mut self) -> Result<(), NoMemory>
         requires states { HasStates self.old }
         ensures stands { OnOk result (StandsAs self.old self.new) }
     {
-        let children = self.candidates.len();
-        if self.states.free() < children {
-            return self.strip_lowest(children.min(MOST_WANTED));
+        let wanted = self.candidates.len().min(MOST_WANTED);
+        while self.states.free() < wanted && self.stripped < self.stack.len() {
+            let state = self.stack[self.stripped].state.take();
+            self.stripped += 1;
+            self.states.give_back(state)?;
         }
         Ok(())
     }
@@ -120,16 +105,18 @@ impl<'l, 'a, D: Dispatching<S>, S: Drop> Walker<'l, 'a, D, S> {
         ensures branched { OnOk result (HasBranched (stage_of self.old) (stage_of self.new)) }
         ensures states { OnOk result (HasStates self.new) }
     {
-        let (below, depth) = (self.stack.len(), self.path.len());
+        let below = self.stack.len();
+        let depth = self.path.len();
+        let left = self.operations - depth;
         self.stripped = self.stripped.min(below);
         put_rest(&mut self.stack, depth, closed)?;
         let branching = Branching {
             word: self.path.as_slice(),
             bound,
-            limit: self.progress.best,
+            limit: self.best,
             candidates: self.candidates.as_slice(),
             closed,
-            is_together: self.progress.is_together(depth, self.candidates.len()),
+            is_together: self.candidates.len().saturating_mul(left) >= self.together,
         };
         let all = self
             .states
@@ -155,14 +142,14 @@ impl<'l, 'a, D: Dispatching<S>, S: Drop> Walker<'l, 'a, D, S> {
     /// `NoMemory` if memory runs out.
     #[inline(never)]
     fn find(&mut self, alloc: Global, bound: u64) -> Result<(), NoMemory>
-        requires full { self.old.progress.operations ≤ length self.old.path.items }
+        requires full { self.old.operations ≤ length self.old.path.items }
         requires at { StandsAt self.old bound }
         ensures expanded { OnOk result (HasExpanded (stage_of self.old) (stage_of self.new)) }
         ensures states { OnOk result (HasStates self.new) }
     {
         let word = SharedWord::of_path(alloc, self.path.as_slice())?;
-        self.progress.found = Some(Word::of_shared(word));
-        self.progress.best = bound;
+        self.found = Some(Word::of_shared(word));
+        self.best = bound;
         Ok(())
     }
 
@@ -174,11 +161,9 @@ impl<'l, 'a, D: Dispatching<S>, S: Drop> Walker<'l, 'a, D, S> {
         ensures states { OnOk result (HasStates self.new) }
     {
         let mut bound = bound;
-        while self.path.len() < self.progress.operations {
-            let closed = self
-                .states
-                .list_candidates(self.progress.best, &mut self.candidates);
-            if self.candidates.len() != 1 || self.progress.budget == 0 {
+        while self.path.len() < self.operations {
+            let closed = self.states.list_candidates(self.best, &mut self.candidates);
+            if self.candidates.len() != 1 || self.budget == 0 {
                 return self.branch(alloc, bound, closed);
             }
             let Some(next) = self.go_on(bound, closed)? else {

@@ -3,7 +3,6 @@
 
 mod expanding;
 mod held;
-mod progress;
 mod searchers;
 mod walk_states;
 mod walkers;

@@ -194,17 +194,4 @@ impl<'l, D: Dispatching<S>, S: Drop> WalkStates<'l, D, S> {
         };
         Ok(Some(mem::replace(&mut self.trial, spare)))
     }
-
-    /// Takes out the current state, and puts a spare or new one in its place. Answers `None` if neither can be had.
-    /// Fails with `NoMemory` if memory runs out.
-    pub(crate) fn take_current(&mut self, alloc: Global) -> Result<Option<Box<S>>, NoMemory>
-        requires sound { HoldSlots D.Dispatching self.old }
-        ensures sound { KeepSlots D.Dispatching self.old self.new }
-        ensures taken { IfOk result (IsHeldOf (λ _ s. s ≡ self.old.current.value) []) }
-    {
-        let Some(spare) = self.spare_state(alloc)? else {
-            return Ok(None);
-        };
-        Ok(Some(mem::replace(&mut self.current, spare)))
-    }
 }

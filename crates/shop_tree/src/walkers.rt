@@ -5,27 +5,40 @@ ghost use Rattle.shop_nodes.specs.Nodes.{IsNode, AreNodes};
 ghost use Rattle.shop_tree.specs.Searches.{Searches};
 
 use crate::held::{Held, copy_waiting};
-use crate::progress::Progress;
 use crate::walk_states::WalkStates;
-use shop_model::Instance;
+use shop_model::{Instance, Word};
 use shop_nodes::{Halt, Left, Node, Open, Piece, Sheet, Waiting};
 use shop_states::{Candidate, Dispatching};
 use std::alloc::{AllocError as NoMemory, Global};
 use std::sync::ArcSlice;
 
-/// A walk: its progress, states, path to the current word, stack of waiting children, and room for candidates.
+/// The children of a word are bounded together from this product on: the number of its candidates times the operations
+/// that it leaves for each machine, on average. To bound them together takes about as long as a trial. The more
+/// candidates there are, the more trials it spares; and near full words fewer children are settled, and more of those
+/// are walked, each in a state that is filled from its word. Measured from 10 x 10 to 200 x 15.
+const TOGETHER: usize = 36;
+
+/// A walk: the word found last, the best makespan, and how many more nodes it may take (`budget`); its states, path to
+/// the current word, stack of waiting children, and room for candidates.
 #[derive(Drop)]
 pub(crate) struct Walker<'l, 'a, D: Dispatching<S>, S: Drop> {
-    pub(crate) progress: Progress<'a>,
+    pub(crate) instance: &'a Instance,
+    pub(crate) operations: usize,
+    /// `TOGETHER` for all machines
+    pub(crate) together: usize,
+    pub(crate) found: Option<Word>,
+    pub(crate) best: u64,
+    pub(crate) budget: u64,
     pub(crate) states: WalkStates<'l, D, S>,
     pub(crate) path: Vec<u16>,
     pub(crate) stack: Vec<Held<S>>,
     pub(crate) candidates: Vec<Candidate>,
     /// entries of the stack below this index have no states any more
     pub(crate) stripped: usize,
-    pub ghost same_shop: { D.shop states.dispatcher.now ≡ progress.instance.now },
-    pub ghost room: { length progress.instance.now.jobs ≤ vec_capacity candidates },
-    pub ghost path_room: { operation_count progress.instance.now ≤ vec_capacity path },
+    pub ghost counted: { operations ≡ operation_count instance.now },
+    pub ghost same_shop: { D.shop states.dispatcher.now ≡ instance.now },
+    pub ghost room: { length instance.now.jobs ≤ vec_capacity candidates },
+    pub ghost path_room: { operation_count instance.now ≤ vec_capacity path },
 }
 
 impl<'l, 'a, D: Dispatching<S>, S: Drop> Walker<'l, 'a, D, S> {
@@ -37,6 +50,8 @@ impl<'l, 'a, D: Dispatching<S>, S: Drop> Walker<'l, 'a, D, S> {
 
     /// Makes a walk for pieces of the dispatcher's instance, with at most `most` states for waiting children. Fails
     /// with `NoMemory` if memory runs out.
+    // out of line, so that the walks of six kinds of lanes share its stack
+    #[inline(never)]
     pub(crate) fn new(
         alloc: Global,
         instance: &'a Instance,
@@ -44,11 +59,17 @@ impl<'l, 'a, D: Dispatching<S>, S: Drop> Walker<'l, 'a, D, S> {
         most: usize,
     ) -> Result<Walker<'l, 'a, D, S>, NoMemory>
         requires shop { D.shop dispatcher.now ≡ instance.now }
-        ensures instance { IfOk result (λ w. w.progress.instance.now ≡ instance.now) }
+        ensures instance { IfOk result (λ w. w.instance.now ≡ instance.now) }
         ensures states { IfOk result HasStates }
     {
+        instance.keeps_limits();
         Ok(Walker {
-            progress: Progress::new(instance),
+            instance,
+            operations: instance.operations(),
+            together: TOGETHER * instance.machines(),
+            found: None,
+            best: 0,
+            budget: 0,
             states: WalkStates::new(alloc, dispatcher, most)?,
             path: Vec::with_capacity(alloc, instance.operations())?,
             stack: Vec::new(alloc),
@@ -65,7 +86,7 @@ impl<'l, 'a, D: Dispatching<S>, S: Drop> Walker<'l, 'a, D, S> {
         child: Open,
         state: Option<Box<S>>,
     ) -> Result<(), NoMemory>
-        requires some { 0 < self.old.progress.budget }
+        requires some { 0 < self.old.budget }
         requires on { IsInOrder (on_top (stage_of self.old) (Child child)) }
         requires state { IsHeldOf (D.IsStateOf self.old.states.dispatcher.now)
             (word_at self.old.path.items child) state }
@@ -73,8 +94,8 @@ impl<'l, 'a, D: Dispatching<S>, S: Drop> Walker<'l, 'a, D, S> {
         ensures turn { OnOk result (IsTurn (stage_of self.old) (Child child) (stage_of self.new)) }
         ensures states { OnOk result (HasStates self.new) }
     {
-        self.progress.budget -= 1;
-        if child.bound >= self.progress.best {
+        self.budget -= 1;
+        if child.bound >= self.best {
             return self.states.give_back(state);
         }
         self.path.truncate(child.depth as usize);
@@ -86,19 +107,18 @@ impl<'l, 'a, D: Dispatching<S>, S: Drop> Walker<'l, 'a, D, S> {
     /// Spends the budget on `count` closed children, one unit each. Puts the children left over back on the stack.
     /// Fails with `NoMemory` if memory runs out.
     fn count_closed(&mut self, depth: u32, count: u32) -> Result<(), NoMemory>
-        requires some { 0 < self.old.progress.budget }
+        requires some { 0 < self.old.budget }
         requires on { IsInOrder (on_top (stage_of self.old) (Rest depth count)) }
         requires states { HasStates self.old }
-        ensures turn { OnOk result
-            (IsTurn (stage_of self.old) (Rest depth count) (stage_of self.new)) }
+        ensures turn { OnOk result (IsTurn (stage_of self.old) (Rest depth count) (stage_of self.new)) }
         ensures states { OnOk result (HasStates self.new) }
     {
-        if self.progress.budget >= count as u64 {
-            self.progress.budget -= count as u64;
+        if self.budget >= count as u64 {
+            self.budget -= count as u64;
             return Ok(());
         }
-        let count = count - self.progress.budget as u32;
-        self.progress.budget = 0;
+        let count = count - self.budget as u32;
+        self.budget = 0;
         let waiting = Waiting::Rest { depth, count };
         let state = None;
         self.stack.push(Held { waiting, state })?;
@@ -114,7 +134,7 @@ impl<'l, 'a, D: Dispatching<S>, S: Drop> Walker<'l, 'a, D, S> {
             (HasWalked (stage_of self.old) (stage_of self.new) (stack_walk (stage_of self.old))) }
         ensures states { OnOk result (HasStates self.new) }
     {
-        while self.progress.budget > 0 {
+        while self.budget > 0 {
             let Some(held) = self.stack.pop() else {
                 return Ok(());
             };
@@ -128,19 +148,19 @@ impl<'l, 'a, D: Dispatching<S>, S: Drop> Walker<'l, 'a, D, S> {
 
     /// Takes `node` and walks the tree below it, as long as the budget lasts. Fails with `NoMemory` if memory runs out.
     fn walk_node(&mut self, alloc: Global, node: &Node) -> Result<(), NoMemory>
-        requires some { 0 < self.old.progress.budget }
-        requires node { IsNode self.old.progress.instance.now node.now }
+        requires some { 0 < self.old.budget }
+        requires node { IsNode self.old.instance.now node.now }
         requires empty { self.old.stack.items ≡ [] }
         requires states { HasStates self.old }
         ensures walked { OnOk result (HasWalked (stage_of self.old) (stage_of self.new)
             (node_walk (stage_of self.old) node.now)) }
         ensures states { OnOk result (HasStates self.new) }
     {
-        self.progress.budget -= 1;
-        if node.bound >= self.progress.best {
+        self.budget -= 1;
+        if node.bound >= self.best {
             return Ok(());
         }
-        self.progress.instance.keeps_limits();
+        self.instance.keeps_limits();
         node.word.write_to(&mut self.path)?;
         self.states.fill(self.path.as_slice());
         self.expand(alloc, node.bound)?;
@@ -150,16 +170,15 @@ impl<'l, 'a, D: Dispatching<S>, S: Drop> Walker<'l, 'a, D, S> {
     /// Walks the tree below each of `nodes` in order, as long as the budget lasts. Answers how many were taken. Fails
     /// with `NoMemory` if memory runs out.
     fn walk_nodes(&mut self, alloc: Global, nodes: &[Node]) -> Result<usize, NoMemory>
-        requires nodes { AreNodes self.old.progress.instance.now nodes.now }
+        requires nodes { AreNodes self.old.instance.now nodes.now }
         requires empty { self.old.stack.items ≡ [] }
         requires states { HasStates self.old }
-        ensures walked { IfOk result
-            (λ k. HasWalkedUpTo (stage_of self.old) (stage_of self.new) nodes.now k) }
-        ensures ended { IfOk result (λ k. 0 < self.new.progress.budget → length nodes.now ≤ k) }
+        ensures walked { IfOk result (λ k. HasWalkedUpTo (stage_of self.old) (stage_of self.new) nodes.now k) }
+        ensures ended { IfOk result (λ k. 0 < self.new.budget → length nodes.now ≤ k) }
         ensures states { OnOk result (HasStates self.new) }
     {
         let mut taken = 0;
-        while taken < nodes.len() && self.progress.budget > 0 {
+        while taken < nodes.len() && self.budget > 0 {
             self.walk_node(alloc, &nodes[taken])?;
             taken += 1;
         }
@@ -170,8 +189,7 @@ impl<'l, 'a, D: Dispatching<S>, S: Drop> Walker<'l, 'a, D, S> {
     fn clear(&mut self) -> Result<(), NoMemory>
         requires states { HasStates self.old }
         ensures empty { OnOk result (self.new.stack.items ≡ []) }
-        ensures instance { OnOk result
-            (self.new.progress.instance.now ≡ self.old.progress.instance.now) }
+        ensures instance { OnOk result (self.new.instance.now ≡ self.old.instance.now) }
         ensures states { OnOk result (HasStates self.new) }
     {
         while let Some(held) = self.stack.pop() {
@@ -184,11 +202,9 @@ impl<'l, 'a, D: Dispatching<S>, S: Drop> Walker<'l, 'a, D, S> {
     /// Fails with `NoMemory` if memory runs out.
     fn halt(&self, alloc: Global) -> Result<Option<Halt>, NoMemory>
         requires in_order { IsInOrder (stage_of self.now) }
-        ensures words { IfOk result (λ h. halted_words self.now.progress.instance.now h
-            ≡ stack_words self.now.progress.instance.now self.now.path.items
-            (stage_of self.now).stack) }
-        ensures halt { IfOk result
-            (λ h. AreHalted self.now.progress.instance.now self.now.progress.best h) }
+        ensures words { IfOk result (λ h. halted_words self.now.instance.now h
+            ≡ stack_words self.now.instance.now self.now.path.items (stage_of self.now).stack) }
+        ensures halt { IfOk result (λ h. AreHalted self.now.instance.now self.now.best h) }
     {
         if self.stack.is_empty() {
             return Ok(None);
@@ -206,29 +222,28 @@ impl<'l, 'a, D: Dispatching<S>, S: Drop> Walker<'l, 'a, D, S> {
         best: u64,
         budget: u64,
     ) -> Result<Sheet<'a>, NoMemory>
-        requires nodes { AreNodes self.old.progress.instance.now piece.now.nodes.items }
+        requires nodes { AreNodes self.old.instance.now piece.now.nodes.items }
         requires small { budget < 2 ^ 50 }
         requires states { HasStates self.old }
-        ensures sheet { IfOk result (Searches self.old.progress.instance.now piece.now best budget) }
-        ensures instance { OnOk result
-            (self.new.progress.instance.now ≡ self.old.progress.instance.now) }
+        ensures sheet { IfOk result (Searches self.old.instance.now piece.now best budget) }
+        ensures instance { OnOk result (self.new.instance.now ≡ self.old.instance.now) }
         ensures states { OnOk result (HasStates self.new) }
     {
         self.clear()?;
-        self.progress.begin(best, budget);
+        self.found = None;
+        self.best = best;
+        self.budget = budget;
         let nodes = piece.nodes.as_slice();
         let index = self.walk_nodes(alloc, nodes)?;
         let halt = self.halt(alloc)?;
-        let instance = self.progress.instance;
-        let makespan = self.progress.best;
-        let taken = budget - self.progress.budget;
-        let found = self.progress.take_found();
+        let instance = self.instance;
+        let makespan = self.best;
         Ok(Sheet {
             number: piece.number,
-            found,
+            found: self.found.take(),
             makespan,
             left: Left::new(instance, makespan, halt, &nodes[index..]),
-            taken,
+            taken: budget - self.budget,
             instance,
             piece,
             best,

@@ -4,13 +4,14 @@
 --     CanGoOn greatest l rows ..       some word is kept in lanes that can go on with the job
 --     CanAdvance greatest l rows ..    some word is kept in lanes that can go on so, to a word whose
 --                                      spans are no more than these ceilings
+--     IsRaisedFor greatest l ..        `new` has the heads of the longer word, and becomes its rows by `GoesOn`
 --     CanStrike greatest l rows ..     some word is kept in lanes whose conflict set is this job alone
 use Rattle.std.specs.Prelude.{◌≡◌, ℕ, ◌+◌, ◌-◌, max, List, [], ◌∷◌, ◌++◌, slice_index, slice_set}
 use Rattle.shop_lanes.specs.{Rows.Rows, Spans.span}
 use Rattle.shop_model.specs.{Shop.Shop, Word.IsWord}
 use Rattle.shop_bound.specs.Conflicts.{conflict}
 use Rattle.shop_states.specs.{inner.Ceilings.AreChildCeilings, inner.ChildBounds.IsLeastAfter}
-use Rattle.shop_states.specs.inner.LaneStates.{IsKeptInLanes}
+use Rattle.shop_states.specs.inner.{LaneEnds.CanKeepEnds, LaneStates.{GoesOn, IsKeptInLanes}}
 use Rattle.shop_layout.specs.{Lanes.{lanes_on, rows_of}, Positions.LayoutState}
 
 -- `least` for the operation at a position
@@ -37,6 +38,13 @@ pub record CanAdvance (greatest : ℕ) (l : LayoutState) (rows : Rows) (nexts : 
   pub is : IsAdvancing greatest shop word l rows nexts job least
   pub machines_are : machines ≡ shop.machines
   pub ceilings_are : AreChildCeilings shop word l job ceilings
+
+pub record IsRaisedFor (greatest : ℕ) (l : LayoutState) (position job : ℕ) (old new : Rows) (nexts : List ℕ) : Type 0
+  where
+    pub keep : CanKeepEnds greatest l (slice_set nexts job (slice_index l.following position)) new
+    pub kept : (shop : Shop) (w : List ℕ) → IsKeptInLanes greatest shop w l old nexts → IsWord shop (w ++ job ∷ [])
+        → (ended : Rows) (after : List ℕ) → GoesOn greatest l position job new ended nexts after
+        → IsKeptInLanes greatest shop (w ++ job ∷ []) l ended after
 
 pub record CanStrike (greatest : ℕ) (l : LayoutState) (rows : Rows) (nexts : List ℕ) (job : ℕ) : Type 0 where
   pub shop : Shop

@@ -1,9 +1,9 @@
 -- Lanes with the layout of their instance. `g` reads lanes as numbers.
---     rows_in g l lanes          their heads and ends, with the times and tails of the layout
+--     rows_in g l lanes          the heads and ends of lanes, with the times and tails of the layout
 --     KeepsWord g l s shop w     the state s is that of word w
---     RaisesIn, HasRaisedIn ..   what `Raises` and `HasRaised` say of old and new rows, of lanes
+--     RaisesIn, HasRaisedIn ..   `Raises` and `HasRaised` of the rows of old and new lanes
 --     laid_rows heads ends laid  the rows of `laid`, where `heads` and `ends` read lanes
---     CanTakeSpansIn, TakesSpansIn ..  what `CanTakeSpansUnder` and `TakesSpans` say of rows, of lanes
+--     CanTakeSpansIn, TakesSpansIn ..  `CanTakeSpansUnder` and `TakesSpans` of the rows of `laid`
 use Rattle.std.specs.Prelude.{ℕ, List}
 use Rattle.shop_lanes.specs.{Rows.Rows, declared.state_lanes.StateLanes.Ghosts}
 use Rattle.shop_model.specs.Shop.{Shop}

@@ -2,9 +2,9 @@
 --     AreNextsOf shop p l nexts      the position of the next operation of each job, or the number of all positions
 --     IsJobBelow l heads among ..    an operation of job j waits among some positions with a head below a limit
 --     IsJobAt l ps j                 job j has the operation at one of these positions
---     AreConflictBlocks greatest ..  blocks in which a conflict set can lie, and in some of them the positions of heads
---                                    below an end
---     IsAlone heads from to ..       only one operation waits in some blocks with a head below a limit
+--     AreConflictBlocks greatest ..  blocks in which a conflict set can lie; the heads below an end are marked in the
+--                                    first blocks
+--     IsAlone heads from to ..       one operation at most waits in some blocks with a head below a limit
 --     HaveJobs l positions most      each position has a job, all jobs being below a number
 --     AreNextPlaced l heads nexts    each position has a job, and the next operations have theirs
 --     AreNextsAt shop p l nexts ..   heads and next operations are those of placing p
@@ -38,7 +38,7 @@ pub record AreConflictBlocks (greatest : ℕ) (heads : List ℕ) (b : ConflictBl
   pub fits : b.end ≤ greatest
   pub marks : b.below ≡ positions_among heads b.from b.to b.end
 
--- nothing else waits in some blocks below the limit
+-- no position but one of these blocks has a head below the limit
 abbrev pub IsAlone : List ℕ → ℕ → ℕ → ℕ → ℕ → Type 0
 IsAlone heads from to limit position = All (λ p. p ≡ position) (positions_among heads from to limit)
 

@@ -1,6 +1,6 @@
--- What a raise of heads asks for, and what it leaves.
---     CanNote value few ms ..        each machine has a place for a raise, and those with a raise are in a list; where
---                                    there are few machines, they are at most 64
+-- Requirements and results of a raise of heads.
+--     CanNote value few ms ..        each machine has a place for a raise, and each machine with a raise is in a list;
+--                                    few machines are at most 64
 --     CanRaise greatest l nexts ..   the heads at some positions can be raised
 --     CanDelay greatest l nexts ..   a dispatch marks what it delays in the first blocks of its machine, and the heads
 --                                    there can be raised to its end

@@ -8,12 +8,12 @@ use Rattle.shop_tree.specs.declared.searchers.LaneWalker.TheVariants.{In16By2, I
 use Rattle.shop_tree.specs.{declared.searchers.LaneWalker.LaneWalker, inner.StateWalkers.HasStates}
 
 abbrev pub shop_walked : LaneWalker → Shop
-shop_walked (In16By2 w) = w.progress.instance.now
-shop_walked (In16By3 w) = w.progress.instance.now
-shop_walked (In16By4 w) = w.progress.instance.now
-shop_walked (In16 w) = w.progress.instance.now
-shop_walked (In32 w) = w.progress.instance.now
-shop_walked (In64 w) = w.progress.instance.now
+shop_walked (In16By2 w) = w.instance.now
+shop_walked (In16By3 w) = w.instance.now
+shop_walked (In16By4 w) = w.instance.now
+shop_walked (In16 w) = w.instance.now
+shop_walked (In32 w) = w.instance.now
+shop_walked (In64 w) = w.instance.now
 
 abbrev pub HasLaneStates : LaneWalker → Type 0
 HasLaneStates (In16By2 w) = HasStates w

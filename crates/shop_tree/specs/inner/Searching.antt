@@ -2,14 +2,13 @@
 --     walk_stack shop word s stack  the walks of all that waits, from the top of the stack on
 --     Adds shop best word old new   on top of the old stack lie the children of word, the first one on top
 --     opening_walk best budget      a walk that begins: nothing is found, nothing is left
---     walked progress               what a walk carries, told by its progress, before anything is left
 --     entered shop t w              where a walk comes to that goes on from w, taken with a bound below the best
 use Rattle.std.specs.{Prelude.{◌≡◌, ℕ, zero, suc, Some, None, List, [], ◌++◌, length, fold}, List.AllByRecursion}
 use Rattle.shop_model.specs.Shop.{Shop}
 use Rattle.shop_bound.specs.Bound.{lb}
 use Rattle.shop_nodes.specs.{Branching.branch, Halts.{stack_words, IsWaiting}}
 use Rattle.shop_nodes.specs.{Walking.{Walk, walk, walk_within, operations_left}, declared.halts.Waiting.Waiting}
-use Rattle.shop_tree.specs.{inner.Opens.IsAt, declared.progress.Progress.Progress}
+use Rattle.shop_tree.specs.inner.Opens.{IsAt}
 
 abbrev pub walk_stack : Shop → List ℕ → Walk → List Waiting → Walk
 walk_stack shop word s stack = fold (walk shop) s (stack_words shop word stack)
@@ -23,9 +22,6 @@ pub record Adds (shop : Shop) (best : ℕ) (word : List ℕ) (old new : List Wai
 
 abbrev pub opening_walk : ℕ → ℕ → Walk
 opening_walk best budget = record { found = None; best = best; left = []; budget = budget }
-
-abbrev pub walked : Progress → Walk
-walked p = record { found = p.found; best = p.best; left = []; budget = p.budget }
 
 -- a full word is found, and is the new best; of another word the children are walked
 abbrev pub entered_within : Shop → ℕ → Walk → List ℕ → Walk

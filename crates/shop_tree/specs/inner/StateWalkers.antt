@@ -4,6 +4,7 @@
 --     KeepsStates g word hs states
 --                         all have, and what the walk's states hold is room for states, and what a dispatch needs
 -- Of a walker:
+--     walked w            what it carries, before anything is left
 --     stage_of w          where it stands: what waits is told without states
 --     HasStates w         its states are kept so
 --     StandsAs v w        w stands where v stood, with the same current state
@@ -11,11 +12,12 @@
 --     IsListedAt w b n    so, its word isn't full, and its candidates are at hand, but for n others
 --     HasReached v w b    the walk went on from v's word to one with bound b, and took it
 --     HasGoneOn v w told  the walk went on from v's word to a child with the bound that is told, or had nowhere to go
-use Rattle.std.specs.Prelude.{◌≡◌, ℕ, ◌<◌, Option, Some, None, List, All, length}
+use Rattle.std.specs.Prelude.{◌≡◌, ℕ, ◌<◌, Option, Some, None, List, [], All, length}
 use Rattle.shop_bound.specs.Bound.{lb}
+use Rattle.shop_nodes.specs.Walking.{Walk}
 use Rattle.shop_states.specs.declared.dispatching.Dispatching.{Ghosts}
 use Rattle.shop_tree.specs.{declared.held.Held.Held, declared.walk_states.WalkStates.WalkStates}
-use Rattle.shop_tree.specs.{declared.walkers.Walker.Walker, inner.Held.{IsHeld, waiting_in}, inner.Searching.walked}
+use Rattle.shop_tree.specs.{declared.walkers.Walker.Walker, inner.Held.{IsHeld, waiting_in}}
 use Rattle.shop_tree.specs.inner.{Slots.{HoldSlots, IsStateIn, Lists}, Walkers.{Stage, HasExpanded, HasFollowed}}
 use Rattle.shop_tree.specs.inner.Walkers.{IsInOrder}
 
@@ -28,11 +30,14 @@ pub record KeepsStates {D S C : Type 0} (g : Ghosts D S C) (word : List ℕ) (hs
   pub states : HoldSlots g s
 
 module _ {D S C : Type 0} {g : Ghosts D S C} where
+  abbrev pub walked : Walker D S C g → Walk
+  walked w = record { found = w.found; best = w.best; left = []; budget = w.budget }
+
   abbrev pub stage_of : Walker D S C g → Stage
   stage_of w = record {
-    shop = w.progress.instance.now;
+    shop = w.instance.now;
     word = w.path.items;
-    walk = walked w.progress;
+    walk = walked w;
     stack = waiting_in w.stack.items;
   }
 
@@ -47,20 +52,20 @@ pub record StandsAs {D S C : Type 0} {g : Ghosts D S C} (v w : Walker D S C g) :
   pub states : HasStates w
 
 pub record StandsAt {D S C : Type 0} {g : Ghosts D S C} (w : Walker D S C g) (b : ℕ) : Type 0 where
-  pub bound : b ≡ lb w.progress.instance.now w.path.items
-  pub below : b < w.progress.best
+  pub bound : b ≡ lb w.instance.now w.path.items
+  pub below : b < w.best
   pub in_order : IsInOrder (stage_of w)
   pub states : HasStates w
   pub state : IsStateIn g w.states w.path.items
 
 pub record IsListedAt {D S C : Type 0} {g : Ghosts D S C} (w : Walker D S C g) (b n : ℕ) : Type 0 where
   pub at : StandsAt w b
-  pub short : length w.path.items < w.progress.operations
-  pub candidates : Lists g w.states w.path.items w.progress.best w.candidates.items n
+  pub short : length w.path.items < w.operations
+  pub candidates : Lists g w.states w.path.items w.best w.candidates.items n
 
 pub record HasReached {D S C : Type 0} {g : Ghosts D S C} (v w : Walker D S C g) (b : ℕ) : Type 0 where
   pub followed : HasFollowed (stage_of v) (stage_of w)
-  pub spent : w.progress.budget < v.progress.budget
+  pub spent : w.budget < v.budget
   pub at : StandsAt w b
 
 abbrev pub HasGoneOn : {D S C : Type 0} {g : Ghosts D S C} → Walker D S C g → Walker D S C g → Option ℕ → Type 0

@@ -30,11 +30,9 @@ impl<'l, D: Dispatching<S>, S: Drop> WalkStates<'l, D, S> {
         ensures current { is_last ≡ false → self.new.current.value ≡ self.old.current.value }
     {
         if is_last {
+            let child = self.advance(candidate, bound, limit);
             mem::swap(&mut self.current, &mut self.trial);
-            let (scratch, trial) = (&mut self.scratch, &mut self.trial);
-            return self
-                .dispatcher
-                .dispatch_below(scratch, trial, candidate, bound, limit);
+            return child;
         }
         let (scratch, trial) = (&mut self.scratch, &mut self.trial);
         self.dispatcher
@@ -54,7 +52,8 @@ impl<'l, D: Dispatching<S>, S: Drop> WalkStates<'l, D, S> {
         if !branching.is_together {
             return None;
         }
-        let (candidates, bound) = (branching.candidates, branching.bound);
+        let bound = branching.bound;
+        let candidates = branching.candidates;
         let (scratch, room) = (&mut self.scratch, &mut self.trial);
         self.dispatcher
             .bound_children(scratch, &self.current, room, candidates, bound)
@@ -142,8 +141,7 @@ impl<'l, D: Dispatching<S>, S: Drop> WalkStates<'l, D, S> {
         requires slots { AreSlotsFrom (D.IsSlot self.old.dispatcher.now) from stack.old.items }
         requires from { from ≤ length stack.old.items }
         ensures sound { KeepSlots D.Dispatching self.old self.new }
-        ensures put { OnOk result
-            (HasPutTried from child self.old.trial.value stack.old.items stack.new.items) }
+        ensures put { OnOk result (HasPutTried from child self.old.trial.value stack.old.items stack.new.items) }
         ensures current { OnOk result (self.new.current.value ≡ self.old.current.value) }
         ensures scratch { OnOk result (self.new.scratch ≡ self.old.scratch) }
     {
@@ -221,8 +219,11 @@ impl<'l, D: Dispatching<S>, S: Drop> WalkStates<'l, D, S> {
         if !self.advance_to(child.job, branching) {
             return Ok(());
         }
+        let Some(spare) = self.spare_state(alloc)? else {
+            return Ok(());
+        };
         let top = stack.len() - 1;
-        stack[top].state = self.take_current(alloc)?;
+        stack[top].state = Some(mem::replace(&mut self.current, spare));
         Ok(())
     }
 

@@ -71,6 +71,15 @@ list_conflict_set-requires-clause-can g c =
     (let holds = c.requires.owns c.in-Some.first.machine chosen.blocks.known in let long = c.own_spans.ensures.long
     in omega arith) c.first_end.ensures.small
 
+pub list_conflict_set-requires-2-clause-can : goal.list_conflict_set-requires-2-clause-can
+list_conflict_set-requires-2-clause-can g c =
+    let chosen = c.in-Some.ensures.is c.requires.can.shop c.requires.can.word c.requires.can.kept
+    in let a = c.blocks_of-from.ensures.first in let b = c.blocks_of-from.ensures.behind
+    in let d = chosen.blocks.ordered in let f = c.min.ensures
+    in can_list c.requires.can.kept chosen a b (omega arith) (omega arith) c.below-below.ensures
+    (let holds = c.requires.owns c.in-Some.first.machine chosen.blocks.known in let long = c.own_spans.ensures.long
+    in omega arith) c.first_end.ensures.small
+
 pub is_alone-requires : goal.is_alone-requires
 is_alone-requires g c =
     let chosen = c.in-Some.ensures.is c.requires.can.shop c.requires.can.word c.requires.can.kept
@@ -88,7 +97,13 @@ returns-then-is_alone-clause-are g c = λ shop w kept.
     c.blocks_of-from.result.1 c.in-Some.first.end (get_or xs c.in-Some.first.chosen 0))
     c.as_slice-next.ensures.value (c.is_alone.ensures c.if-is_alone.true)) c.args.limit items
 
+pub returns-then-next-le-BITS-clause-are : goal.returns-then-next-le-BITS-clause-are
+returns-then-next-le-BITS-clause-are g c = λ shop w kept. all_told kept
+    (c.in-Some.ensures.is shop w kept) c.blocks_of-from.ensures.first
+    c.blocks_of-from.ensures.behind (map g.L.StateLanes.value c.own_spans.new.owns) c.own_spans.ensures.owns
+    c.list_conflict_set.ensures.listed
+
 pub returns-clause-are : goal.returns-clause-are
 returns-clause-are g c = λ shop w kept. all_told kept (c.in-Some.ensures.is shop w kept) c.blocks_of-from.ensures.first
     c.blocks_of-from.ensures.behind (map g.L.StateLanes.value c.own_spans.new.owns) c.own_spans.ensures.owns
-    c.list_conflict_set.ensures.listed
+    c.list_conflict_set-2.ensures.listed

@@ -1,8 +1,10 @@
-use Rattle.std.proofs.Common.{◌∙◌, arith}
+use Rattle.std.proofs.Common.{◌≤◌, ◌∙◌, ℕ, arith, get_or, subst, sym}
+use Rattle.shop_states.specs.inner.{Raises.IsPosition, RisingLists.IsIn}
+use Rattle.shop_states.proofs.RaisedEnds.{mid_raisable, raised_with_ends, raised_within}
 use Rattle.shop_states.proofs.RaisedMachines.{lengths_in}
 use Rattle.shop_states.proofs.RaiseLoops.{marks_begin, popped_here, popped_within, popped_waits}
 use Rattle.shop_states.proofs.RaiseLoops.{popped_raisable, marks_on, marks_past, marks_end}
-use Rattle.shop_states.proofs.Watching.{sees_both, sees_none}
+use Rattle.shop_states.proofs.Watching.{sees_both, sees_long, sees_none}
 use Rattle.shop_states.proofs.raises.raise_marked.Goals as goal
 
 pub loop-position-init : goal.loop-position-init
@@ -12,33 +14,44 @@ pub head-requires : goal.head-requires
 head-requires g c =
     popped_within c.requires.can.raisable c.loop-position.invariant.raised c.in-Some.ensures
 
-pub raise_from-requires-clause-waits : goal.raise_from-requires-clause-waits
-raise_from-requires-clause-waits g c = grind (arith, popped_waits)
+pub set_end_at-requires : goal.set_end_at-requires
+set_end_at-requires g c =
+    let raisable = popped_raisable c.requires.can.raisable c.loop-position.invariant.raised c.in-Some.ensures
+    in let waits = popped_waits c.requires.can.raisable c.loop-position.invariant.raised c.in-Some.ensures
+    in let fits = c.requires.can.fits in let jobs = c.requires.can.jobs in grind (arith, raised_within)
 
-pub raise_from-requires-clause-can : goal.raise_from-requires-clause-can
-raise_from-requires-clause-can g c = record {
-  fits = c.requires.can.fits;
-  raisable =
-      popped_raisable c.requires.can.raisable c.loop-position.invariant.raised c.in-Some.ensures;
-  jobs = c.requires.can.jobs;
-}
-
-pub raise_from-requires-clause-note : goal.raise_from-requires-clause-note
-raise_from-requires-clause-note g c = record {
-  known = λ q here. grind (arith, lengths_in);
-  machines_fit = grind (arith, lengths_in);
-  listed = c.loop-position.invariant.listed;
-}
+pub raise_route-requires : goal.raise_route-requires
+raise_route-requires g c =
+    let raisable = popped_raisable c.requires.can.raisable c.loop-position.invariant.raised c.in-Some.ensures
+    in let waits = popped_waits c.requires.can.raisable c.loop-position.invariant.raised c.in-Some.ensures
+    in let low : get_or (g.L.StateLanes.heads c.loop-position.lanes) c.in-Some.position 0 ≤ c.args.end =
+    (let a = c.head.ensures in let b = c.if-head-end.true in omega arith)
+    in record {
+      waits = rw c.set_end_at.ensures.heads waits;
+      below = rw c.set_end_at.ensures.heads low;
+      raisable = mid_raisable raisable c.set_end_at.ensures;
+      note = record {
+        known = λ q here. grind (arith, lengths_in);
+        machines_fit = grind (arith, lengths_in);
+        listed = c.loop-position.invariant.listed;
+      };
+    }
 
 pub loop-position-preserved-then-head-end : goal.loop-position-preserved-then-head-end
 loop-position-preserved-then-head-end g c =
-    record {
-      raised =
-          marks_on c.requires.can.raisable c.loop-position.invariant.raised c.in-Some.ensures
-          c.raise_from.ensures.raises;
-      seen = grind (arith, sees_both, popped_here);
-      machines = c.raise_from.ensures.machines ∙ c.loop-position.invariant.machines;
-      listed = c.raise_from.ensures.listed;
+    let raisable = popped_raisable c.requires.can.raisable c.loop-position.invariant.raised c.in-Some.ensures
+    in let waits = popped_waits c.requires.can.raisable c.loop-position.invariant.raised c.in-Some.ensures
+    in let here = popped_here c.requires.can.raisable c.loop-position.invariant.raised c.in-Some.ensures
+    in let low : get_or (g.L.StateLanes.heads c.loop-position.lanes) c.in-Some.position 0 ≤ c.args.end =
+    (let a = c.head.ensures in let b = c.if-head-end.true in omega arith)
+    in let raised = raised_with_ends raisable c.set_end_at.ensures waits low c.raise_route.ensures.raises
+    in record {
+      raised = marks_on c.requires.can.raisable c.loop-position.invariant.raised c.in-Some.ensures raised;
+      seen = sees_both (IsIn c.args.marks) (IsPosition c.in-Some.position) (IsIn c.args.marks) (λ q h. h)
+          (λ q e. subst (λ (x : ℕ). IsIn c.args.marks x) (sym e) here) raised.raised.raised.rises
+          c.loop-position.invariant.seen (rw c.set_end_at.ensures.heads at c.raise_route.ensures.seen);
+      machines = sees_long c.raise_route.ensures.seen ∙ c.loop-position.invariant.machines;
+      listed = c.raise_route.ensures.listed;
     }
 
 pub loop-position-preserved : goal.loop-position-preserved

@@ -1,10 +1,11 @@
-use Rattle.std.proofs.Common.{arith}
+use Rattle.std.proofs.Common.{inl, inr, arith}
 use Rattle.shop_states.specs.inner.Watchers.{no_floor}
 use Rattle.shop_states.proofs.BehindRaises.{late_all, late_begins, late_can, late_ends, late_marked, late_on}
 use Rattle.shop_states.proofs.BehindRaises.{late_waits}
 use Rattle.shop_states.proofs.RaisedMachines.{lengths_in}
 use Rattle.shop_states.proofs.Watching.{watch_both, watch_none}
 use Rattle.shop_states.proofs.siblings.raise_late.Goals as goal
+use Rattle.shop_states.proofs.siblings.raise_late.Goals.{then-position-late, else-position-late}
 
 pub loop-from-init : goal.loop-from-init
 loop-from-init g c = record {
@@ -33,7 +34,10 @@ raise_behind-requires-clause-waits g c = late_waits c.loop-position.invariant.ra
 pub raise_behind-requires-clause-can : goal.raise_behind-requires-clause-can
 raise_behind-requires-clause-can g c =
     let up = c.loop-from.invariant.within in let more = c.min.ensures
-    in late_can c.loop-position.invariant.raises c.in-Some.ensures c.free_at-free.ensures (omega arith)
+    in late_can c.loop-position.invariant.raises c.in-Some.ensures (elim c.if-position-late.branch [
+      | then-position-late w ↦ inl (w.if-position-late.true, w.free-is)
+      | else-position-late w ↦ inr (w.if-position-late.false, w.free-is)
+    ]) (omega arith)
     c.requires.can.can
 
 pub raise_behind-requires-clause-note : goal.raise_behind-requires-clause-note
@@ -47,7 +51,10 @@ pub loop-position-preserved : goal.loop-position-preserved
 loop-position-preserved g c =
     let so = c.loop-position.invariant in let more = c.raise_behind.ensures
     in record {
-      raises = late_on so.raises c.in-Some.ensures c.free_at-free.ensures more.raises;
+      raises = late_on so.raises c.in-Some.ensures (elim c.if-position-late.branch [
+        | then-position-late w ↦ inl (w.if-position-late.true, w.free-is)
+        | else-position-late w ↦ inr (w.if-position-late.false, w.free-is)
+      ]) more.raises;
       noted = watch_both no_floor _ _ _ _ more.raises.raised.rises so.noted more.noted;
       listed = more.listed;
     }

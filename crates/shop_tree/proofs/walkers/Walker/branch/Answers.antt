@@ -18,7 +18,7 @@ close-requires-clause-closed g c =
     in let word = self.path.items
     in let none : self.candidates.items ≡ [] = no_items self.candidates.items (let a = c.is_empty.ensures
     in let b = self.candidates.ok.0 in search rules)
-    in subst (λ (x : Shop). AreChildren x self.progress.best word [] c.args.closed) self.same_shop
+    in subst (λ (x : Shop). AreChildren x self.best word [] c.args.closed) self.same_shop
     (none_kept self.candidates.items c.args.closed none c.requires.listed.candidates)
 
 pub push_children-requires : goal.push_children-requires
@@ -28,8 +28,8 @@ pub returns-clause-expanded : goal.returns-clause-expanded
 returns-clause-expanded g c =
     let self = c.args.self.now
     in let new = stage_of c.push_children.new.self
-    in let short : length self.path.items < operation_count self.progress.instance.now =
-    (let a = c.requires.listed.short in let b = self.progress.counted in omega arith)
+    in let short : length self.path.items < operation_count self.instance.now =
+    (let a = c.requires.listed.short in let b = self.counted in omega arith)
     in on_ok _ (HasExpanded (stage_of self) new)
     (λ b. expands_branched (stage_of self) new short c.requires.listed.at.in_order
     (subst (λ (t : Stage). HasBranched t new) c.in_ok-reclaim.ensures.stands.stage b))

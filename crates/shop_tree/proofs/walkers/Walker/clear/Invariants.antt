@@ -5,7 +5,7 @@ use Rattle.shop_tree.proofs.walkers.Walker.clear.Given as goal
 abbrev pub invariant-loop-held : goal.invariant-loop-held
 invariant-loop-held g l = record {
   states : HasStates l.self;
-  instance : l.self.progress.instance.now ≡ l.fn.self.progress.instance.now;
+  instance : l.self.instance.now ≡ l.fn.self.instance.now;
 }
 
 abbrev pub decreases-loop-held : goal.decreases-loop-held

@@ -9,8 +9,8 @@ use Rattle.shop_tree.proofs.walkers.Walker.close.Goals as goal
 pub returns-then-self-count-clause-expanded : goal.returns-then-self-count-clause-expanded
 returns-then-self-count-clause-expanded g c =
     let self = c.args.self.now
-    in let short : length self.path.items < operation_count self.progress.instance.now = (let a = c.requires.short
-    in let b = self.progress.counted in omega arith)
+    in let short : length self.path.items < operation_count self.instance.now = (let a = c.requires.short
+    in let b = self.counted in omega arith)
     in ends_counted (stage_of self) c.args.count c.requires.word short c.requires.closed c.requires.in_order
     c.if-self-count.true
 
@@ -24,8 +24,8 @@ pub returns-clause-expanded : goal.returns-clause-expanded
 returns-clause-expanded g c =
     let self = c.args.self.now
     in let new = c.put_rest.new.stack.items
-    in let short : length self.path.items < operation_count self.progress.instance.now = (let a = c.requires.short
-    in let b = self.progress.counted in omega arith)
+    in let short : length self.path.items < operation_count self.instance.now = (let a = c.requires.short
+    in let b = self.counted in omega arith)
     in let depth : c.len.result ≡ length self.path.items = (let a = c.len.ensures in let b = self.path.ok.0
     in omega arith)
     in on_ok _ (HasExpanded (stage_of self) (record (stage_of self) { stack = waiting_in new }))

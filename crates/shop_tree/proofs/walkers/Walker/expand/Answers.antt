@@ -11,7 +11,7 @@ pub branch-self-requires : goal.branch-self-requires
 branch-self-requires g c =
     let self = c.loop-self.self
     in let at = c.loop-self.invariant.at
-    in let short : length self.path.items < self.progress.operations = grind arith
+    in let short : length self.path.items < self.operations = grind arith
     in record {
       listed = listed_at at refl refl c.list_candidates-closed.ensures.sound.dispatcher
           c.list_candidates-closed.ensures.current c.list_candidates-closed.ensures.sound.states short
@@ -27,7 +27,7 @@ pub go_on-requires-clause-listed : goal.go_on-requires-clause-listed
 go_on-requires-clause-listed g c =
     let self = c.loop-self.self
     in let at = c.loop-self.invariant.at
-    in let short : length self.path.items < self.progress.operations = grind arith
+    in let short : length self.path.items < self.operations = grind arith
     in listed_at at refl refl c.list_candidates-closed.ensures.sound.dispatcher
     c.list_candidates-closed.ensures.current c.list_candidates-closed.ensures.sound.states short
     (c.list_candidates-closed.ensures.listed self.path.items at.state)

@@ -8,4 +8,4 @@ invariant-loop-self g l = record {
 }
 
 abbrev pub decreases-loop-self : goal.decreases-loop-self
-decreases-loop-self g l = l.self.progress.budget
+decreases-loop-self g l = l.self.budget

@@ -23,7 +23,7 @@ pub take_job-requires-clause-held : goal.take_job-requires-clause-held
 take_job-requires-clause-held g c =
     let self = c.args.self.now
     in let e = c.strike.new.self.dispatcher.now
-    in held_on (g.D.Dispatching.IsStateOf e) self.progress.instance.now self.progress.best self.path.items
+    in held_on (g.D.Dispatching.IsStateOf e) self.instance.now self.best self.path.items
     c.index-candidate.result.now.job self.stack.items c.requires.listed.at.in_order
     (subst (λ x. AreHeld (g.D.Dispatching.IsStateOf x) self.path.items self.stack.items)
     (sym c.strike.ensures.sound.dispatcher) c.requires.listed.at.states.held)
@@ -37,14 +37,14 @@ pub returns-then-closed-eq0 : goal.returns-then-closed-eq0
 returns-then-closed-eq0 g c =
     let self = c.args.self.now
     in let d = self.states.dispatcher.now
-    in let shop = self.progress.instance.now
+    in let shop = self.instance.now
     in let word = self.path.items
     in let job = c.index-candidate.result.now.job
     in let at = c.requires.listed.at
     in let alone = sole_listed self.candidates.items c.index-candidate.result.now _ c.requires.one
     c.index-candidate.ensures c.if-closed-eq0.true c.requires.listed.candidates
     in let short : length word < operation_count shop =
-    (let a = c.requires.listed.short in let b = self.progress.counted in omega arith)
+    (let a = c.requires.listed.short in let b = self.counted in omega arith)
     in let keeps : SoleCandidateKeepsBound shop word = subst (λ (x : Shop). SoleCandidateKeepsBound x word)
     self.same_shop (g.met.D.Dispatching.sole_keeps_bound d word self.states.current.value at.state)
     in let gone = follows_one (stage_of self) job short
@@ -92,7 +92,7 @@ close-requires g c =
     in let one = one_listed self.candidates.items cand _ c.requires.one c.index-candidate.ensures
     in let at = c.requires.listed.at
     in let bound = at.bound ∙ ap (λ (x : Shop). lb x word) (sym self.same_shop)
-    in let high = told_high self.progress.best (lb shop (word ++ cand.job ∷ [])) c.advance.result c.in_default.is
+    in let high = told_high self.best (lb shop (word ++ cand.job ∷ [])) c.advance.result c.in_default.is
     (c.advance.ensures.taken.told word at.state (alone_own one c.requires.listed.candidates) bound)
     in record {
       word = subst (λ (x : Shop). IsWord x word) self.same_shop
@@ -100,7 +100,7 @@ close-requires g c =
       limits = subst IsWithinLimits self.same_shop
           (g.met.D.Dispatching.state_is_within_limits d word self.states.current.value at.state);
       short = c.requires.listed.short;
-      closed = subst (λ (x : Shop). AreChildren x self.progress.best word [] (c.args.closed + 1)) self.same_shop
+      closed = subst (λ (x : Shop). AreChildren x self.best word [] (c.args.closed + 1)) self.same_shop
           (alone_closed one c.requires.listed.candidates high);
       in_order = at.in_order;
       states = record {
@@ -132,7 +132,7 @@ take_job-requires-2 g c =
     in let cand = c.index-candidate.result.now
     in let one = one_listed self.candidates.items cand _ c.requires.one c.index-candidate.ensures
     in let at = c.requires.listed.at
-    in let longer = held_on is self.progress.instance.now self.progress.best word cand.job self.stack.items at.in_order
+    in let longer = held_on is self.instance.now self.best word cand.job self.stack.items at.in_order
     at.states.held
     in let after = c.advance.new.self.current.value
     in record {
@@ -161,14 +161,14 @@ returns g c =
     in let bound = at.bound ∙ ap (λ (x : Shop). lb x word) (sym self.same_shop)
     in let own = alone_own one c.requires.listed.candidates
     in let is_word = g.met.D.Dispatching.state_is_of_word d word self.states.current.value at.state
-    in let low = told_low self.progress.best (lb shop (word ++ cand.job ∷ [])) c.in-Some.bound c.advance.result
+    in let low = told_low self.best (lb shop (word ++ cand.job ∷ [])) c.in-Some.bound c.advance.result
     c.in-Some.is (c.advance.ensures.taken.told word at.state own bound)
     in let o : Open = record { depth = length word; job = cand.job; bound = c.in-Some.bound }
-    in let kids : AreChildren self.progress.instance.now self.progress.best word (o ∷ []) c.args.closed =
-    subst (λ (x : Shop). AreChildren x self.progress.best word (o ∷ []) c.args.closed) self.same_shop
+    in let kids : AreChildren self.instance.now self.best word (o ∷ []) c.args.closed =
+    subst (λ (x : Shop). AreChildren x self.best word (o ∷ []) c.args.closed) self.same_shop
     (alone_kept one c.requires.listed.candidates o is_word refl refl low.0 low.1)
-    in let short : length word < operation_count self.progress.instance.now = (let a = c.requires.listed.short
-    in let b = self.progress.counted in omega arith)
+    in let short : length word < operation_count self.instance.now = (let a = c.requires.listed.short
+    in let b = self.counted in omega arith)
     in let new = c.put_rest.new.stack.items
     in let depth : c.len.result ≡ length word = (let a = c.len.ensures in let b = self.path.ok.0 in omega arith)
     in let gone = follows_kept (stage_of self) o c.args.closed (waiting_in new)

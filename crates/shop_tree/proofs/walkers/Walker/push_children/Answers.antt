@@ -50,18 +50,18 @@ returns-clause-branched g c =
     let self = c.args.self.now
     in let d = self.states.dispatcher.now
     in let word = self.path.items
-    in let best = self.progress.best
+    in let best = self.best
     in let put = c.in_ok-all.ensures.children.put
     in let opens = opens_in put.kids
     in let n = c.in_ok-all.all
-    in let kids : AreChildren self.progress.instance.now best word opens n =
+    in let kids : AreChildren self.instance.now best word opens n =
     subst (λ (x : Shop). AreChildren x best word opens n) self.same_shop
     (subst (λ (w : List ℕ). AreChildren (g.D.Dispatching.shop d) best w opens n) c.as_slice.ensures.value
     put.children)
-    in let is : IsWord self.progress.instance.now word = subst (λ (x : Shop). IsWord x word) self.same_shop
+    in let is : IsWord self.instance.now word = subst (λ (x : Shop). IsWord x word) self.same_shop
     (g.met.D.Dispatching.state_is_of_word d word self.states.current.value c.requires.listed.at.state)
-    in let short : length word < operation_count self.progress.instance.now = (let a = c.requires.listed.short
-    in let b = self.progress.counted in omega arith)
+    in let short : length word < operation_count self.instance.now = (let a = c.requires.listed.short
+    in let b = self.counted in omega arith)
     in let depth : c.len-depth.result ≡ length word = (let a = c.len-depth.ensures in let b = self.path.ok.0
     in omega arith)
     in let place : c.len-below.result ≡ length self.stack.items = (let a = c.len-below.ensures

@@ -1,8 +1,8 @@
-use Rattle.std.proofs.{Common.{◌≡◌, ◌∙◌, refl, sym, ap, subst, arith}, lemmas.List.take_rest}
+use Rattle.std.proofs.{Common.{◌≡◌, ◌∙◌, refl, sym, ap, subst, arith, rules}, lemmas.List.take_rest}
 use Rattle.shop_model.specs.Shop.{Shop}
 use Rattle.shop_nodes.specs.{Left.Leaving, Laws.{AreWords, KeepsPiece}, Nodes.{words_of, AreNodes}, Walking.Walk}
 use Rattle.shop_nodes.specs.Halts.{halted_words}
-use Rattle.shop_tree.specs.{inner.Held.waiting_in, inner.Searching.walked, inner.StateWalkers.stage_of}
+use Rattle.shop_tree.specs.{inner.Held.waiting_in, inner.Searching.opening_walk, inner.StateWalkers.stage_of}
 use Rattle.shop_tree.specs.inner.Walkers.{Stage}
 use Rattle.shop_nodes.proofs.{NodeLemmas.are_words, Found.searches_keep}
 use Rattle.shop_tree.proofs.WalkerLemmas.{sheet_told}
@@ -10,16 +10,16 @@ use Rattle.shop_tree.proofs.walkers.Walker.search.Goals as goal
 
 pub returns-clause-sheet : goal.returns-clause-sheet
 returns-clause-sheet g c =
-    let shop = c.args.self.now.progress.instance.now
+    let shop = c.args.self.now.instance.now
     in let t = c.walk_nodes.new.self
     in let nodes = c.args.piece.now.nodes.items
     in let k = c.in_ok-index.index
-    in let halted = halted_words t.progress.instance.now c.in_ok-halt.halt
-    in let same : c.begin.new.self.instance.now ≡ shop = c.begin.ensures.instance ∙ c.in_ok-clear.ensures.instance
+    in let halted = halted_words t.instance.now c.in_ok-halt.halt
+    in let same : c.clear.new.self.instance.now ≡ shop = c.in_ok-clear.ensures.instance
     in let begun : Stage = record {
-      shop = c.begin.new.self.instance.now;
+      shop = c.clear.new.self.instance.now;
       word = c.clear.new.self.path.items;
-      walk = walked c.begin.new.self;
+      walk = opening_walk c.args.best c.args.budget;
       stack = waiting_in c.clear.new.self.stack.items;
     }
     in let left = ap (λ (l : Leaving). l.words) c.new.ensures
@@ -31,31 +31,31 @@ returns-clause-sheet g c =
         of_budget = refl;
       };
       keeps = subst (KeepsPiece shop (words_of nodes) c.args.best)
-          (sym (sheet_told begun (stage_of t) c.as_slice-nodes.result.now k same c.begin.ensures.walk refl
+          (sym (sheet_told begun (stage_of t) c.as_slice-nodes.result.now k same refl refl
           c.in_ok-index.ensures.walked c.in_ok-index.ensures.ended c.as_slice-nodes.ensures.value (take_rest
-          c.as_slice-nodes.result.now k) c.take_found-found.ensures.found c.in_ok-halt.ensures.words left))
+          c.as_slice-nodes.result.now k) (search rules) c.in_ok-halt.ensures.words left))
           (searches_keep shop (words_of nodes) c.args.best c.args.budget (are_words shop nodes c.requires.nodes));
     }
 
 pub invariant_of-result : goal.invariant_of-result
 invariant_of-result g c =
     let t = c.walk_nodes.new.self
-    in let shop = t.progress.instance.now
+    in let shop = t.instance.now
     in let nodes = c.args.piece.now.nodes.items
     in let k = c.in_ok-index.index
     in let halted = halted_words shop c.in_ok-halt.halt
-    in let same : shop ≡ c.args.self.now.progress.instance.now = c.in_ok-index.ensures.walked.shop
-    ∙ (c.begin.ensures.instance ∙ c.in_ok-clear.ensures.instance)
+    in let same : shop ≡ c.args.self.now.instance.now = c.in_ok-index.ensures.walked.shop
+    ∙ c.in_ok-clear.ensures.instance
     in let begun : Stage = record {
-      shop = c.begin.new.self.instance.now;
+      shop = c.clear.new.self.instance.now;
       word = c.clear.new.self.path.items;
-      walk = walked c.begin.new.self;
+      walk = opening_walk c.args.best c.args.budget;
       stack = waiting_in c.clear.new.self.stack.items;
     }
     in let left = ap (λ (l : Leaving). l.words) c.new.ensures
     in let told = sheet_told begun (stage_of t) c.as_slice-nodes.result.now k (sym c.in_ok-index.ensures.walked.shop)
-    c.begin.ensures.walk refl c.in_ok-index.ensures.walked c.in_ok-index.ensures.ended c.as_slice-nodes.ensures.value
-    (take_rest c.as_slice-nodes.result.now k) c.take_found-found.ensures.found c.in_ok-halt.ensures.words left
+    refl refl c.in_ok-index.ensures.walked c.in_ok-index.ensures.ended c.as_slice-nodes.ensures.value
+    (take_rest c.as_slice-nodes.result.now k) (search rules) c.in_ok-halt.ensures.words left
     in record {
       of_piece = refl;
       spent = omega arith;

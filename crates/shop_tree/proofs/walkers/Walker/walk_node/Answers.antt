@@ -1,7 +1,7 @@
 use Rattle.std.proofs.Common.{◌≡◌, ◌<◌, ℕ, List, [], ap, subst, arith}
 use Rattle.shop_model.proofs.WordLengths.{word_shared}
 use Rattle.shop_bound.specs.Bound.{lb}
-use Rattle.shop_tree.specs.{inner.Held.waiting_in, inner.Searching.walked, inner.StateWalkers.stage_of}
+use Rattle.shop_tree.specs.{inner.Held.waiting_in, inner.StateWalkers.{stage_of, walked}}
 use Rattle.shop_tree.specs.inner.Walkers.{HasExpanded, HasWalked, node_walk, spent_one}
 use Rattle.shop_tree.proofs.{ListLemmas.on_ok, WalkerLemmas.node_expanded}
 use Rattle.shop_tree.proofs.walkers.Walker.walk_node.Goals as goal
@@ -17,13 +17,13 @@ returns-clause-walked g c =
     in let m = stage_of c.expand.new.self
     in let t = stage_of c.walk_stack.new.self
     in let empty : s.stack ≡ [] = ap waiting_in c.requires.empty
-    in let below : lb self.progress.instance.now node.word < self.progress.best = (let a = c.if-node-self.false
+    in let below : lb self.instance.now node.word < self.best = (let a = c.if-node-self.false
     in let b = c.requires.node.1 in omega arith)
     in let went : c.write_to.new.list.items ≡ node.word = c.in_ok-write_to.ensures.list
     in let expanded = subst (λ (w : List ℕ). HasExpanded (record {
-      shop = self.progress.instance.now;
+      shop = self.instance.now;
       word = w;
-      walk = spent_one (walked self.progress);
+      walk = spent_one (walked self);
       stack = waiting_in self.stack.items;
     }) m) went c.in_ok-expand.ensures.expanded
     in on_ok _ (HasWalked s t (node_walk s node)) (λ h. node_expanded s m t node empty c.requires.some below expanded h)

@@ -3,8 +3,8 @@ use Rattle.std.specs.Prelude.{take}
 use Rattle.shop_model.specs.{Shop.Shop, Word.IsWord}
 use Rattle.shop_bound.specs.Bound.{lb}
 use Rattle.shop_bound.proofs.WordLengths.{room_left}
-use Rattle.shop_tree.specs.{inner.Held.waiting_in, inner.Searching.walked, inner.Slots.IsStateIn}
-use Rattle.shop_tree.specs.inner.StateWalkers.{stage_of, AreHeld}
+use Rattle.shop_tree.specs.{inner.Held.waiting_in, inner.Slots.IsStateIn}
+use Rattle.shop_tree.specs.inner.StateWalkers.{stage_of, walked, AreHeld}
 use Rattle.shop_tree.specs.inner.Walkers.{HasExpanded, IsInOrder, IsTurn, spent_one}
 use Rattle.shop_nodes.specs.{Halts.word_at, declared.halts.Waiting.TheVariants.Child}
 use Rattle.shop_tree.proofs.{OpenLemmas.popped, ListLemmas.on_ok, StateLemmas.held_below}
@@ -24,7 +24,7 @@ unwrap-requires g c =
     in let o = c.args.child
     in let word = self.path.items
     in let own = (popped (waiting_in self.stack.items) (Child o) c.requires.on).own
-    in let few = room_left self.progress.instance.now (take o.depth word) o.job own.is_word
+    in let few = room_left self.instance.now (take o.depth word) o.job own.is_word
     in let depth = length-take-le o.depth word own.depth
     in c.push.ensures.succeeds (let a = c.truncate.ensures.len in let b = c.truncate.ensures.capacity
     in let d = self.path_room in omega arith)
@@ -52,19 +52,19 @@ expand-requires g c =
     rw (c.unwrap.ensures, c.truncate.ensures.items) at c.push.ensures.items
     in record {
       at = record {
-        bound = subst (λ (w : List ℕ). o.bound ≡ lb self.progress.instance.now w) (sym went) own.bound;
+        bound = subst (λ (w : List ℕ). o.bound ≡ lb self.instance.now w) (sym went) own.bound;
         below = (let a = c.if-child-self.false in omega arith);
         in_order = subst (λ (w : List ℕ). IsInOrder (record {
-          shop = self.progress.instance.now;
+          shop = self.instance.now;
           word = w;
-          walk = spent_one (walked self.progress);
+          walk = spent_one (walked self);
           stack = waiting_in hs;
         })) (sym went) (went_in_order (stage_of self) o c.requires.on);
         states = record {
           held = subst (λ x. AreHeld (g.D.Dispatching.IsStateOf x) c.push.new.self.items hs)
               (sym c.go_on_in.ensures.sound.dispatcher)
               (subst (λ (w : List ℕ). AreHeld (g.D.Dispatching.IsStateOf d) w hs) (sym went)
-              (held_below (g.D.Dispatching.IsStateOf d) self.progress.instance.now self.progress.best word hs o
+              (held_below (g.D.Dispatching.IsStateOf d) self.instance.now self.best word hs o
               c.requires.on c.requires.states.held));
           states = c.go_on_in.ensures.sound.states;
         };
@@ -79,14 +79,14 @@ returns-clause-turn g c =
     in let o = c.args.child
     in let went : c.push.new.self.items ≡ word_at self.path.items o =
     rw (c.unwrap.ensures, c.truncate.ensures.items) at c.push.ensures.items
-    in let below : o.bound < self.progress.best = (let a = c.if-child-self.false in omega arith)
+    in let below : o.bound < self.best = (let a = c.if-child-self.false in omega arith)
     in let t = stage_of c.expand.new.self
     in on_ok _ (IsTurn (stage_of self) (Child o) t)
     (λ e. turn_expanded (stage_of self) t o c.requires.on c.requires.some below
     (subst (λ (w : List ℕ). HasExpanded (record {
-      shop = self.progress.instance.now;
+      shop = self.instance.now;
       word = w;
-      walk = spent_one (walked self.progress);
+      walk = spent_one (walked self);
       stack = waiting_in self.stack.items;
     }) t) went e))
     c.expand.result c.expand.ensures.expanded

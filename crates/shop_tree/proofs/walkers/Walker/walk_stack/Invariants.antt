@@ -6,8 +6,8 @@ abbrev pub invariant-loop-self : goal.invariant-loop-self
 invariant-loop-self g l = record {
   walk : stack_walk (stage_of l.self) ≡ stack_walk (stage_of l.fn.self);
   in_order : IsInOrder (stage_of l.self);
-  spent : l.self.progress.budget ≤ l.fn.self.progress.budget;
-  shop : l.self.progress.instance.now ≡ l.fn.self.progress.instance.now;
+  spent : l.self.budget ≤ l.fn.self.budget;
+  shop : l.self.instance.now ≡ l.fn.self.instance.now;
   states : HasStates l.self;
 }
 

@@ -1,0 +1,17 @@
+use Rattle.std.proofs.Common.{◌≡◌, length}
+use Rattle.shop_layout.specs.Lanes.{lanes_on}
+use Rattle.shop_states.specs.inner.HeadRaises.{raises_in}
+use Rattle.shop_states.specs.inner.LaidLanes.{laid_rows}
+use Rattle.shop_states.proofs.RaisedMachines.{IsFoundSo}
+use Rattle.shop_states.proofs.machine_raises.MachineRaises.take_ceilings.Given as goal
+
+abbrev pub invariant-loop-machine : goal.invariant-loop-machine
+invariant-loop-machine g l = record {
+  found : IsFoundSo l.lowest (l.fn.self)
+      (lanes_on (laid_rows g.L.StateLanes.heads g.L.StateLanes.ends l.laid) l.laid.grid.now)
+      (raises_in g.L.StateLanes.value l.raises) l.left l.ceilings l.greatest;
+  long : length l.ceilings ≡ length l.fn.ceilings;
+}
+
+abbrev pub decreases-loop-machine : goal.decreases-loop-machine
+decreases-loop-machine g l = length l.left
