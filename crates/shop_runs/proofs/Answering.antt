@@ -1,5 +1,5 @@
 -- Rounds up to the answer.
-use Rattle.std.proofs.Common.{◌≡◌, ℕ, suc, ◌+◌, ◌-◌, ◌*◌, ◌≤◌, ◌<◌, List, [], ◌++◌, length, refl, sym}
+use Rattle.std.proofs.Common.{◌≡◌, ℕ, suc, ◌+◌, ◌-◌, ◌*◌, ◌≤◌, ◌<◌, List, [], ◌++◌, length, sym}
 use Rattle.std.proofs.Common.{◌∙◌, ap, subst, arith, append-nil, ltb}
 use Rattle.std.specs.Prelude.{unwrap_or}
 use Rattle.std.proofs.lemmas.List.Elements.{All-filter}
@@ -10,7 +10,6 @@ use Rattle.shop_runs.specs.declared.plans.Plan.{Plan}
 use Rattle.shop_nodes.specs.declared.nodes.Node.{Node}
 use Rattle.shop_runs.specs.Round.{Stand, Told, cut_of, gathered, round, opening, in_order, words_below}
 use Rattle.shop_runs.specs.Answers.{rounds_from, unless_closed, answer}
-use Rattle.shop_runs.specs.Laws.{StandsCovering}
 use Rattle.shop_runs.specs.Trust.{IsTrustworthy}
 use Rattle.shop_nodes.specs.Nodes.{words_of, IsNode, AreNodes}
 use Rattle.shop_bound.specs.Bound.{lb}
@@ -25,15 +24,14 @@ use Rattle.shop_runs.specs.inner.NodeLists.{least_of_bounds}
 use Rattle.shop_runs.specs.inner.Searches.{IsSearchAt, IsSearchOf, IsFront, front_of, stand_of}
 use Rattle.shop_runs.specs.inner.Stores.{open_list, order_of}
 use Rattle.shop_runs.proofs.FrontLemmas.{IsInOrder, IsJoined, in_order_is, order_drop, ordered_twice, gathered_front}
-use Rattle.shop_runs.proofs.FrontLemmas.{rejoined, joined_at, search_of, least_order, length_order}
+use Rattle.shop_runs.proofs.FrontLemmas.{rejoined, joined_at, least_order, length_order}
 use Rattle.shop_runs.proofs.NodeLemmas.{least_is, below_is}
 use Rattle.shop_runs.specs.declared.runs.Answer.{Answer}
 use Rattle.shop_model.specs.Word.{placed, rows_of}
 use Rattle.shop_runs.specs.declared.outcomes.RoundResult.{RoundResult}
 use Rattle.shop_runs.specs.inner.Outcomes.{left_open, IsOutcome}
-use Rattle.shop_runs.proofs.Covering.{opens_covering, round_covers, cut_is_round}
-use Rattle.shop_runs.proofs.Trusting.{trustworthy, none_from}
-use Rattle.shop_runs.proofs.Counting.{counts_small}
+use Rattle.shop_runs.proofs.Covering.{cut_is_round}
+use Rattle.shop_runs.proofs.Trusting.{trustworthy}
 
 -- what a run that has done i rounds of its plan has still to come to
 pub record GoesTo (shop : Shop) (plan : Planned) (i : ℕ) (s : Stand) : Type 0 where
@@ -125,52 +123,6 @@ pub with_rest : (shop : Shop) (plan : Plan) (s : Stand) (t : OpenRun) (r : Round
     → record (told r) { rest = words_of rest } ≡ cut_of shop (planned plan) s
 with_rest shop plan s t r others rest at front is =
     (λ i. record (front.round i) { rest = (ap words_of is ∙ front.rest) i }) ∙ cut_again shop (planned plan) s t at
-
--- a run on its way: it stands where the definition does, which covers the instance, and goes to the answer
-pub record OnTheWay (shop : Shop) (plan : Planned) (i : ℕ) (t : OpenRun) : Type 0 where
-  pub stand : Stand
-  pub at : IsSearchAt shop plan.order stand t
-  pub covering : StandsCovering shop stand
-  pub goes : GoesTo shop plan i stand
-  pub rounds : stand.rounds ≡ i
-
-pub way_first : (shop : Shop) (plan : Planned) (t : OpenRun) → IsSearchAt shop plan.order (opening shop) t
-    → OnTheWay shop plan 0 t
-way_first shop plan t at = record {
-  stand = opening shop;
-  at = at;
-  covering = opens_covering shop;
-  goes = goes_first shop plan;
-  rounds = refl;
-}
-
-module _ (shop : Shop) (plan : Planned) (i : ℕ) (t : OpenRun) (way : OnTheWay shop plan i t) where
-  s : Stand
-  s = way.stand
-
-  -- a run on its way is a standing of the instance
-  pub way_search : IsSearchOf shop plan.order t
-  way_search = search_of shop plan.order way.stand t way.at way.covering.0
-
-  many : length (open_list t.open) ≡ length way.stand.open_words
-  many = grind (arith, length-map, length_order)
-
-  pub way_closed : length (open_list t.open) ≡ 0 → IsSearchAt shop plan.order (answer shop plan) t
-  way_closed e = grind (arith, goes_closed, none_from, many)
-
-  pub way_last : plan.rounds ≤ i → IsSearchAt shop plan.order (answer shop plan) t
-  way_last h = subst (λ x. IsSearchAt shop plan.order x t) (goes_last shop plan i way.stand way.goes h) way.at
-
-  -- one more round brings it to where the definition's next round ends
-  pub way_next : (v : OpenRun) → i < plan.rounds → 0 < length (open_list t.open)
-      → IsSearchAt shop plan.order (round shop plan (stand_of t)) v → OnTheWay shop plan (i + 1) v
-  way_next v h some at = record {
-    stand = round shop plan way.stand;
-    at = subst (λ x. IsSearchAt shop plan.order (gathered x) v) (cut_again shop plan way.stand t way.at) at;
-    covering = round_covers shop plan way.stand way.covering;
-    goes = goes_on shop plan i way.stand way.goes h (let m = many in omega arith);
-    rounds = (counts_small (cut_of shop plan way.stand)).0 ∙ ap (λ k. k + 1) way.rounds;
-  }
 
 -- the answer that is made of a run says what stands
 module _ (shop : Shop) (o : Order) (s : Stand) (t : OpenRun) (at : IsSearchAt shop o s t) where

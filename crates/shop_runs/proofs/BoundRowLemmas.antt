@@ -1,18 +1,19 @@
 -- Rows of stacks by bound: what is put into them, taken from them, and let go.
-use Rattle.std.proofs.Common.{◌≡◌, true, false, ℕ, zero, suc, ◌+◌, ◌≤◌, ◌<◌, min, Some, None, List, [], ◌∷◌, ◌++◌}
-use Rattle.std.proofs.Common.{length, take, drop, refl, sym, ◌∙◌, ap, arith, append_assoc, length-append, eqb}
+use Rattle.std.proofs.Common.{◌≡◌, true, false, ℕ, zero, suc, ◌+◌, ◌≤◌, ◌<◌, min, inr, Some, None, List, [], ◌∷◌, ◌++◌}
+use Rattle.std.proofs.Common.{length, take, drop, refl, sym, ◌∙◌, ap, subst, arith, append_assoc, length-append, eqb}
+use Rattle.std.proofs.Common.{cond}
 use Rattle.std.specs.Prelude.{IsSome, slice_index_or, slice_set}
 use Rattle.std.specs.List.{AllByRecursion}
 use Rattle.std.specs.Global.{Box}
-use Rattle.std.proofs.lemmas.Bool.{cases_eq, eq-eqb, ne_eqb, le-ltb, lt-ltb}
+use Rattle.std.proofs.lemmas.Bool.{cases_Bool, cases_eq, eq-eqb, ne_eqb, le-ltb, lt-ltb}
 use Rattle.std.proofs.lemmas.List.{length-map}
 use Rattle.std.proofs.lemmas.List.Elements.{filter-append}
 use Rattle.shop_nodes.specs.Branching.{insert_by}
 use Rattle.shop_nodes.specs.declared.nodes.Node.{Node}
-use Rattle.shop_runs.specs.declared.stacks.Stack.{Stack}
+use Rattle.shop_runs.specs.declared.{distant_nodes.DistantNodes.DistantNodes, stacks.Stack.Stack}
 use Rattle.shop_nodes.specs.inner.HeldNodes.{nodes_below}
-use Rattle.shop_runs.specs.inner.NodeLists.{least_of_bounds}
-use Rattle.shop_runs.specs.inner.BoundRows.{AreEmptyBelow, IsFirstFrom}
+use Rattle.shop_runs.specs.inner.{Distant.{count_of, AreAdded, IsRetired}, NodeLists.least_of_bounds}
+use Rattle.shop_runs.specs.inner.BoundRows.{AreEmptyBelow, IsBehind, IsFirstFrom}
 use Rattle.shop_runs.specs.inner.Stacks.{Place, words_at, nodes_of_bound, nodes_in_row}
 use Rattle.shop_runs.proofs.SortLemmas.{insert_low}
 use Rattle.shop_runs.proofs.StackLemmas.{insert_past, below_one, least_all, bounds_all, words_under}
@@ -138,7 +139,7 @@ row_length b c os = go b c os
     go b c (o ∷ os) = words b c (words_at o) (nodes_in_row (suc b) os) (nodes_in_row (suc c) os) (go (suc b) (suc c) os)
 
 -- a row in two parts
-row_split : (k b : ℕ) (os : List Place)
+pub row_split : (k b : ℕ) (os : List Place)
     → nodes_in_row b os ≡ nodes_in_row b (take k os) ++ nodes_in_row (b + k) (drop k os)
 row_split zero b os = ap (λ c. nodes_in_row c os) (let x : b ≡ b + 0 = omega arith in x)
 row_split (suc k) b [] = refl
@@ -150,7 +151,7 @@ none_in_front (m ∷ ms) ns e =
     let long : length ((m ∷ ms) ++ ns) ≡ length ns = ap length e
     in absurd (omega (arith, length-append (m ∷ ms) ns))
 
-next_at : (k : ℕ) (os : List Place) (d : Place) → k < length os
+pub next_at : (k : ℕ) (os : List Place) (d : Place) → k < length os
     → drop k os ≡ slice_index_or os k d ∷ drop (suc k) os
 next_at k [] d h = absurd (omega arith)
 next_at zero (o ∷ os) d h = refl
@@ -202,3 +203,62 @@ pub count_next : (k : ℕ) (os : List Place) (d : Place) → k < length os
     → length (nodes_in_row 0 (drop k os))
     ≡ length (words_at (slice_index_or os k d)) + length (nodes_in_row 0 (drop (k + 1) os))
 count_next k os d h = grind (arith, row_length, next_at, length-append, length-map)
+
+-- the nodes before a place, and before the next one
+pub count_place : (b k : ℕ) (os : List Place) (d : Place) → k < length os
+    → length (nodes_in_row b (take (k + 1) os))
+    ≡ length (nodes_in_row b (take k os)) + length (words_at (slice_index_or os k d))
+count_place b k [] d h = absurd (omega arith)
+count_place b zero (o ∷ os) d h = grind (arith, length-append, length-map)
+count_place b (suc k) (o ∷ os) d h = grind (arith, length-append, count_place (suc b) k os d (omega arith))
+
+pub not_more : (k : ℕ) (os : List Place) → length (nodes_in_row 0 (take k os)) ≤ length (nodes_in_row 0 os)
+not_more k os =
+    let all = ap length (row_split k 0 os)
+    ∙ length-append (nodes_in_row 0 (take k os)) (nodes_in_row (0 + k) (drop k os))
+    in omega arith
+
+-- those before a place have lower bounds
+pub all_before : (b k : ℕ) (os : List Place) → AllByRecursion (λ n. n.bound < b + k) (nodes_in_row b (take k os))
+all_before b zero os = tt
+all_before b (suc k) [] = tt
+all_before b (suc k) (o ∷ os) = words (b + suc k) (words_at o) (nodes_in_row (suc b) (take k os)) (omega arith)
+    (subst (λ c. AllByRecursion (λ n. n.bound < c) (nodes_in_row (suc b) (take k os))) (omega arith)
+    (all_before (suc b) k os))
+  where
+    words : (c : ℕ) (ws : List (List ℕ)) (rest : List Node) → b < c → AllByRecursion (λ n. n.bound < c) rest
+        → AllByRecursion (λ n. n.bound < c) (nodes_of_bound b ws ++ rest)
+    words c [] rest h a = a
+    words c (w ∷ ws) rest h a = (h, words c ws rest h a)
+
+-- how many nodes of a row have a bound: those of its place, and those behind
+pub count_bound : (b k : ℕ) (ws : List (List ℕ)) (rest : List Node)
+    → count_of b (nodes_of_bound k ws ++ rest) ≡ cond (eqb k b) (length ws) 0 + count_of b rest
+count_bound b k [] rest = grind (arith, cases_Bool)
+count_bound b k (w ∷ ws) rest = grind (arith, cases_Bool, count_bound b k ws rest)
+
+pub count_behind : (b k : ℕ) (os : List Place) (d : Place) → k < length os
+    → count_of b (nodes_in_row k (drop k os))
+    ≡ cond (eqb k b) (length (words_at (slice_index_or os k d))) 0 + count_of b (nodes_in_row (k + 1) (drop (k + 1) os))
+count_behind b k os d h = grind (arith, next_at, count_bound)
+
+-- the nodes before a place are kept, and those from it on are counted
+pub retired_row : (most first end : ℕ) (os : List Place) (distant later : DistantNodes) → IsBehind first most os end
+    → AreAdded (nodes_in_row end (drop end os)) distant.counts.items later.counts.items
+    → later.horizon ≡ min distant.horizon end
+    → IsRetired most (nodes_in_row 0 os) distant (nodes_in_row 0 (take end os)) later
+retired_row most first end os distant later behind added moves =
+    let same : 0 + end ≡ end = omega arith
+    in record {
+      gone = nodes_in_row end (drop end os);
+      all = row_split end 0 os ∙ ap (λ b. nodes_in_row 0 (take end os) ++ nodes_in_row b (drop end os)) same;
+      counted = added;
+      horizon = inr (record {
+        end = end;
+        enough = behind.2;
+        below = subst (λ b. AllByRecursion (λ n. n.bound < b) (nodes_in_row 0 (take end os))) same
+            (all_before 0 end os);
+        behind = all_from end end (drop end os) (omega arith);
+        moves = moves;
+      });
+    }

@@ -108,7 +108,7 @@ module _ (shop : Shop) (plan : Planned) where
       still_open : (order : Order) (ws : List (List ℕ)) → 0 < length ws → 0 < length (in_order shop order ws)
       still_open order ws h = some_of ws (in_order shop order ws) (size_order shop order ws) h
 
-  round_no_worse : (s : Stand) → IsStanding shop s → makespan_of shop (round shop plan s) ≤ makespan_of shop s
+  pub round_no_worse : (s : Stand) → IsStanding shop s → makespan_of shop (round shop plan s) ≤ makespan_of shop s
   round_no_worse s is =
       let r = cut_of shop plan s
       in after_no_worse r (cut_is_round shop plan s is) (up_to_hit r.bound (sheets_of r)) refl

@@ -25,6 +25,12 @@ pub mod CoverRows
 pub mod StackLemmas
 mod BoundRowLemmas
 pub mod StoreLemmas
+mod DistantLemmas
+mod PutLemmas
+mod DistantLists
+mod DistantRuns
+mod DistantRounds
+mod Ways
 pub mod KeptLemmas
 pub mod FrontLemmas
 pub mod FrontCuts

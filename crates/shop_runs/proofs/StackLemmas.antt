@@ -18,7 +18,7 @@ use Rattle.shop_nodes.specs.Branching.{insert_by}
 use Rattle.shop_runs.specs.declared.stacks.Stack.{Stack}
 use Rattle.shop_nodes.specs.inner.HeldNodes.{nodes_below}
 use Rattle.shop_runs.specs.inner.NodeLists.{least_of_bounds}
-use Rattle.shop_runs.specs.inner.Stacks.{words_in, words_on, nodes_of_bound, nodes_by_bound}
+use Rattle.shop_runs.specs.inner.Stacks.{words_on, nodes_of_bound, nodes_by_bound}
 
 cmp_less : (a b : ℕ) → a < b → nat_cmp a b ≡ Less
 cmp_less a b h = sym (nat_cmp_is a b Less h)
@@ -133,7 +133,7 @@ lower_keys c b (k ∷ ks) h a = ((let l = a.0 in omega arith), lower_keys c b ks
 
 -- the words of a stack below its top
 abbrev pub words_under : Stack → List (List ℕ)
-words_under s = reverse s.topmost.below.items ++ flat_map words_in (reverse s.covered.items)
+words_under s = reverse (flat_map (λ c. c.items) s.covered.items ++ s.below.items)
 
 -- the least bound is that of the first stack
 least_first : (c : ℕ) (e : ℕ × Stack) (es : List (ℕ × Stack)) → AllByRecursion (λ y. e.0 ≤ y) (keys_of es)

@@ -1,18 +1,15 @@
 -- Open nodes in the order of the next cut, through what is put, taken and let go.
-use Rattle.std.proofs.Common.{◌≡◌, ℕ, suc, ◌<◌, min, Bool, true, false, List, [], ◌∷◌, ◌++◌, length, append-nil, ltb}
-use Rattle.std.proofs.Common.{reverse, refl, sym, ◌∙◌, ap, arith, eqb, filter, inl, inr, cond, drop, get_or, ◌+◌}
+use Rattle.std.proofs.Common.{◌≡◌, ℕ, suc, min, Bool, true, false, List, [], ◌∷◌, ◌++◌, length, append-nil, ltb}
+use Rattle.std.proofs.Common.{reverse, refl, sym, ◌∙◌, ap, arith, eqb, filter, inl, inr, cond}
 use Rattle.std.specs.Prelude.{IsTrue, ◌↔◌}
 use Rattle.std.proofs.lemmas.Bool.{cases_Bool, cases_lt, ne_eqb, lt-ltb, le-ltb}
 use Rattle.std.proofs.lemmas.List.Elements.{filter-append}
-use Rattle.std.proofs.lemmas.List.{reverse-append, flat_map_more, drop_more}
-use Rattle.shop_nodes.specs.Left.{Leaving}
+use Rattle.std.proofs.lemmas.List.{reverse-append}
 use Rattle.shop_nodes.specs.declared.nodes.Node.{Node}
 use Rattle.shop_runs.specs.declared.stacks.Stack.{Stack}
 use Rattle.shop_runs.specs.declared.plans.Order.{Order}
-use Rattle.shop_nodes.specs.declared.halts.Waiting.{Waiting}
-use Rattle.shop_nodes.specs.inner.HeldNodes.{nodes_below, child_nodes, stack_nodes}
+use Rattle.shop_nodes.specs.inner.HeldNodes.{nodes_below}
 use Rattle.shop_runs.specs.inner.NodeLists.{least_of_bounds}
-use Rattle.shop_runs.specs.inner.Outcomes.{open_of, left_open}
 use Rattle.shop_runs.specs.inner.Stacks.{nodes_by_bound, put_before, put_all_before}
 
 pub reverse-cons : {A : Type 0} (x : A) (xs : List A) → reverse (x ∷ xs) ≡ reverse xs ++ x ∷ []
@@ -53,38 +50,7 @@ pub put_append : (o : Order) (ms ns nodes : List Node)
 put_append o [] ns nodes = refl
 put_append o (m ∷ ms) ns nodes = ap (put_before o m) (put_append o ms ns nodes)
 
--- the last node of a list is put first, if it is below the makespan
-pub put_last : (o : Order) (c : ℕ) (ns : List Node) (n : Node) (nodes : List Node) → n.bound < c
-    → put_all_before o (nodes_below c (ns ++ n ∷ [])) nodes
-    ≡ put_all_before o (nodes_below c ns) (put_before o n nodes)
-put_last o c ns n nodes low = grind (arith, filter-append, lt-ltb, put_append)
-
--- what the last sheet left is put first
-pub put_last_left : (o : Order) (c : ℕ) (ls : List Leaving) (l : Leaving) (nodes : List Node)
-    → put_all_before o (nodes_below c (left_open (ls ++ l ∷ []))) nodes
-    ≡ put_all_before o (nodes_below c (left_open ls)) (put_all_before o (nodes_below c (open_of l)) nodes)
-put_last_left o c ls l nodes =
-    let e = ap (nodes_below c) (sym (flat_map_more open_of [] ls l))
-    ∙ filter-append (λ (m : Node). ltb m.bound c) (left_open ls) (open_of l)
-    in ap (λ ms. put_all_before o ms nodes) e
-    ∙ put_append o (nodes_below c (left_open ls)) (nodes_below c (open_of l)) nodes
-
--- the nodes of one more entry of what waits are put before those of the later ones
-pub put_entry : (o : Order) (c : ℕ) (path : List ℕ) (waiting : List Waiting) (k : ℕ) (d : Waiting) (nodes : List Node)
-    → k < length waiting
-    → put_all_before o (nodes_below c (stack_nodes path (drop k waiting))) nodes
-    ≡ put_all_before o (nodes_below c (stack_nodes path (drop (k + 1) waiting)))
-    (put_all_before o (nodes_below c (child_nodes path (get_or waiting k d))) nodes)
-put_entry o c path waiting k d nodes within = grind (arith, drop_more, filter-append, put_append)
-
 -- what is below two makespans is below the less
-below_both : (c d : ℕ) (ns : List Node) → nodes_below c (nodes_below d ns) ≡ nodes_below (min c d) ns
+pub below_both : (c d : ℕ) (ns : List Node) → nodes_below c (nodes_below d ns) ≡ nodes_below (min c d) ns
 below_both c d [] = refl
 below_both c d (n ∷ ns) = grind (arith, cases_lt, lt-ltb, le-ltb, below_both c d ns)
-
--- what waited where a walk halted is put before the nodes that weren't taken
-pub put_both : (o : Order) (c own limit : ℕ) (first later all nodes : List Node) → limit ≡ min c own
-    → all ≡ nodes_below own (first ++ later)
-    → put_all_before o (nodes_below limit first) (put_all_before o (nodes_below limit later) nodes)
-    ≡ put_all_before o (nodes_below c all) nodes
-put_both o c own limit first later all nodes is open_is = grind (arith, below_both, filter-append, put_append)

@@ -47,6 +47,8 @@ trust shop s k =
     ])
     in grind (arith, none_from)
 
+pub answer_covers : (shop : Shop) (plan : Planned) → StandsCovering shop (answer shop plan)
+answer_covers shop plan = rounds_cover shop plan plan.rounds (opening shop) (opens_covering shop)
+
 pub trustworthy : AnswersAreTrustworthy
-trustworthy shop plan = trust shop (answer shop plan)
-    (rounds_cover shop plan plan.rounds (opening shop) (opens_covering shop))
+trustworthy shop plan = trust shop (answer shop plan) (answer_covers shop plan)

@@ -96,10 +96,7 @@ impl BoundMap {
     {
         let mut count = 0_usize;
         for (_, stack) in &self.stacks {
-            let Some(sum) = count.checked_add(stack.count()?) else {
-                return Err(NoMemory);
-            };
-            count = sum;
+            count = count.checked_add(stack.count()?).ok_or(NoMemory)?;
         }
         Ok(count)
     }

@@ -1,9 +1,12 @@
 // Open nodes for the order `Bound` where bounds are small: a row of stacks of words, one for each bound.
-ghost use Rattle.std.specs.Prelude.{◌≡◌, ◌==◌, ◌^◌, ◌<◌, ◌≤◌, ◌∷◌, [], length, vec_len, IfOk, OnOk, OnErr};
+ghost use Rattle.std.specs.Prelude.{◌≡◌, ◌==◌, ◌^◌, ◌<◌, ◌≤◌, ◌∷◌, [], length, vec_len, take, drop};
+ghost use Rattle.std.specs.Prelude.{IfOk, IfSome, OnOk, OnErr};
 ghost use Rattle.shop_nodes.specs.{Branching.insert_by, inner.HeldNodes.nodes_below};
-ghost use Rattle.shop_runs.specs.{inner.NodeLists.least_of_bounds, inner.BoundRows.{IsFirstFrom, StaysEmpty, TakesTop}};
-ghost use Rattle.shop_runs.specs.inner.Stacks.{words_at, nodes_in_row, IsNextOf, IsTopIfMore};
+ghost use Rattle.shop_runs.specs.inner.BoundRows.{IsBehind, IsFirstFrom, StaysEmpty, TakesTop};
+ghost use Rattle.shop_runs.specs.inner.{Distant.{AreAdded, IsRetired}, NodeLists.least_of_bounds};
+ghost use Rattle.shop_runs.specs.inner.Stacks.{words_at, nodes_in_row, IsNextOf};
 
+use crate::distant_nodes::DistantNodes;
 use crate::stacks::Stack;
 use shop_model::{SharedWord, Word};
 use shop_nodes::{Node, SharedNode};
@@ -35,23 +38,17 @@ fn push_at(alloc: Global, place: &mut Place, word: SharedWord) -> Result<(), NoM
     }
 }
 
-/// Takes the top word off the stack at a place, if other words lie below it. Else answers `None` and changes nothing.
-fn pop_if_more_at(place: &mut Place) -> Option<SharedWord>
-    ensures { IsTopIfMore result (words_at place.old) (words_at place.new) }
-{
-    match place {
-        Some(stack) => stack.pop_if_more(),
-        None => None,
-    }
-}
-
 /// Takes the top word off the stack at a place, or answers `None` if there is no stack. Leaves no empty stack: the box
 /// is given back with the last word.
 fn pop_at(place: &mut Place) -> Option<SharedWord>
     ensures { TakesTop result place.old place.new }
 {
-    if let Some(word) = pop_if_more_at(place) {
-        return Some(word);
+    let word = match place {
+        Some(stack) => stack.pop_if_more(),
+        None => None,
+    };
+    if word.is_some() {
+        return word;
     }
     let stack = place.take()?;
     Some(Box::into_inner(stack).into_last())
@@ -81,6 +78,55 @@ fn first_from(stacks: &[Place], from: usize) -> usize
     stacks.len()
 }
 
+/// Counts the words of the stacks from `first` on until they are at least `most`. Answers the index behind the last
+/// stack that was counted, or `None` if all of them hold fewer, and how many were counted. Fails with `NoMemory` if a
+/// stack holds 2^64 words or more.
+fn place_behind(
+    stacks: &[Place],
+    first: usize,
+    most: usize,
+) -> Result<(Option<usize>, usize), NoMemory>
+    ensures place { IfOk result (λ p. IfSome p.0 (IsBehind first most stacks.now)) }
+    ensures count { IfOk result (λ p. p.1 ≤ length (nodes_in_row 0 stacks.now)) }
+{
+    let mut count = 0_usize;
+    for index in first..stacks.len() {
+        count = count.saturating_add(count_at(&stacks[index])?);
+        if most <= count {
+            return Ok((Some(index + 1), count));
+        }
+    }
+    Ok((None, count))
+}
+
+/// Counts the words of the stacks from `from` on in `distant`. Fails with `NoMemory` if memory runs out.
+fn count_from(stacks: &[Place], from: usize, distant: &mut DistantNodes) -> Result<(), NoMemory>
+    ensures horizon { distant.new.horizon ≡ distant.old.horizon }
+    ensures added { OnOk result (AreAdded (nodes_in_row from (drop from stacks.now))
+        distant.old.counts.items distant.new.counts.items) }
+{
+    for index in from..stacks.len() {
+        distant.add(index as u64, count_at(&stacks[index])?)?;
+    }
+    Ok(())
+}
+
+/// Moves the places from `end` on from `stacks` into `spent`, from the last to the first. Fails with `NoMemory` if
+/// memory runs out; then some are left.
+fn set_aside(stacks: &mut Vec<Place>, end: usize, spent: &mut Vec<Place>) -> Result<(), NoMemory>
+    requires { end ≤ vec_len stacks.old }
+    ensures left { stacks.new.items ≡ take (vec_len stacks.new) stacks.old.items }
+    ensures long { end ≤ vec_len stacks.new }
+    ensures cut { OnOk result (vec_len stacks.new ≡ end) }
+{
+    while stacks.len() > end {
+        if let Some(place) = stacks.pop() {
+            spent.push(place)?;
+        }
+    }
+    Ok(())
+}
+
 /// Adds empty places until there is one at `index`. Fails with `NoMemory` if memory runs out.
 fn reach(stacks: &mut Vec<Place>, index: usize) -> Result<(), NoMemory>
     ensures reached { OnOk result (index < vec_len stacks.new) }
@@ -95,12 +141,17 @@ fn reach(stacks: &mut Vec<Place>, index: usize) -> Result<(), NoMemory>
 }
 
 /// Open nodes by bound: `stacks[b]` has the words of the open nodes of bound b. No node has a bound below `first`. The
-/// row ends at the greatest bound that was put, and takes 16 bytes for each place, and some 80 for each stack.
-/// Contracts see the list of nodes, from the least bound up.
+/// row ends at the greatest bound that was put and not let go, and takes 16 bytes for each place, and some 80 for each
+/// stack. Contracts see the list of nodes, from the least bound up.
 #[derive(Drop)]
 pub(crate) struct BoundRow {
     stacks: Vec<Place>,
     first: usize,
+    /// how many nodes are put before `retire` counts again
+    wait: usize,
+    /// Stacks that `retire` took out. Their words lie all over the heap: if they were freed, each later request of
+    /// memory would take longer.
+    spent: Vec<Place>,
 }
 
 impl Model for BoundRow {
@@ -123,6 +174,8 @@ impl BoundRow {
         BoundRow {
             stacks: Vec::new(alloc),
             first: 0,
+            wait: 0,
+            spent: Vec::new(alloc),
         }
     }
 
@@ -135,6 +188,7 @@ impl BoundRow {
         let index = bound as usize;
         reach(&mut self.stacks, index)?;
         self.first = self.first.min(index);
+        self.wait = self.wait.saturating_sub(1);
         push_at(alloc, &mut self.stacks[index], word)
     }
 
@@ -160,6 +214,27 @@ impl BoundRow {
         self.first = self.first.min(self.stacks.len());
     }
 
+    /// Keeps the nodes of least bounds, up to the first bound with which they are `most` or more. Counts the others in
+    /// `distant`, whose horizon then is at most one above that bound. Does nothing if there are fewer nodes, or until
+    /// a node was put for each place and for every eighth node that the last call counted: so a call takes no longer,
+    /// on average, than to put the nodes since the last one. Fails with `NoMemory` if memory runs out.
+    pub(crate) fn retire(&mut self, most: usize, distant: &mut DistantNodes) -> Result<(), NoMemory>
+        ensures { OnOk result (IsRetired most self.old distant.old self.new distant.new) }
+    {
+        if self.wait > 0 {
+            return Ok(());
+        }
+        let (place, count) = place_behind(self.stacks.as_slice(), self.first, most)?;
+        self.wait = self.stacks.len().saturating_add(count / 8);
+        let Some(end) = place else {
+            return Ok(());
+        };
+        count_from(self.stacks.as_slice(), end, distant)?;
+        set_aside(&mut self.stacks, end, &mut self.spent)?;
+        distant.horizon = distant.horizon.min(end as u64);
+        Ok(())
+    }
+
     /// Answers the least of `makespan` and the bounds of the nodes.
     pub(crate) fn least_bound(&self, makespan: u64) -> u64
         ensures { result ≡ least_of_bounds makespan self.now }
@@ -178,10 +253,7 @@ impl BoundRow {
     {
         let mut count = 0_usize;
         for place in &self.stacks {
-            let Some(sum) = count.checked_add(count_at(place)?) else {
-                return Err(NoMemory);
-            };
-            count = sum;
+            count = count.checked_add(count_at(place)?).ok_or(NoMemory)?;
         }
         Ok(count)
     }

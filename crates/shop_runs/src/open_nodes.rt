@@ -1,12 +1,13 @@
 // The store of a run's open nodes, in the order in which the next round takes them.
-ghost use Rattle.std.specs.{Prelude.{◌≡◌, ◌==◌, ◌^◌, ◌≤◌, [], length, IfOk, OnOk, OnErr}, Arc.arc_slice_items};
-ghost use Rattle.shop_nodes.specs.inner.HeldNodes.{nodes_below, child_nodes, stack_nodes, AreSharable, AreWithin};
-ghost use Rattle.shop_nodes.specs.inner.HeldNodes.{IsWithin};
-ghost use Rattle.shop_runs.specs.{inner.NodeLists.least_of_bounds, inner.OpenNodes.AreBelow};
+ghost use Rattle.std.specs.{Prelude.{◌≡◌, ◌==◌, ◌^◌, ◌≤◌, [], ◌∷◌, length, IfOk, OnOk, OnErr}, Arc.arc_slice_items};
+ghost use Rattle.shop_model.specs.SharedWords.{CanBeShared};
+ghost use Rattle.shop_nodes.specs.inner.HeldNodes.{child_nodes, stack_nodes, AreSharable, AreWithin, IsWithin};
+ghost use Rattle.shop_runs.specs.inner.NodeLists.{least_of_bounds, AreBelow};
 ghost use Rattle.shop_runs.specs.inner.Outcomes.{left_open, open_of};
 
 use crate::bound_maps::BoundMap;
 use crate::bound_rows::BoundRow;
+use crate::distant_nodes::DistantNodes;
 use crate::kept_stacks::KeptStack;
 use crate::plans::Order;
 use shop_model::SharedWord;
@@ -45,7 +46,9 @@ impl Drop for OpenNodes {
 }
 
 impl OpenNodes {
-    ghost use Rattle.shop_runs.specs.inner.Stores.{open_list, order_of, IsPut, ArePut, IsTaken, IsKeptBelow, HasPopped};
+    ghost use Rattle.shop_runs.specs.inner.Stores.{open_list, order_of, IsPut, IsTaken, IsKeptBelow, HasPopped};
+    ghost use Rattle.shop_runs.specs.inner.Distant.{ArePutOrCounted, IsRetired};
+    ghost use Rattle.shop_runs.specs.declared.plans.Order.TheVariants.{Kept};
 
     /// Makes an empty store, which will hold open nodes of bounds below `makespan` in `order`, of an instance of
     /// `operations` operations.
@@ -78,30 +81,50 @@ impl OpenNodes {
         }
     }
 
-    /// Puts those of `nodes` whose bounds are below `limit` into the store, from the last to the first. Jobs that are
-    /// shared stay shared; others are copied. Fails with `NoMemory` if memory runs out.
+    /// Puts a copy of `node` into the store if its bound is below `limit`, or counts it in `distant` if its bound isn't
+    /// below the horizon there. Jobs that are shared stay shared; others are copied. Fails with `NoMemory` if memory
+    /// runs out.
+    fn put_copy(
+        &mut self,
+        alloc: Global,
+        limit: u64,
+        node: &Node,
+        distant: &mut DistantNodes,
+    ) -> Result<(), NoMemory>
+        requires { CanBeShared node.now.word }
+        ensures { OnOk result (ArePutOrCounted limit (node.now ∷ []) self.old distant.old self.new distant.new) }
+    {
+        if node.bound >= limit {
+            return Ok(());
+        }
+        if node.bound >= distant.horizon {
+            return distant.add(node.bound, 1);
+        }
+        self.put(alloc, SharedNode::of(alloc, node.copied(alloc)?)?)
+    }
+
+    /// Does what `put_copy` does for each of `nodes`, from the last to the first. Fails with `NoMemory` if memory runs
+    /// out.
     pub(crate) fn put_nodes(
         &mut self,
         alloc: Global,
         limit: u64,
         nodes: &[Node],
+        distant: &mut DistantNodes,
     ) -> Result<(), NoMemory>
         requires { AreSharable nodes.now }
-        ensures { OnOk result (ArePut (nodes_below limit nodes.now) self.old self.new) }
+        ensures { OnOk result (ArePutOrCounted limit nodes.now self.old distant.old self.new distant.new) }
     {
         let mut left = nodes.len();
         while left > 0 {
             left -= 1;
-            let node = &nodes[left];
-            if node.bound < limit {
-                self.put(alloc, SharedNode::of(alloc, node.copied(alloc)?)?)?;
-            }
+            self.put_copy(alloc, limit, &nodes[left], distant)?;
         }
         Ok(())
     }
 
-    /// Puts the node of `waiting` into the store if it is an open child with a bound below `limit`. Its word shares the
-    /// jobs of `path`. Fails with `NoMemory` if memory runs out.
+    /// Puts or counts the node of `waiting`, as `put_copy` does, if it is an open child. Its word shares the jobs of
+    /// `path`. Fails with `NoMemory` if memory runs out.
     #[inline(always)]
     fn put_if_open(
         &mut self,
@@ -109,10 +132,11 @@ impl OpenNodes {
         limit: u64,
         path: &ArcSlice<u16, Global>,
         waiting: Waiting,
+        distant: &mut DistantNodes,
     ) -> Result<(), NoMemory>
         requires { IsWithin (arc_slice_items path.now) waiting }
-        ensures { OnOk result (ArePut
-            (nodes_below limit (child_nodes (arc_slice_items path.now) waiting)) self.old self.new) }
+        ensures { OnOk result (ArePutOrCounted limit (child_nodes (arc_slice_items path.now) waiting)
+            self.old distant.old self.new distant.new) }
     {
         let Waiting::Child(child) = waiting else {
             return Ok(());
@@ -120,50 +144,70 @@ impl OpenNodes {
         if child.bound >= limit {
             return Ok(());
         }
+        if child.bound >= distant.horizon {
+            return distant.add(child.bound, 1);
+        }
         let word = SharedWord::along(path, child.depth, child.job)?;
         self.put(alloc, SharedNode::new(word, child.bound))
     }
 
-    /// Puts the open children with bounds below `limit` that wait at `halt` into the store, from the first entry of
-    /// `halt.waiting` to the last, which is walked first. Fails with `NoMemory` if memory runs out.
-    fn put_waiting(&mut self, alloc: Global, limit: u64, halt: &Halt) -> Result<(), NoMemory>
+    /// Does what `put_if_open` does for all that waits at `halt`, from the first entry of `halt.waiting` to the last,
+    /// which is walked first. Fails with `NoMemory` if memory runs out.
+    fn put_waiting(
+        &mut self,
+        alloc: Global,
+        limit: u64,
+        halt: &Halt,
+        distant: &mut DistantNodes,
+    ) -> Result<(), NoMemory>
         requires { AreWithin (arc_slice_items halt.now.path) halt.now.waiting.items }
-        ensures { OnOk result (ArePut (nodes_below limit
-            (stack_nodes (arc_slice_items halt.now.path) halt.now.waiting.items)) self.old self.new) }
+        ensures { OnOk result (ArePutOrCounted limit
+            (stack_nodes (arc_slice_items halt.now.path) halt.now.waiting.items)
+            self.old distant.old self.new distant.new) }
     {
         for &waiting in &halt.waiting {
-            self.put_if_open(alloc, limit, &halt.path, waiting)?;
+            self.put_if_open(alloc, limit, &halt.path, waiting, distant)?;
         }
         Ok(())
     }
 
-    /// Puts the nodes that a search left open and whose bounds are below `makespan` into the store, from the last one
-    /// to the first. Fails with `NoMemory` if memory runs out.
-    fn put_open(&mut self, alloc: Global, makespan: u64, left: &Left) -> Result<(), NoMemory>
-        ensures { OnOk result (ArePut (nodes_below makespan (open_of left.now)) self.old self.new) }
+    /// Puts or counts the nodes that a search left open and whose bounds are below `makespan`, from the last one to the
+    /// first. Fails with `NoMemory` if memory runs out.
+    fn put_open(
+        &mut self,
+        alloc: Global,
+        makespan: u64,
+        left: &Left,
+        distant: &mut DistantNodes,
+    ) -> Result<(), NoMemory>
+        ensures { OnOk result (ArePutOrCounted makespan (open_of left.now) self.old distant.old self.new distant.new) }
     {
         let (own, halt, untaken) = left.parts();
         let limit = makespan.min(own);
-        self.put_nodes(alloc, limit, untaken)?;
+        self.put_nodes(alloc, limit, untaken, distant)?;
         match halt {
-            Some(halt) => self.put_waiting(alloc, limit, halt),
+            Some(halt) => self.put_waiting(alloc, limit, halt, distant),
             None => Ok(()),
         }
     }
 
-    /// Puts each node that searches left open and whose bound is below `makespan` into the store, from the end of
-    /// `left` to its start. Fails with `NoMemory` if memory runs out.
+    /// Puts each node that searches left open and whose bound is below `makespan` into the store, or counts it in
+    /// `distant` if its bound isn't below the horizon there, from the end of `left` to its start. Fails with `NoMemory`
+    /// if memory runs out.
+    // out of line, so that what it holds takes no stack while pieces are searched
+    #[inline(never)]
     pub(crate) fn put_left(
         &mut self,
         alloc: Global,
         makespan: u64,
         mut left: Vec<Left>,
+        distant: &mut DistantNodes,
     ) -> Result<(), NoMemory>
-        ensures { OnOk result
-            (ArePut (nodes_below makespan (left_open left.entry.items)) self.old self.new) }
+        ensures { OnOk result (ArePutOrCounted makespan (left_open left.entry.items)
+            self.old distant.old self.new distant.new) }
     {
         while let Some(of_sheet) = left.pop() {
-            self.put_open(alloc, makespan, &of_sheet)?;
+            self.put_open(alloc, makespan, &of_sheet, distant)?;
         }
         Ok(())
     }
@@ -229,6 +273,23 @@ impl OpenNodes {
                 Ok(())
             }
             OpenNodes::InMap(nodes) => nodes.keep_below(makespan),
+        }
+    }
+
+    /// In a row, keeps the nodes of least bounds, up to the first bound with which they are `most` or more, and counts
+    /// the others in `distant`, whose horizon then is at most one above that bound. Fails with `NoMemory` if memory
+    /// runs out.
+    // out of line, so that what it holds takes no stack while pieces are searched
+    #[inline(never)]
+    pub(crate) fn retire(&mut self, most: usize, distant: &mut DistantNodes) -> Result<(), NoMemory>
+        ensures order { OnOk result (order_of self.new ≡ order_of self.old) }
+        ensures retired { OnOk result (IsRetired most (open_list self.old) distant.old
+            (open_list self.new) distant.new) }
+        ensures kept { order_of self.old ≡ Kept → OnOk result (distant.new.horizon ≡ distant.old.horizon) }
+    {
+        match self {
+            OpenNodes::InRow(nodes) => nodes.retire(most, distant),
+            OpenNodes::AsKept(_) | OpenNodes::InMap(_) => Ok(()),
         }
     }
 

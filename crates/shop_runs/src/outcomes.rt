@@ -1,10 +1,10 @@
 // The result of a round, from the sheets of its pieces, and the standing after the round.
-ghost use Rattle.std.specs.Prelude.{◌≡◌, ◌+◌, ◌<◌, ◌^◌, IfOk, OnOk};
+ghost use Rattle.std.specs.Prelude.{◌≡◌, ◌+◌, ◌<◌, ◌^◌, ◌++◌, IfOk, OnOk};
 ghost use Rattle.shop_runs.specs.{Entries.told, Crews.OneForEach, inner.Outcomes.{IsOutcome, TakesIn, left_open}};
 ghost use Rattle.shop_runs.specs.Standings.{IsGatheredOf, GatheredCovers, IsStandingOf};
 
 use crate::entries::{Entry, Kind};
-use crate::rounds::{Round, copies_of};
+use crate::rounds::Round;
 use crate::standings::Standing;
 use shop_model::Word;
 use shop_nodes::{Left, Node, Sheet};
@@ -78,15 +78,19 @@ pub fn outcome_of<'r>(
     Ok(outcome)
 }
 
-/// Lists the nodes that searches left open, in the order of `left`. Fails with `NoMemory` if memory runs out.
-fn nodes_left(alloc: Global, left: &[Left]) -> Result<Vec<Node>, NoMemory>
-    ensures { IfOk result (λ v. v.items ≡ left_open left.now) }
+/// Lists the nodes that searches left open, in the order of `left`, and then copies of `rest`. Fails with `NoMemory` if
+/// memory runs out.
+fn open_after(alloc: Global, left: &[Left], rest: &[Node]) -> Result<Vec<Node>, NoMemory>
+    ensures { IfOk result (λ v. v.items ≡ left_open left.now ++ rest.now) }
 {
-    let mut nodes = Vec::new(alloc);
+    let mut open = Vec::new(alloc);
     for of_sheet in left {
-        of_sheet.add_open(alloc, &mut nodes)?;
+        of_sheet.add_open(alloc, &mut open)?;
     }
-    Ok(nodes)
+    for node in rest {
+        open.push(node.copied(alloc)?)?;
+    }
+    Ok(open)
 }
 
 /// Makes the standing after a round from `entries`, one for each piece in order. Fails with `NoMemory` if memory runs
@@ -107,8 +111,7 @@ pub fn gather<'r>(
         left,
         nodes,
     } = outcome_of(alloc, round, entries)?;
-    let mut open = nodes_left(alloc, left.as_slice())?;
-    open.append(&mut copies_of(alloc, round.rest.as_slice())?)?;
+    let mut open = open_after(alloc, left.as_slice(), round.rest.as_slice())?;
     open.retain(|node| node.bound < makespan);
     let best = round.word.copied(alloc)?;
     Ok(Standing {

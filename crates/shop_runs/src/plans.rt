@@ -1,5 +1,8 @@
-// Plans, which say how many rounds a search has and how they are cut, and the limits of plans, rounds and workers.
-ghost use Rattle.shop_runs.specs.Limits.{IsPlanWithin};
+// Plans, which say how many rounds a search has and how they are cut; the orders in which rounds take open nodes; and
+// the limits of plans, rounds and workers.
+ghost use Rattle.std.specs.Prelude.{◌≡◌, ◌<◌, ◌≤◌, ◌↔◌, IsSome, IfSome, MatchOption};
+ghost use Rattle.shop_runs.specs.{Limits.IsPlanWithin, Orders.{order_word, IsNoOrderWord}};
+ghost use Rattle.shop_runs.specs.declared.plans.TheConstants.{MAX_WORKERS};
 
 /// The most rounds that a plan may have.
 pub const MAX_ROUNDS: u64 = 100_000;
@@ -24,6 +27,36 @@ pub enum Order {
     Bound,
 }
 
+/// All orders.
+pub const ORDERS: [Order; 2] = [Order::Kept, Order::Bound];
+
+/// The words of `ORDERS`, in their order.
+pub static ORDER_WORDS: [&str; 2] = ["kept", "bound"];
+
+impl Order {
+    /// Answers the word for the order on a command line.
+    pub fn word(self) -> &'static str
+        ensures { result.now ≡ order_word self }
+    {
+        match self {
+            Order::Kept => ORDER_WORDS[0],
+            Order::Bound => ORDER_WORDS[1],
+        }
+    }
+
+    /// Finds the order whose word is `word`; `None` if there is none.
+    pub fn of_word(word: &str) -> Option<Order>
+        ensures { MatchOption result (IsNoOrderWord word.now) (λ order. order_word order ≡ word.now) }
+    {
+        for order in ORDERS {
+            if order.word() == word {
+                return Some(order);
+            }
+        }
+        None
+    }
+}
+
 /// How a search goes: its rounds (0 to 100,000), the budget of each piece (1 to 10,000,000 nodes), the nodes in a piece
 /// (1 to 1,000), and the order in which a round takes the open nodes.
 #[derive(Clone, Copy)]
@@ -36,7 +69,6 @@ pub struct Plan {
 }
 
 impl Plan {
-    ghost use Rattle.std.specs.Prelude.{◌↔◌, IsSome, IfSome};
     ghost use Rattle.shop_runs.specs.{Plans.IsPlanMadeOf, declared.plans.Order.TheVariants.Kept};
 
     /// Makes a plan, or answers `None` if `rounds`, `budget` or `piece` is outside its limits.
@@ -67,5 +99,25 @@ impl Plan {
         ensures plan { IfSome result (λ p. IsPlanMadeOf rounds budget piece Kept p) }
     {
         Plan::ordered(rounds, budget, piece, Order::Kept)
+    }
+}
+
+/// The number of workers that search in parallel: 1 to 64.
+#[derive(Clone, Copy)]
+pub struct Workers {
+    pub count: usize,
+    pub ghost few: { (0 < count) × (count ≤ MAX_WORKERS) },
+}
+
+impl Workers {
+    /// Answers `count` as a number of workers, or `None` if it isn't 1 to 64.
+    pub fn new(count: usize) -> Option<Workers>
+        ensures within { IsSome result ↔ ((0 < count) × (count ≤ MAX_WORKERS)) }
+        ensures keeps { IfSome result (λ workers. workers.count ≡ count) }
+    {
+        if count == 0 || count > MAX_WORKERS {
+            return None;
+        }
+        Some(Workers { count })
     }
 }

@@ -75,17 +75,6 @@ impl<'r> Round<'r> {
     }
 }
 
-/// Answers copies of `nodes`, in order. Fails with `NoMemory` if memory runs out.
-pub fn copies_of(alloc: Global, nodes: &[Node]) -> Result<Vec<Node>, NoMemory>
-    ensures { IfOk result (λ v. v.items ≡ nodes.now) }
-{
-    let mut copies = Vec::with_capacity(alloc, nodes.len())?;
-    for node in nodes {
-        copies.push(node.copied(alloc)?)?;
-    }
-    Ok(copies)
-}
-
 /// Answers an empty list: that of the last piece of `spare`, which keeps its memory, or a new one if there is none.
 fn spare_list(alloc: Global, spare: &mut Vec<Piece>) -> Vec<Node>
     ensures { result.items ≡ [] }

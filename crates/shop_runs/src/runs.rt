@@ -1,8 +1,9 @@
 // Runs, which search round after round until no node is open or the plan's rounds are done.
-ghost use Rattle.std.specs.Prelude.{◌≡◌, ◌^◌, ◌<◌, IfOk, IfSome};
+ghost use Rattle.std.specs.Prelude.{◌≡◌, ◌^◌, ◌<◌, [], IfOk, IfSome};
 ghost use Rattle.shop_runs.specs.{Limits.IsCountWithin, Runs.{SaysAnswer, IsTrusted}};
 
 use crate::crews::Crew;
+use crate::distant_nodes::DistantNodes;
 use crate::machine_orders::layout_for;
 use crate::open_nodes::OpenNodes;
 use crate::outcomes::{RoundResult, outcome_of};
@@ -13,10 +14,12 @@ use shop_layout::Layout;
 use shop_model::{Instance, Table, Word, place};
 use shop_nodes::Piece;
 use std::alloc::{AllocError as NoMemory, Global};
+use std::mem;
 
 /// A run between two rounds: the best word and its makespan, the rounds done, the nodes counted, and the store of the
-/// open nodes, in the order in which the next round takes them. `spare` has the pieces of the last round, whose lists
-/// the next round takes over.
+/// open nodes, in the order in which the next round takes them. `distant` counts the open nodes behind those of the
+/// store, which no round that is left can take. `spare` has the pieces of the last round, whose lists the next round
+/// takes over.
 #[derive(Drop)]
 pub(crate) struct OpenRun {
     pub(crate) word: Word,
@@ -24,15 +27,16 @@ pub(crate) struct OpenRun {
     pub(crate) rounds: u64,
     pub(crate) nodes: u64,
     pub(crate) open: OpenNodes,
+    pub(crate) distant: DistantNodes,
     pub(crate) spare: Vec<Piece>,
     pub(crate) ghost within: { IsCountWithin rounds nodes },
 }
 
 impl OpenRun {
     ghost use Rattle.shop_runs.specs.{Standings.{IsStandingOf, stands}, Plans.planned};
-    ghost use Rattle.shop_runs.specs.inner.Searches.{stand_of, IsSearchAt, IsSearchOf, IsFront};
-    ghost use Rattle.shop_runs.specs.Round.{round as next_round};
-    ghost use Rattle.shop_runs.specs.Answers.{answer as answer_of_plan};
+    ghost use Rattle.shop_runs.specs.inner.Searches.{IsSearchAt, IsSearchOf, IsFront, IsRunAt, IsRunOf};
+    ghost use Rattle.shop_runs.specs.{Laws.IsStanding, Round.{Stand, round as next_round}};
+    ghost use Rattle.shop_runs.specs.{Answers.{answer as answer_of_plan}, inner.Distant.HaveCounts};
 
     /// Makes the run at `standing`, whose open nodes it stores in `order`. Fails with `NoMemory` if memory runs out.
     pub(crate) fn of(
@@ -42,17 +46,26 @@ impl OpenRun {
         standing: Standing,
     ) -> Result<OpenRun, NoMemory>
         requires { IsStandingOf instance.now standing }
-        ensures { IfOk result (λ t. IsSearchAt instance.now order (stands standing) t) }
+        ensures at { IfOk result (λ t. IsSearchAt instance.now order (stands standing) t) }
+        ensures near { IfOk result (λ t. t.distant.horizon ≡ t.makespan) }
+        ensures all { IfOk result (λ t. HaveCounts t.distant.counts.items []) }
     {
         instance.keeps_limits();
         let mut open = OpenNodes::new(alloc, order, standing.makespan, instance.operations());
-        open.put_nodes(alloc, standing.makespan, standing.open.as_slice())?;
+        let mut distant = DistantNodes::none(alloc, standing.makespan);
+        open.put_nodes(
+            alloc,
+            standing.makespan,
+            standing.open.as_slice(),
+            &mut distant,
+        )?;
         Ok(OpenRun {
             word: standing.word,
             makespan: standing.makespan,
             rounds: standing.rounds,
             nodes: standing.nodes,
             open,
+            distant,
             spare: Vec::new(alloc),
         })
     }
@@ -93,9 +106,11 @@ impl OpenRun {
     }
 
     /// Searches one more round. Answers the run after the round, and the round's layout, which `layout_for` chose;
-    /// `kept` is the last round's layout, if there was one. Fails with `NoMemory` if memory runs out.
+    /// `kept` is the last round's layout, if there was one. A row of stacks by bound keeps at least as many nodes as
+    /// the rounds left can take and one more, which tells the least bound at the end. Fails with `NoMemory` if memory
+    /// runs out.
     fn next<'r, R, C: Crew<R>>(
-        self,
+        mut self,
         rt: &R,
         alloc: Global,
         instance: &'r Instance,
@@ -106,12 +121,17 @@ impl OpenRun {
         requires ready { C.ready }
         requires layout { IfSome kept (λ l. l ≡ instance.now) }
         requires rounds { self.rounds < plan.now.rounds }
-        requires search { IsSearchOf instance.now plan.now.order self }
-        ensures next { IfOk result (λ p. IsSearchAt instance.now plan.now.order
-            (next_round instance.now (planned plan.now) (stand_of self)) p.0) }
+        requires search { IsRunOf instance.now (planned plan.now) self }
+        ensures next { IfOk result (λ p. (s : Stand) → IsRunAt instance.now (planned plan.now) s self
+            → IsStanding instance.now s
+            → IsRunAt instance.now (planned plan.now) (next_round instance.now (planned plan.now) s) p.0) }
         ensures layout { IfOk result (λ p. p.1 ≡ instance.now) }
     {
         let opening = self.makespan;
+        let rounds_left = (plan.rounds - self.rounds - 1) as usize;
+        let most = rounds_left * (MAX_PIECES * plan.piece) + 1;
+        // `cut` takes the run apart.
+        let mut distant = mem::replace(&mut self.distant, DistantNodes::none(alloc, 0));
         let (round, mut open) = self.cut(alloc, instance, kept, plan)?;
         let entries = crew.search(rt, alloc, &round)?;
         let RoundResult {
@@ -121,7 +141,9 @@ impl OpenRun {
             nodes,
         } = outcome_of(alloc, &round, entries)?;
         open.keep_below(opening, makespan)?;
-        open.put_left(alloc, makespan, left)?;
+        distant.keep_below(makespan);
+        open.put_left(alloc, makespan, left, &mut distant)?;
+        open.retire(most, &mut distant)?;
         let Round {
             word,
             pieces,
@@ -135,6 +157,7 @@ impl OpenRun {
             rounds: rounds + 1,
             nodes,
             open,
+            distant,
             spare: pieces,
         };
         Ok((next, layout))
@@ -150,7 +173,7 @@ impl OpenRun {
         crew: &mut C,
     ) -> Result<OpenRun, NoMemory>
         requires { C.ready }
-        ensures { IfOk result (λ t. IsSearchAt instance.now plan.now.order
+        ensures { IfOk result (λ t. IsRunAt instance.now (planned plan.now)
             (answer_of_plan instance.now (planned plan.now)) t) }
     {
         let start = Standing::start(alloc, instance)?;
@@ -170,7 +193,7 @@ impl OpenRun {
 
 /// The answer of a run: the best word with its schedule and makespan, the bound before which no feasible schedule ends,
 /// the number of open nodes, the rounds done and the nodes counted. If no node is open, the makespan is least. Dropping
-/// the answer also drops the open nodes, one by one.
+/// the answer also drops the stored open nodes, one by one.
 #[derive(Drop)]
 pub struct Answer {
     pub word: Word,
@@ -201,7 +224,8 @@ pub fn run<R, C: Crew<R>>(
 {
     let end = OpenRun::at_end(rt, alloc, instance, plan, crew)?;
     let bound = end.open.least_bound(end.makespan);
-    let open_nodes = end.open.count()?;
+    let distant = end.distant.count()?;
+    let open_nodes = end.open.count()?.checked_add(distant).ok_or(NoMemory)?;
     let table = place(alloc, instance, &end.word)?;
     Ok(Answer {
         word: end.word,

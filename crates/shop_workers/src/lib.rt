@@ -5,7 +5,6 @@ mod boards;
 mod gates;
 mod lock_search;
 mod ordering;
-mod pools;
 mod round_hits;
 mod rules;
 mod seat_laws;
@@ -15,9 +14,8 @@ mod working;
 
 pub use boards::{Board, Seat};
 pub use gates::{Gate, OpenGate, SeatGate};
-pub use lock_search::serve;
+pub use lock_search::{Pool, serve};
 pub use ordering::in_order;
-pub use pools::Pool;
 pub use seat_laws::has_all;
 pub use seat_lending::{Lent, Returned, complete_returned, seats_for_workers};
 pub use working::claim_and_search_all;

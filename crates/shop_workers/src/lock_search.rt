@@ -1,13 +1,47 @@
 // A worker that takes piece numbers from a locked pool and searches these pieces.
-ghost use Rattle.std.specs.{Prelude.{◌≡◌, ◌<◌, ◌≤◌, length, true, IfOk, OnOk}, List.AllPairs};
+ghost use Rattle.std.specs.{Prelude.{◌≡◌, ◌+◌, ◌<◌, ◌≤◌, length, true, IfOk, OnOk, IfSome, IfNone}, List.AllPairs};
 ghost use Rattle.shop_runs.specs.{Entries.{told, is_hit}, Crews.IsEntryOf, Hits.{hits_of_round, IsHitOrEnd}};
 ghost use Rattle.shop_workers.specs.Entries.{OfRound, IsPassed, LetsPass};
 
 use crate::gates::Gate;
-use crate::pools::Pool;
 use shop_runs::{Entry, PieceSearch, Round};
 use std::alloc::{AllocError as NoMemory, Global};
 use std::sync::{Mutex, Wait};
+
+/// The piece numbers that no worker has taken yet: those from `next` up to `pieces` (excluded). For library callers:
+/// the program doesn't use `Pool`.
+#[derive(Drop)]
+pub struct Pool {
+    pieces: usize,
+    next: usize,
+    ghost within: { next ≤ pieces },
+}
+
+impl Pool {
+    /// Makes a pool of the numbers below `pieces`, none of them taken.
+    pub fn open(pieces: usize) -> Pool
+        ensures pieces { result.pieces ≡ pieces }
+        ensures next { result.next ≡ 0 }
+    {
+        Pool { pieces, next: 0 }
+    }
+
+    /// Takes the number `next`, and raises `next` by one. If no number is left, answers `None` and changes nothing.
+    pub fn take(&mut self) -> Option<usize>
+        ensures pieces { self.new.pieces ≡ self.old.pieces }
+        ensures number { IfSome result (λ n. (n ≡ self.old.next) × (n < self.old.pieces)) }
+        ensures rises { IfSome result (λ n. self.new.next ≡ n + 1) }
+        ensures end { IfNone result (self.old.next ≡ self.old.pieces) }
+        ensures same { IfNone result (self.new.next ≡ self.old.next) }
+    {
+        if self.next >= self.pieces {
+            return None;
+        }
+        let number = self.next;
+        self.next += 1;
+        Some(number)
+    }
+}
 
 /// Searches piece `number`, or passes it if `low` is lower, and answers its entry. Sets `low` to `number` if the
 /// piece's makespan equals the opening bound. Before the worker's first such piece, `low` is the number of pieces.

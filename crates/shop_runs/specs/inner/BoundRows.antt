@@ -2,6 +2,7 @@
 --     AreEmptyBelow n stacks      there are n places or more, and no stack before the n-th
 --     StaysEmpty before after     where there was none before the n-th place, there is none
 --     IsFirstFrom stacks n first  no stack from the n-th place up to the first, which has one or is the end
+--     IsBehind first most stacks k  before place k, behind the first one, stand `most` nodes or more
 --     TakesTop word before after  the top word is taken from the stack at a place, if there is one
 use Rattle.std.specs.Prelude.{◌≡◌, ℕ, ◌<◌, ◌≤◌, List, [], ◌∷◌, Option, Some, None, IsSome, length, take, drop}
 use Rattle.std.specs.Prelude.{slice_index_or}
@@ -17,6 +18,9 @@ abbrev pub IsFirstFrom : List Place → ℕ → ℕ → Type 0
 IsFirstFrom stacks n first = (n ≤ first) × (first ≤ length stacks)
     × (nodes_in_row n (drop n stacks) ≡ nodes_in_row first (drop first stacks))
     × (first < length stacks → IsSome (slice_index_or stacks first None))
+
+abbrev pub IsBehind : ℕ → ℕ → List Place → ℕ → Type 0
+IsBehind first most stacks k = (first < k) × (k ≤ length stacks) × (most ≤ length (nodes_in_row 0 (take k stacks)))
 
 abbrev pub TakesTop : Option (List ℕ) → Place → Place → Type 0
 TakesTop None before after = (before ≡ None) × (after ≡ None)

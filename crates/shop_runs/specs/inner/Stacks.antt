@@ -1,5 +1,4 @@
 -- Open nodes in the order in which the next cut takes them.
---     words_in chunk                 the words of a chunk, from its top down
 --     words_on stack                 the words of a stack, from its top down
 --     Place                          a place of a row: the stack of a bound, if there is one
 --     words_at place                 the words of this stack
@@ -13,14 +12,10 @@
 use Rattle.std.specs.Prelude.{◌≡◌, ℕ, suc, ◌≤◌, Option, Some, None, List, [], ◌∷◌, ◌++◌, map, flat_map, reverse, length}
 use Rattle.std.specs.Global.{Box}
 use Rattle.shop_nodes.specs.{Branching.insert_by, declared.nodes.Node.Node}
-use Rattle.shop_runs.specs.{declared.stacks.Chunk.Chunk, declared.stacks.Stack.Stack, declared.plans.Order.Order}
-use Rattle.shop_runs.specs.declared.plans.Order.TheVariants.{Kept, Bound}
-
-abbrev pub words_in : Chunk → List (List ℕ)
-words_in b = b.top ∷ reverse b.below.items
+use Rattle.shop_runs.specs.declared.{stacks.Stack.Stack, plans.Order.Order, plans.Order.TheVariants.{Kept, Bound}}
 
 abbrev pub words_on : Stack → List (List ℕ)
-words_on s = words_in s.topmost ++ flat_map words_in (reverse s.covered.items)
+words_on s = s.top ∷ reverse (flat_map (λ c. c.items) s.covered.items ++ s.below.items)
 
 abbrev pub Place : Type 0
 Place = Option (Box Stack)

@@ -10,11 +10,8 @@ pub returns-clause-gathered : goal.returns-clause-gathered
 returns-clause-gathered c =
     let r = c.args.round.now
     in let o = c.in_ok-found.field-0
-    in let left : c.in_ok-open.open.items ≡ left_open o.left.items =
-    c.in_ok-open.ensures ∙ ap left_open c.as_slice.ensures.value
-    in let rest : c.in_ok-copies_of.field-0.items ≡ r.rest.items =
-    c.in_ok-copies_of.ensures ∙ c.as_slice-2.ensures.value
-    in let joined = c.in_ok-append.ensures.items ∙ (λ j. left j ++ rest j)
+    in let joined : c.in_ok-open.open.items ≡ left_open o.left.items ++ r.rest.items =
+    c.in_ok-open.ensures ∙ (λ j. left_open (c.as_slice.ensures.value j) ++ c.as_slice-2.ensures.value j)
     in let kept = filter_same _ _ _ (λ x b f k. search rules) _ _ c.retain.ensures.filtered
     in stands_gathered r o _ c.in_ok-found.ensures (c.unwrap_or.ensures ∙ ap (unwrap_or o.found) c.in_ok-best.ensures)
     refl (kept ∙ ap (nodes_below o.makespan) joined) refl refl

@@ -1,25 +1,34 @@
-use Rattle.std.proofs.Common.{refl, sym, ◌∙◌, subst}
+use Rattle.std.proofs.Common.{◌≡◌, ◌+◌, length, refl, sym, ◌∙◌, subst, arith}
 use Rattle.shop_model.specs.Word.{IsFull}
 use Rattle.shop_runs.specs.Answers.{answer}
 use Rattle.shop_runs.specs.Plans.{planned}
-use Rattle.shop_runs.proofs.Answering.{word_same, says_search, trust_says}
-use Rattle.shop_runs.proofs.Trusting.{trustworthy}
+use Rattle.shop_runs.specs.inner.Searches.{in_full}
+use Rattle.shop_runs.specs.inner.Stores.{open_list}
+use Rattle.shop_runs.proofs.Answering.{word_same, trust_says}
+use Rattle.shop_runs.proofs.Trusting.{trustworthy, answer_covers}
+use Rattle.shop_runs.proofs.Ways.{says_run}
 use Rattle.shop_runs.proofs.runs.run.Goals as goal
 
 pub place-requires : goal.place-requires
 place-requires g c =
     let shop = c.args.instance.now
     in let plan = planned c.args.plan.now
-    in subst (IsFull shop)
-    (sym (word_same shop plan.order (answer shop plan) c.in_ok-end.end c.in_ok-end.ensures))
+    in let t = c.in_ok-end.end
+    in let run = c.in_ok-end.ensures
+    in subst (IsFull shop) (sym (word_same shop plan.order (answer shop plan) (in_full t run.distant) run.at))
     (trustworthy shop plan).full
 
 pub returns-clause-says : goal.returns-clause-says
 returns-clause-says g c =
     let shop = c.args.instance.now
     in let plan = planned c.args.plan.now
-    in says_search shop plan.order (answer shop plan) c.in_ok-end.end c.in_ok-end.ensures _ refl
-    c.in_ok-table.ensures.table refl c.least_bound-bound.ensures c.in_ok-open_nodes.ensures.count refl refl
+    in let t = c.in_ok-end.end
+    in let run = c.in_ok-end.ensures
+    in let open_nodes : c.in_ok-open_nodes.open_nodes ≡ length (open_list t.open) + length run.distant =
+    (let d = c.in_ok-distant.ensures run.distant run.are_distant.counted in let n = c.in_ok-count.ensures.count
+    in grind arith)
+    in says_run shop plan (answer shop plan) t run (answer_covers shop plan).0 _ refl c.in_ok-table.ensures.table refl
+    c.least_bound-bound.ensures open_nodes refl refl
 
 pub returns-clause-trust : goal.returns-clause-trust
 returns-clause-trust g c =

@@ -1,27 +1,25 @@
-use Rattle.std.proofs.Common.{arith, ◌≡◌, ◌+◌, ◌-◌, ◌<◌, ◌∷◌, ◌++◌, [], take, sym, ◌∙◌, ap}
+use Rattle.std.proofs.Common.{arith, ◌≡◌, ◌+◌, ◌-◌, ◌∷◌, ◌++◌, [], take, sym, ◌∙◌, ap, subst}
 use Rattle.std.proofs.lemmas.List.{take_more}
-use Rattle.shop_runs.specs.inner.Stacks.{put_before}
-use Rattle.shop_runs.specs.inner.Stores.{open_list, order_of}
-use Rattle.shop_runs.proofs.StoreLemmas.{put_last}
+use Rattle.shop_runs.proofs.PutLemmas.{IsLeftToPut, part_put}
 use Rattle.shop_runs.proofs.open_nodes.OpenNodes.put_nodes.Goals as goal
 
-pub loop-left-preserved-in_ok-put : goal.loop-left-preserved-in_ok-put
-loop-left-preserved-in_ok-put c =
-    let now = c.loop-left.invariant
-    in let order = order_of c.args.self.now
-    in let limit = c.args.limit
+pub loop-left-preserved : goal.loop-left-preserved
+loop-left-preserved c =
+    let ns = c.args.nodes.now
     in let k = c.loop-left.left - 1
-    in let ns = c.args.nodes.now
-    in let nodes = open_list c.loop-left.self
     in let n = c.index-nodes-left.result
+    in let now = c.loop-left
+    in let next = c.put_copy.new
     in let some = c.loop-left-test.true
-    in let within = now.within
-    in let one : c.loop-left.left ≡ k + 1 = omega arith
-    in let more : take c.loop-left.left ns ≡ take k ns ++ n ∷ [] =
+    in let within = now.invariant.within
+    in let one : now.left ≡ k + 1 = omega arith
+    in let more : take now.left ns ≡ take k ns ++ n ∷ [] =
     ap (λ m. take m ns) one
     ∙ (take_more ns k n (omega arith) ∙ ap (λ m. take k ns ++ m ∷ []) (sym c.index-nodes-left.is))
-    in let low : n.bound < limit = c.if-node-limit.true
-    in let put = c.in_ok-put.ensures
-    in let here : open_list c.put.new.self ≡ put_before order n nodes =
-    put.1 ∙ (λ j. put_before (now.order j) ((c.in_ok-of.ensures ∙ c.in_ok-copied.ensures) j) nodes)
-    in grind (arith, put_last)
+    in record {
+      within = omega arith;
+      rest = part_put c.args.limit ns c.args.self.now c.args.distant.now (take k ns) (n ∷ []) now.self next.self
+          now.distant next.distant
+          (subst (λ rs. IsLeftToPut c.args.limit ns c.args.self.now c.args.distant.now rs now.self now.distant) more
+          now.invariant.rest) c.in_ok-put_copy.ensures;
+    }

@@ -1,36 +1,42 @@
-use Rattle.std.proofs.Common.{◌++◌, [], Some, ◌∙◌, ap}
+use Rattle.std.proofs.Common.{◌≡◌, ◌++◌, [], Some, sym, ◌∙◌, ap, subst}
 use Rattle.std.proofs.lemmas.Result.{on_ok_weaker}
 use Rattle.shop_nodes.specs.inner.HeldNodes.{nodes_below, halted_nodes}
+use Rattle.shop_runs.specs.inner.Distant.{ArePutOrCounted}
 use Rattle.shop_runs.specs.inner.Outcomes.{open_of}
-use Rattle.shop_runs.specs.inner.Stacks.{put_all_before}
-use Rattle.shop_runs.specs.inner.Stores.{open_list, order_of}
-use Rattle.shop_runs.proofs.StoreLemmas.{put_both}
+use Rattle.shop_runs.proofs.PutLemmas.{all_left, part_put, all_put, own_put}
 use Rattle.shop_runs.proofs.open_nodes.OpenNodes.put_open.Goals as goal
 
 pub returns-in-Some : goal.returns-in-Some
 returns-in-Some c =
-    let order = order_of c.args.self.now
+    let store = c.args.self.now
+    in let distant = c.args.distant.now
     in let own = c.parts-own.result.0
     in let untaken = c.parts-own.result.2.now
     in let limit = c.min-limit.result
-    in let first = halted_nodes (Some c.in-Some.halt)
-    in let put = c.in_ok-put_nodes.ensures
-    in let all = c.parts-own.ensures.open ∙ ap (λ h. nodes_below own (halted_nodes h ++ untaken)) c.in-Some.is
-    in on_ok_weaker c.put_waiting.result (λ then. (
-      then.0 ∙ put.0,
-      then.1 ∙ ((λ j. put_all_before (put.0 j) (nodes_below limit first) (put.1 j))
-          ∙ put_both order c.args.makespan own limit first untaken (open_of c.args.left.now) (open_list c.args.self.now)
-          c.min-limit.ensures all),
-    )) c.put_waiting.ensures
+    in let waiting = halted_nodes (Some c.in-Some.halt)
+    in let then = c.put_nodes.new
+    in let last = c.put_waiting.new
+    in let all : open_of c.args.left.now ≡ nodes_below own (waiting ++ untaken) =
+    c.parts-own.ensures.open ∙ ap (λ h. nodes_below own (halted_nodes h ++ untaken)) c.in-Some.is
+    in let left = part_put limit (waiting ++ untaken) store distant waiting untaken store then.self distant then.distant
+    (all_left limit (waiting ++ untaken) store distant) c.in_ok-put_nodes.ensures
+    in on_ok_weaker c.put_waiting.result (λ put.
+    subst (λ ns. ArePutOrCounted c.args.makespan ns store distant last.self last.distant) (sym all)
+    (own_put c.args.makespan own (waiting ++ untaken) store last.self distant last.distant
+    (subst (λ m. ArePutOrCounted m (waiting ++ untaken) store distant last.self last.distant) c.min-limit.ensures
+    (all_put limit (waiting ++ untaken) store distant last.self last.distant
+    (part_put limit (waiting ++ untaken) store distant [] waiting then.self last.self then.distant last.distant left
+    put))))) c.put_waiting.ensures
 
 pub returns-in-None : goal.returns-in-None
 returns-in-None c =
     let own = c.parts-own.result.0
     in let untaken = c.parts-own.result.2.now
-    in let put = c.in_ok-put_nodes.ensures
-    in let all = c.parts-own.ensures.open ∙ ap (λ h. nodes_below own (halted_nodes h ++ untaken)) c.in-None.is
-    in (
-      put.0,
-      put.1 ∙ put_both (order_of c.args.self.now) c.args.makespan own c.min-limit.result [] untaken
-          (open_of c.args.left.now) (open_list c.args.self.now) c.min-limit.ensures all,
-    )
+    in let last = c.put_nodes.new
+    in let all : open_of c.args.left.now ≡ nodes_below own untaken =
+    c.parts-own.ensures.open ∙ ap (λ h. nodes_below own (halted_nodes h ++ untaken)) c.in-None.is
+    in subst (λ ns. ArePutOrCounted c.args.makespan ns c.args.self.now c.args.distant.now last.self last.distant)
+    (sym all)
+    (own_put c.args.makespan own untaken c.args.self.now last.self c.args.distant.now last.distant
+    (subst (λ m. ArePutOrCounted m untaken c.args.self.now c.args.distant.now last.self last.distant)
+    c.min-limit.ensures c.in_ok-put_nodes.ensures))

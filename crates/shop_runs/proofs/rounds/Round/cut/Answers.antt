@@ -11,14 +11,14 @@ use Rattle.shop_runs.proofs.rounds.Round.cut.Goals as goal
 
 pub cut-requires-clause-search : goal.cut-requires-clause-search
 cut-requires-clause-search c = search_of c.args.instance.now c.args.plan.now.order (stands c.args.standing)
-    c.in_ok-search.search c.in_ok-search.ensures c.requires.standing.1
+    c.in_ok-search.search c.in_ok-search.ensures.at c.requires.standing.1
 
 pub returns-clause-cut : goal.returns-clause-cut
 returns-clause-cut c =
     let others = open_list c.in_ok-round.others
     in let many = c.in_ok-count.ensures.count
     in with_rest c.args.instance.now c.args.plan.now (stands c.args.standing) c.in_ok-search.search c.in_ok-round.round
-    c.in_ok-round.others c.in_ok-rest.rest.items c.in_ok-search.ensures c.in_ok-round.ensures
+    c.in_ok-round.others c.in_ok-rest.rest.items c.in_ok-search.ensures.at c.in_ok-round.ensures
     (c.in_ok-rest.ensures.1 ∙ take_all c.in_ok-count.count others (omega arith))
 
 pub invariant_of-round-clause-nodes_of_rest : goal.invariant_of-round-clause-nodes_of_rest
@@ -30,7 +30,7 @@ invariant_of-round-clause-is_round c =
     in let many = c.in_ok-count.ensures.count
     in let s = stands c.args.standing
     in let is = with_rest c.args.instance.now c.args.plan.now s c.in_ok-search.search c.in_ok-round.round
-    c.in_ok-round.others c.in_ok-rest.rest.items c.in_ok-search.ensures c.in_ok-round.ensures
+    c.in_ok-round.others c.in_ok-rest.rest.items c.in_ok-search.ensures.at c.in_ok-round.ensures
     (c.in_ok-rest.ensures.1 ∙ take_all c.in_ok-count.count others (omega arith))
     in subst IsRound (sym is) (cut_is_round c.args.instance.now (planned c.args.plan.now) s c.requires.standing.1)
 

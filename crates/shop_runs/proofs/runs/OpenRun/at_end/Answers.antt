@@ -2,7 +2,7 @@ use Rattle.std.proofs.Common.{rules, length, arith, refl, sym, eqb-true}
 use Rattle.shop_runs.specs.Plans.{planned}
 use Rattle.shop_runs.proofs.PieceLemmas.{some_open}
 use Rattle.shop_runs.specs.inner.Stores.{open_list}
-use Rattle.shop_runs.proofs.Answering.{way_first, way_search, way_next, way_closed, way_last}
+use Rattle.shop_runs.proofs.Ways.{way_first, way_search, way_next, way_closed, way_last}
 use Rattle.shop_runs.proofs.runs.OpenRun.at_end.Goals as goal
 
 pub loop-done-init : goal.loop-done-init

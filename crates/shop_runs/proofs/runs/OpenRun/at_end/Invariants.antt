@@ -1,6 +1,6 @@
 use Rattle.std.specs.Prelude.{◌≡◌, IfSome}
 use Rattle.shop_runs.specs.Plans.{planned}
-use Rattle.shop_runs.proofs.Answering.{OnTheWay}
+use Rattle.shop_runs.proofs.Ways.{OnTheWay}
 use Rattle.shop_runs.proofs.runs.OpenRun.at_end.Given as goal
 
 abbrev pub invariant-loop-done : goal.invariant-loop-done

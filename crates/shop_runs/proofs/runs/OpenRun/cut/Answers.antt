@@ -2,7 +2,7 @@ use Rattle.std.proofs.Common.{◌*◌, ◌<◌, sym, subst, arith}
 use Rattle.std.proofs.lemmas.List.Elements.{All-drop}
 use Rattle.shop_nodes.specs.Nodes.{IsNode, AreNodes}
 use Rattle.shop_runs.specs.Plans.{planned}
-use Rattle.shop_runs.specs.inner.OpenNodes.{AreBelow}
+use Rattle.shop_runs.specs.inner.NodeLists.{AreBelow}
 use Rattle.shop_runs.specs.inner.Stores.{open_list}
 use Rattle.shop_runs.proofs.FrontCuts.{is_front_cut, front_nodes, made_told}
 use Rattle.shop_runs.proofs.FrontCuts.{made_round, made_pieces, made_few, others_are}
@@ -55,6 +55,7 @@ returns c =
       rest = others_are shop plan c.args.self (open_list c.take.new.self) c.requires.search others;
       bounds = subst (AreNodes shop) (sym others)
           (All-drop (IsNode shop) (256 * plan.piece) (open_list c.args.self.open) c.requires.search.bounds);
+      left = others;
       below = subst (AreBelow c.args.self.makespan) (sym others)
           (All-drop (λ n. n.bound < c.args.self.makespan) (256 * plan.piece) (open_list c.args.self.open)
           (all_below shop c.args.self.makespan (open_list c.args.self.open) c.requires.search.bounds

@@ -1,22 +1,57 @@
-use Rattle.std.proofs.Common.{refl, arith}
+use Rattle.std.proofs.Common.{◌≡◌, ◌+◌, ◌-◌, ◌*◌, ◌<◌, take, refl, ◌∙◌, ap, subst, arith}
 use Rattle.shop_runs.specs.Plans.{planned}
-use Rattle.shop_nodes.specs.inner.HeldNodes.{nodes_below}
-use Rattle.shop_runs.specs.inner.Outcomes.{left_open}
-use Rattle.shop_runs.proofs.Answering.{next_round}
+use Rattle.shop_runs.specs.inner.Distant.{IsRetired}
+use Rattle.shop_runs.specs.inner.{Searches.most_left, Stores.open_list}
+use Rattle.shop_runs.proofs.DistantRuns.{near_search}
+use Rattle.shop_runs.proofs.DistantRounds.{run_next}
 use Rattle.shop_runs.proofs.runs.OpenRun.next.Goals as goal
 
+pub cut-requires-clause-search : goal.cut-requires-clause-search
+cut-requires-clause-search g c =
+    let run = c.requires.search
+    in let of = near_search c.args.instance.now (planned c.args.plan.now) run.0 c.args.self run.1 run.2
+    in record {
+      standing = of.standing;
+      makespan = of.makespan;
+      bounds = of.bounds;
+      kept = of.kept;
+      ordered = of.ordered;
+    }
+
 pub returns-clause-next : goal.returns-clause-next
-returns-clause-next g c =
-    let cut = c.in_ok-round.ensures
+returns-clause-next g c = λ s run standing.
+    let plan = planned c.args.plan.now
+    in let t = c.args.self
+    in let cut = c.in_ok-round.ensures
+    in let others = c.in_ok-round.open
     in let o = c.in_ok-found.field-0
-    in let left = nodes_below o.makespan (left_open o.left.items)
-    in let keep = c.in_ok-keep_below.ensures
-    in let put = c.in_ok-put_left.ensures
-    in next_round c.args.instance.now (planned c.args.plan.now) c.args.self c.requires.search c.in_ok-round.round
-    c.in_ok-round.open o _ cut.round cut.rest cut.bounds cut.kept c.in_ok-found.ensures (record {
+    in let kept = c.keep_below.new.self
+    in let less = c.keep_below-2.new.self
+    in let more = c.put_left.new.distant
+    in let joined = c.put_left.new.self
+    in let within = c.args.plan.now.within
+    in let before = c.requires.rounds
+    in let some : 0 < plan.piece = omega arith
+    in let most : (plan.rounds - t.rounds - 1) * (256 * plan.piece) + 1 ≡ most_left plan (t.rounds + 1) =
+    ap (λ k. k * (256 * plan.piece) + 1)
+    (let e : plan.rounds - t.rounds - 1 ≡ plan.rounds - (t.rounds + 1) = omega arith
+    in e)
+    in run_next c.args.instance.now plan s t run standing some before c.in_ok-round.round others o kept joined less
+    more _
+    cut.round c.in_ok-found.ensures (record {
+      others_left = cut.left;
+      others_order = cut.kept;
+      kept_below = c.in_ok-keep_below.ensures;
+      less_horizon = c.keep_below-2.ensures.horizon ∙ ap (λ d. d.horizon) c.replace-distant.ensures.value;
+      less_counts = c.keep_below-2.ensures.counts
+          ∙ ap (λ d. take o.makespan d.counts.items) c.replace-distant.ensures.value;
+      put = c.in_ok-put_left.ensures;
+      order = c.in_ok-retire.ensures.order;
+      retired = subst (λ k. IsRetired k (open_list joined) more (open_list c.retire.new.self) c.retire.new.distant) most
+          c.in_ok-retire.ensures.retired;
+      stays = c.in_ok-retire.ensures.kept;
       word = c.unwrap_or.ensures;
       makespan = refl;
       rounds = refl;
       nodes = refl;
-      joined = grind arith;
     })

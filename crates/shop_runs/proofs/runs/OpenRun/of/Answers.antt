@@ -1,10 +1,11 @@
-use Rattle.std.proofs.Common.{◌≡◌, ◌++◌, sym, ◌∙◌, ap, subst, arith, append-nil}
+use Rattle.std.proofs.Common.{◌≡◌, ◌++◌, min, get_or, sym, ◌∙◌, ap, subst, arith, append-nil}
 use Rattle.shop_nodes.specs.Nodes.{words_of, AreNodes}
 use Rattle.shop_nodes.proofs.LeftLemmas.{can_be_shared}
 use Rattle.shop_runs.specs.Round.{words_below}
 use Rattle.shop_runs.specs.Standings.{stands}
 use Rattle.shop_nodes.specs.inner.HeldNodes.{nodes_below}
-use Rattle.shop_runs.specs.inner.Stores.{open_list}
+use Rattle.shop_runs.specs.inner.{Distant.count_of, Stacks.put_all_before, Stores.{open_list, order_of}}
+use Rattle.shop_runs.proofs.DistantLemmas.{none_within}
 use Rattle.shop_runs.proofs.FrontLemmas.{IsInOrder, joined_at, none_in_order}
 use Rattle.shop_runs.proofs.KeptBelow.{all_below, none_closed}
 use Rattle.shop_runs.proofs.runs.OpenRun.of.Goals as goal
@@ -12,16 +13,21 @@ use Rattle.shop_runs.proofs.runs.OpenRun.of.Goals as goal
 pub put_nodes-requires : goal.put_nodes-requires
 put_nodes-requires c = grind (arith, can_be_shared)
 
-pub returns : goal.returns
-returns c =
+pub returns-clause-at : goal.returns-clause-at
+returns-clause-at c =
     let shop = c.args.instance.now
     in let u = c.args.standing
     in let at = c.requires.0
     in let is = c.requires.1
+    in let low = nodes_below u.makespan u.open.items
     in let others = c.new-open.result
     in let none = c.new-open.ensures.none
-    in let put = c.in_ok-put_nodes.ensures
-    in let low = nodes_below u.makespan u.open.items
+    in let put = c.in_ok-put_nodes.ensures.put
+    in let limit : min u.makespan c.none-distant.result.horizon ≡ u.makespan =
+    ap (min u.makespan) c.none-distant.ensures.horizon ∙ omega arith
+    in let list : open_list c.put_nodes.new.self ≡ put_all_before (order_of others) low (open_list others) =
+    put.1
+    ∙ (λ i. put_all_before (order_of others) (nodes_below (limit i) (c.as_slice.ensures.value i)) (open_list others))
     in let all : low ≡ u.open.items = none_closed u.makespan u.makespan u.open.items (omega arith)
     (all_below shop u.makespan u.open.items at.bounds
     (λ w h. let a = is.below w h in let b = at.makespan in omega arith))
@@ -37,3 +43,15 @@ returns c =
       kept = put.0;
       open_nodes = grind arith;
     })
+
+pub returns-clause-near : goal.returns-clause-near
+returns-clause-near c = c.in_ok-put_nodes.ensures.horizon ∙ c.none-distant.ensures.horizon
+
+pub returns-clause-all : goal.returns-clause-all
+returns-clause-all c = λ b.
+    let first = c.none-distant.result
+    in let added = c.in_ok-put_nodes.ensures.counted b
+    in let none = ap (count_of b) (none_within first.horizon c.args.standing.makespan c.as_slice.result.now
+    (let e = c.none-distant.ensures.horizon in omega arith))
+    in let empty = ap (λ xs. get_or xs b 0) c.none-distant.ensures.counts
+    in omega arith

@@ -1,0 +1,75 @@
+-- Nodes that are put into a store or counted, one after the other from the last to the first.
+use Rattle.std.proofs.Common.{◌≡◌, ℕ, ◌+◌, min, List, [], ◌++◌, get_or, refl, sym, ◌∙◌, ap, subst}
+use Rattle.std.proofs.Common.{arith, ltb}
+use Rattle.std.proofs.lemmas.List.Elements.{filter-append}
+use Rattle.shop_nodes.specs.{declared.nodes.Node.Node, inner.HeldNodes.nodes_below}
+use Rattle.shop_runs.specs.declared.{distant_nodes.DistantNodes.DistantNodes, open_nodes.OpenNodes.OpenNodes}
+use Rattle.shop_runs.specs.inner.Distant.{count_of, nodes_within, AreAdded, ArePutOrCounted}
+use Rattle.shop_runs.specs.inner.Stacks.{put_all_before}
+use Rattle.shop_runs.specs.inner.Stores.{open_list, order_of}
+use Rattle.shop_runs.proofs.DistantLemmas.{count_append, within_append, within_both}
+use Rattle.shop_runs.proofs.StoreLemmas.{put_append, below_both}
+
+-- with the rest of the nodes, store and counts come to what they came to at first with all
+pub record IsLeftToPut (c : ℕ) (all : List Node) (store : OpenNodes) (distant : DistantNodes) (rest : List Node)
+    (now : OpenNodes) (counts : DistantNodes) : Type 0 where
+  pub order : order_of now ≡ order_of store
+  pub horizon : counts.horizon ≡ distant.horizon
+  pub put : put_all_before (order_of store) (nodes_below (min c distant.horizon) rest) (open_list now)
+      ≡ put_all_before (order_of store) (nodes_below (min c distant.horizon) all) (open_list store)
+  pub counted : (b : ℕ) → get_or counts.counts.items b 0 + count_of b (nodes_within distant.horizon c rest)
+      ≡ get_or distant.counts.items b 0 + count_of b (nodes_within distant.horizon c all)
+
+module _ (c : ℕ) (all : List Node) (store : OpenNodes) (distant : DistantNodes) where
+  pub all_left : IsLeftToPut c all store distant all store distant
+  all_left = record { order = refl; horizon = refl; put = refl; counted = λ b. refl }
+
+  -- the last part is put or counted
+  pub part_put : (rest part : List Node) (now later : OpenNodes) (counts more : DistantNodes)
+      → IsLeftToPut c all store distant (rest ++ part) now counts
+      → ArePutOrCounted c part now counts later more → IsLeftToPut c all store distant rest later more
+  part_put rest part now later counts more left step = record {
+    order = step.put.0 ∙ left.order;
+    horizon = step.horizon ∙ left.horizon;
+    put = (λ i. put_all_before (order_of store) (nodes_below (min c distant.horizon) rest) (here i))
+        ∙ (sym (put_append (order_of store) (nodes_below (min c distant.horizon) rest)
+        (nodes_below (min c distant.horizon) part) (open_list now))
+        ∙ (sym (ap (λ ns. put_all_before (order_of store) ns (open_list now))
+        (filter-append (λ (n : Node). ltb n.bound (min c distant.horizon)) rest part)) ∙ left.put));
+    counted = λ b. (let e = left.counted b
+        in let f = subst (λ h. AreAdded (nodes_within h c part) counts.counts.items more.counts.items) left.horizon
+        step.counted b
+        in let g = ap (count_of b) (within_append distant.horizon c rest part)
+        ∙ count_append b (nodes_within distant.horizon c rest) (nodes_within distant.horizon c part)
+        in omega arith);
+  }
+    where
+      here : open_list later
+          ≡ put_all_before (order_of store) (nodes_below (min c distant.horizon) part) (open_list now)
+      here = step.put.1
+          ∙ (λ i. put_all_before (left.order i) (nodes_below (min c (left.horizon i)) part) (open_list now))
+
+  pub all_put : (now : OpenNodes) (counts : DistantNodes) → IsLeftToPut c all store distant [] now counts
+      → ArePutOrCounted c all store distant now counts
+  all_put now counts left = record {
+    put = (left.order, left.put);
+    horizon = left.horizon;
+    counted = λ b. (let e = left.counted b in omega arith);
+  }
+
+-- of what a search left, only what is below its own makespan is open
+pub own_put : (c own : ℕ) (nodes : List Node) (store after : OpenNodes) (distant later : DistantNodes)
+    → ArePutOrCounted (min c own) nodes store distant after later
+    → ArePutOrCounted c (nodes_below own nodes) store distant after later
+own_put c own nodes store after distant later put =
+    let limits : min (min c own) distant.horizon ≡ min (min c distant.horizon) own = omega arith
+    in record {
+      put = (
+        put.put.0,
+        put.put.1 ∙ ap (λ ns. put_all_before (order_of store) ns (open_list store))
+            (ap (λ m. nodes_below m nodes) limits ∙ sym (below_both (min c distant.horizon) own nodes)),
+      );
+      horizon = put.horizon;
+      counted = subst (λ ns. AreAdded ns distant.counts.items later.counts.items)
+          (sym (within_both distant.horizon c own nodes)) put.counted;
+    }

@@ -1,0 +1,33 @@
+use Rattle.std.proofs.Common.{take, drop, min, sym, ◌∙◌, ap, subst, arith}
+use Rattle.std.specs.Prelude.{IfSome}
+use Rattle.shop_runs.specs.declared.distant_nodes.DistantNodes.{DistantNodes}
+use Rattle.shop_runs.specs.inner.{BoundRows.IsBehind, Distant.AreAdded, Distant.IsRetired, Stacks.nodes_in_row}
+use Rattle.shop_runs.proofs.BoundRowLemmas.{cut_empty, retired_row}
+use Rattle.shop_runs.proofs.bound_rows.BoundRow.retire.Goals as goal
+
+pub returns : goal.returns
+returns c =
+    let os = c.self.inside.stacks.items
+    in let end = c.in-Some.end
+    in let first = c.self.inside.first
+    in let most = c.args.most
+    in let distant = c.args.distant.now
+    in let later : DistantNodes = record { horizon = c.min-distant.result; counts = c.count_from.new.distant.counts }
+    in let found = subst (λ o. IfSome o (IsBehind first most c.as_slice.result.now)) c.in-Some.is
+    c.in_ok-place.ensures.place
+    in let behind : IsBehind first most os end = subst (λ s. IsBehind first most s end) c.as_slice.ensures.value found
+    in let added : AreAdded (nodes_in_row end (drop end os)) distant.counts.items later.counts.items =
+    subst (λ s. AreAdded (nodes_in_row end
+    (drop end s)) distant.counts.items later.counts.items) c.as_slice-2.ensures.value
+    c.in_ok-count_from.ensures.added
+    in let row = retired_row most first end os distant later behind added
+    (c.min-distant.ensures ∙ ap (λ h. min h end) c.in_ok-count_from.ensures.horizon)
+    in subst (λ ns. IsRetired most ns distant (nodes_in_row 0 c.set_aside.new.stacks.items) later) c.self.view_is
+    (subst (λ ns. IsRetired most (nodes_in_row 0 os) distant ns later)
+    (ap (nodes_in_row 0) (sym (c.set_aside.ensures.left ∙ ap (λ k. take k os) c.in_ok-set_aside.ensures.cut))) row)
+
+pub invariant_of-self-in_err-set_aside : goal.invariant_of-self-in_err-set_aside
+invariant_of-self-in_err-set_aside c =
+    let behind = subst (λ o. IfSome o (IsBehind c.self.inside.first c.args.most c.as_slice.result.now)) c.in-Some.is
+    c.in_ok-place.ensures.place
+    in grind (arith, cut_empty)
