@@ -1,6 +1,10 @@
-// The arguments of the engines.
+// The arguments of the engines, and the choice of the instance that they name.
+ghost use Rattle.std.specs.Prelude.{◌<◌, length};
+ghost use Rattle.shop_text.specs.Names.{IsPick};
+ghost use Rattle.shop_engine.specs.Asking.{name_in};
+
 use shop_runs::Plan;
-use shop_text::Format;
+use shop_text::{Format, Named, ReadFault, pick};
 
 /// Tells `list` how the text is written.
 #[derive(Clone, Copy)]
@@ -22,4 +26,13 @@ pub struct SolveArgs {
     pub name: Option<String>,
     pub plan: Plan,
     pub gantt: bool,
+}
+
+/// Answers the first instance of the name, or without a name the first one. Fails with `NoSuchName` if no instance has
+/// the name.
+pub fn ask<'t>(named: &'t [Named], name: &Option<String>) -> Result<&'t Named, ReadFault>
+    requires { 0 < length named.now }
+    ensures { IsPick named.now (name_in name.now) result }
+{
+    pick(named, name.as_deref())
 }

@@ -4,11 +4,9 @@ ghost use Rattle.shop_text.specs.{declared.limits.TheConstants.MAX_TEXT, Schedul
 ghost use Rattle.shop_engine.specs.{Asking.name_in, Checking.{IsSecondUnread, IsChecking}};
 ghost use Rattle.shop_engine.specs.Checking.{schedule_in, IsVerdictOn, IsCheckOf, IsCheckFault, IsScheduleRead};
 
-use crate::args::CheckArgs;
-use crate::asking::ask;
-use crate::devices::{Sink, Source};
+use crate::args::{CheckArgs, ask};
+use crate::devices::{Sink, Source, read_all, write_all};
 use crate::faults::Fault;
-use crate::transfers::{read_all, write_all};
 use shop_model::{Instance, Verdict, check_quickly};
 use shop_text::{ReadFault, read, read_table, verdict_line};
 use std::alloc::Global;

@@ -4,9 +4,8 @@ ghost use Rattle.shop_text.specs.{Texts.{IsTextFault, OrNoMemory}, Formats.gramm
 ghost use Rattle.shop_engine.specs.Listing.{IsListOf, IsListing};
 
 use crate::args::ListArgs;
-use crate::devices::{Sink, Source};
+use crate::devices::{Sink, Source, read_all, write_all};
 use crate::faults::Fault;
-use crate::transfers::{read_all, write_all};
 use shop_text::{ReadFault, listing, read};
 use std::alloc::Global;
 

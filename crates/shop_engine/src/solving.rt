@@ -3,15 +3,13 @@ ghost use Rattle.std.specs.Prelude.{◌≡◌, ◌<◌, ◌^◌, IfOk, IfErr};
 ghost use Rattle.shop_model.specs.{Shop.IsFeasible, Checking.{HasShape, starts_of}};
 ghost use Rattle.shop_text.specs.{Texts.OrNoMemory, Writing.text_with_gantt, Names.shop_of_named};
 ghost use Rattle.shop_runs.specs.Runs.{planned, SaysAnswer};
-ghost use Rattle.shop_engine.specs.{Asking.{name_in, IsAskFault}, Solving.{IsSolution, IsSolving}};
+ghost use Rattle.shop_engine.specs.{Asking.{name_in, IsAskFault}, Solving.IsSolving};
 ghost use Rattle.shop_engine.specs.Headline.{IsRight, IsDetermined, IsRightOf, IsDeterminedOf, WhereKnown};
 ghost use Rattle.shop_engine.specs.{SolvedSchedules.{GivesSchedule, PassesCheck}, inner.Told.{told_by, HasWords}};
 
-use crate::args::SolveArgs;
-use crate::asking::ask;
-use crate::devices::{Sink, Source};
+use crate::args::{SolveArgs, ask};
+use crate::devices::{Sink, Source, read_all, write_all};
 use crate::faults::Fault;
-use crate::transfers::{read_all, write_all};
 use shop_runs::{Answer, Crew, Plan, run};
 use shop_text::{Named, ReadFault, Report, gantt, read, report};
 use std::alloc::{AllocError as NoMemory, Global};
@@ -86,27 +84,6 @@ pub fn solve_instance<R, C: Crew<R>>(
     Ok((text, answer))
 }
 
-/// Makes the report of the best schedule found for the instance in a text, as `solve_bytes` does, and hands over the
-/// answer of the run beside it, of which nothing is claimed. Fails as `solve_bytes` does.
-fn solve<R, C: Crew<R>>(
-    rt: &R,
-    alloc: Global,
-    text: &[u8],
-    args: &SolveArgs,
-    crew: &mut C,
-) -> Result<(Vec<u8>, Answer), ReadFault>
-    requires { C.ready }
-    ensures solution { IfOk result (λ p. IsSolution args.now text.now p.0.items) }
-    ensures schedule { IfOk result (λ p. PassesCheck
-        args.now.format (name_in args.now.name) text.now p.0.items) }
-    ensures refused { IfErr result (λ fault. OrNoMemory
-        (IsAskFault args.now.format (name_in args.now.name)) text.now fault) }
-{
-    let named = read(alloc, args.format, text)?;
-    let asked = ask(named.as_slice(), &args.name)?;
-    Ok(solve_instance(rt, alloc, asked, &args.plan, args.gantt, crew)?)
-}
-
 /// Searches the instance of `text` that the arguments name, and answers the report that `solve_instance` makes. Reads
 /// and writes no device.
 ///
@@ -128,7 +105,9 @@ pub fn solve_bytes<R, C: Crew<R>>(
     ensures refused { IfErr result (λ fault. OrNoMemory
         (IsAskFault args.now.format (name_in args.now.name)) text.now fault) }
 {
-    let (report, _answer) = solve(rt, alloc, text, args, crew)?;
+    let named = read(alloc, args.format, text)?;
+    let asked = ask(named.as_slice(), &args.name)?;
+    let (report, _answer) = solve_instance(rt, alloc, asked, &args.plan, args.gantt, crew)?;
     Ok(report)
 }
 
@@ -155,7 +134,9 @@ pub fn solve_text<R, S: Source, K: Sink, C: Crew<R>>(
         (K.device sink.old) (K.device sink.new) result }
 {
     let text = read_all(alloc, source)?;
-    let (written, answer) = solve(rt, alloc, text.as_slice(), args, crew)?;
+    let named = read(alloc, args.format, text.as_slice())?;
+    let asked = ask(named.as_slice(), &args.name)?;
+    let (written, answer) = solve_instance(rt, alloc, asked, &args.plan, args.gantt, crew)?;
     mem::forget(answer);
     write_all(sink, written.as_slice())
 }

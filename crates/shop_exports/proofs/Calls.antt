@@ -1,13 +1,20 @@
 -- What the steps of a call say of its outcome.
-use Rattle.std.proofs.Common.{◌≡◌, inl, inr, ℕ, Bool, false, List, Option, refl}
+use Rattle.std.proofs.Common.{◌≡◌, inl, inr, ℕ, Bool, true, false, List, Option, refl}
+use Rattle.std.specs.{Borrow.Bor, Bool.then_some, Option.option_copied}
 use Rattle.shop_text.specs.{Formats.grammar_of, Texts.{IsTextFault, OrNoMemory}, declared.formats.Format.Format}
 use Rattle.shop_text.specs.declared.faults.ReadFault.{ReadFault}
 use Rattle.shop_engine.specs.{Asking.{name_in, IsAskFault}, Checking.{schedule_in, IsCheckOf, IsCheckFault}}
 use Rattle.shop_engine.specs.{Headline.{IsRightOf, IsDeterminedOf}, SolvedSchedules.PassesCheck}
 use Rattle.shop_engine.specs.{declared.args.CheckArgs.CheckArgs, declared.args.SolveArgs.SolveArgs}
-use Rattle.shop_exports.specs.{Outcomes.{is_refused, IsGiven}, Requests.format_code}
+use Rattle.shop_exports.specs.{Outcomes.{is_refused, IsGiven}, Requests.{format_code, bytes_given}}
 use Rattle.shop_exports.specs.Exports.{Serves, ListsFor, ChecksWith, IsReport, SolvesWith}
 use Rattle.shop_exports.specs.declared.outcomes.CallResult.{CallResult}
+
+-- the bytes of a schedule, if one is given
+pub given_is : (is_given : Bool) (bytes : Bor (List ℕ))
+    → option_copied (then_some is_given bytes) ≡ bytes_given is_given bytes.now
+given_is false bytes = refl
+given_is true bytes = refl
 
 -- the text was seen as a slice
 served : {Is : Bool → List ℕ → Type 0} {IsBad : ReadFault → Type 0} {room room' : List ℕ} {outcome : CallResult}

@@ -5,7 +5,7 @@
 ghost use Rattle.shop_exports.specs.{Exports.{ListsFor, ChecksFor, SolvesFor}, Requests.bytes_given};
 
 use crate::outcomes::{CallResult, faulty, give, refused};
-use crate::requests::{Options, check_args, format_of, given, solve_args};
+use crate::requests::{Options, check_args, format_of, solve_args};
 use shop_engine::{ListArgs, check_bytes, list_bytes, solve_bytes};
 use shop_round::Alone;
 use std::alloc::Global;
@@ -48,7 +48,7 @@ pub extern "C" fn shop_exports_check(
         Ok(args) => args,
         Err(outcome) => return outcome,
     };
-    match check_bytes(alloc, text, given(is_apart, schedule), &args) {
+    match check_bytes(alloc, text, is_apart.then_some(schedule), &args) {
         Ok((feasible, line)) => give(room, line.as_slice(), feasible),
         Err(fault) => refused(fault),
     }

@@ -1,6 +1,6 @@
 // How a call ends, and what it puts in the caller's room.
-ghost use Rattle.std.specs.Prelude.{◌≡◌};
-ghost use Rattle.shop_exports.specs.Outcomes.{status_of, line_of, IsGiven, is_refused, is_faulty};
+ghost use Rattle.std.specs.Prelude.{◌≡◌, false};
+ghost use Rattle.shop_exports.specs.Outcomes.{IsGiven, is_refused, is_faulty};
 
 use shop_text::ReadFault;
 
@@ -24,39 +24,15 @@ pub struct CallResult {
     pub length: usize,
 }
 
-/// Answers the number of a refusal.
-fn status_of(fault: ReadFault) -> u32
-    ensures { result ≡ status_of fault }
+/// Makes the result of a call that gives no text. `line` is that of a refusal, or 0 if it has none.
+fn without_text(status: u32, line: usize) -> CallResult
+    ensures { result ≡ record { status = status; feasible = false; line = line; length = 0 } }
 {
-    match fault {
-        ReadFault::NoMemory => 1,
-        ReadFault::TooLong => 3,
-        ReadFault::NoInstance => 4,
-        ReadFault::BadShape { line: _ } => 5,
-        ReadFault::BadSize { line: _ } => 6,
-        ReadFault::BadRow { line: _ } => 7,
-        ReadFault::Truncated { line: _ } => 8,
-        ReadFault::BadMachine { line: _ } => 9,
-        ReadFault::BadTime { line: _ } => 10,
-        ReadFault::NoSuchName => 11,
-        ReadFault::BadTable { line: _ } => 12,
-    }
-}
-
-/// Answers the line of a refusal, or 0 if it has none.
-fn line_of(fault: ReadFault) -> usize
-    ensures { result ≡ line_of fault }
-{
-    match fault {
-        ReadFault::NoMemory | ReadFault::TooLong | ReadFault::NoInstance | ReadFault::NoSuchName =>
-            0,
-        ReadFault::BadShape { line } => line,
-        ReadFault::BadSize { line } => line,
-        ReadFault::BadRow { line } => line,
-        ReadFault::Truncated { line } => line,
-        ReadFault::BadMachine { line } => line,
-        ReadFault::BadTime { line } => line,
-        ReadFault::BadTable { line } => line,
+    CallResult {
+        status,
+        feasible: false,
+        line,
+        length: 0,
     }
 }
 
@@ -64,11 +40,18 @@ fn line_of(fault: ReadFault) -> usize
 pub(crate) fn refused(fault: ReadFault) -> CallResult
     ensures { result ≡ is_refused fault }
 {
-    CallResult {
-        status: status_of(fault),
-        feasible: false,
-        line: line_of(fault),
-        length: 0,
+    match fault {
+        ReadFault::NoMemory => without_text(1, 0),
+        ReadFault::TooLong => without_text(3, 0),
+        ReadFault::NoInstance => without_text(4, 0),
+        ReadFault::BadShape { line } => without_text(5, line),
+        ReadFault::BadSize { line } => without_text(6, line),
+        ReadFault::BadRow { line } => without_text(7, line),
+        ReadFault::Truncated { line } => without_text(8, line),
+        ReadFault::BadMachine { line } => without_text(9, line),
+        ReadFault::BadTime { line } => without_text(10, line),
+        ReadFault::NoSuchName => without_text(11, 0),
+        ReadFault::BadTable { line } => without_text(12, line),
     }
 }
 
@@ -76,12 +59,7 @@ pub(crate) fn refused(fault: ReadFault) -> CallResult
 pub(crate) fn faulty() -> CallResult
     ensures { result ≡ is_faulty }
 {
-    CallResult {
-        status: BAD_ARGUMENT,
-        feasible: false,
-        line: 0,
-        length: 0,
-    }
+    without_text(BAD_ARGUMENT, 0)
 }
 
 /// Writes `text` to the front of `room` if it fits, and makes the result of the call.

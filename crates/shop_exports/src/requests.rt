@@ -1,5 +1,5 @@
 // Turns the numbers and bytes of a caller into arguments of the engine.
-ghost use Rattle.std.specs.{Prelude.{◌≡◌, IfOk, IfErr, MatchOption}, Option.option_copied};
+ghost use Rattle.std.specs.Prelude.{◌≡◌, IfOk, IfErr, MatchOption};
 ghost use Rattle.shop_engine.specs.Asking.{name_in};
 ghost use Rattle.shop_exports.specs.Requests.{format_code, order_code, IsNoFormat, IsNoOrder, IsNoName, bytes_given};
 ghost use Rattle.shop_exports.specs.Requests.{IsUnasked, AsksCheck, IsFaultyCheck, AsksSolve, IsFaultySolve, IsPlanOf};
@@ -44,13 +44,6 @@ fn plan_of(options: &Options) -> Option<Plan>
 {
     let order = order_of(options.order)?;
     Plan::ordered(options.rounds, options.budget, options.piece, order)
-}
-
-/// Answers `bytes` if they are given, else `None`.
-pub(crate) fn given<'b>(is_given: bool, bytes: &'b [u8]) -> Option<&'b [u8]>
-    ensures { option_copied result ≡ bytes_given is_given bytes.now }
-{
-    if is_given { Some(bytes) } else { None }
 }
 
 /// Reads the name, if one is given. Fails if it isn't UTF-8, or if memory runs out.

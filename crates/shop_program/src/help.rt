@@ -1,4 +1,4 @@
-// What help says of the program and its commands.
+// What help says of the program, its commands and their arguments.
 
 /// What stands above and below the help of a command.
 #[derive(Clone, Copy)]
@@ -81,3 +81,26 @@ Exit status:
   4  a read or a write failed
   5  memory ran out",
 };
+
+/// Answers what help says of the argument `id`; nothing if there is no such argument.
+pub fn help_of(id: &str) -> &'static str {
+    match id {
+        "format" => {
+            "How the instance text is written: as OR-Library's jobshop1, as Taillard's texts, \
+             or as routes with releases"
+        }
+        "name" => "The instance of this name; without it the first one",
+        "FILE" => "The text of the instances; without it standard input",
+        "SCHEDULE" => "The schedule; without it the text of the instance has its lines",
+        "rounds" => "At most so many rounds, 0 to 100000; more may end lower and take longer",
+        "budget" =>
+            "Nodes that the search of a piece takes before it leaves the rest open, 1 to 10000000",
+        "piece" => "Open nodes in a piece, 1 to 1000; a round searches at most 256 pieces",
+        "order" =>
+            "Which open nodes a round takes first: as they were kept, or those of least lower bound",
+        "workers" =>
+            "Threads that search side by side, 1 to 64; the report is the same for any number",
+        "gantt" => "Draws the schedule below the report: a line for each machine",
+        _ => "",
+    }
+}

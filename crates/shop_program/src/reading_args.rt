@@ -1,17 +1,70 @@
-// Reads the arguments of a command line from its words.
-ghost use Rattle.std.specs.Prelude.{IfOk, IfErr, map, codes, string_bytes};
+// Reads the arguments of a command line from its words, by the values in clap's matches.
+ghost use Rattle.std.specs.Prelude.{◌<◌, ◌^◌, ℕ, IfOk, IfErr, map, option_map, string_bytes, codes};
 ghost use Rattle.clap.specs.Words.{found_of, rows_of};
-ghost use Rattle.shop_program.specs.CommandLine.{IsArgs, IsLineOf, IsUnread, HasPlan, UnlessNoMemory};
-ghost use Rattle.shop_program.specs.inner.Arguments.{Reads};
+ghost use Rattle.shop_text.specs.Formats.{word_of};
+ghost use Rattle.shop_runs.specs.Orders.{order_word};
+ghost use Rattle.shop_program.specs.CommandLine.{HasText, HasNumber, MayHave, HasPlan, IsArgs, IsLineOf, IsUnread};
+ghost use Rattle.shop_program.specs.{CommandLine.UnlessNoMemory, inner.Arguments.Reads};
 
 use crate::arguments::Args;
 use crate::command_line::command;
 use crate::line_faults::{LineFault, misread};
-use crate::matches::{format_in, number_in, order_in, text_in};
 use clap::ArgMatches;
 use shop_engine::{CheckArgs, ListArgs, SolveArgs};
-use shop_runs::{Plan, Workers};
-use std::alloc::Global;
+use shop_runs::{Order, Plan, Workers};
+use shop_text::Format;
+use std::alloc::{AllocError as NoMemory, Global};
+
+/// Reads the format. Fails if the matches lack it, or with `NoMemory` if memory runs out.
+fn format_in(alloc: Global, found: &ArgMatches) -> Result<Format, LineFault>
+    ensures { Reads (λ format. HasText (rows_of (found_of found.now)) (codes "format") (word_of format))
+        result }
+{
+    let Some(word) = found.get_str("format") else {
+        return Err(misread(alloc));
+    };
+    match Format::of_word(word) {
+        Some(format) => Ok(format),
+        None => Err(misread(alloc)),
+    }
+}
+
+/// Reads the order of open nodes. Fails if the matches lack it, or with `NoMemory` if memory runs out.
+fn order_in(alloc: Global, found: &ArgMatches) -> Result<Order, LineFault>
+    ensures { Reads (λ order. HasText (rows_of (found_of found.now)) (codes "order") (order_word order))
+        result }
+{
+    let Some(word) = found.get_str("order") else {
+        return Err(misread(alloc));
+    };
+    match Order::of_word(word) {
+        Some(order) => Ok(order),
+        None => Err(misread(alloc)),
+    }
+}
+
+/// Reads the number of the option `id`. Fails if the matches lack it, or with `NoMemory` if memory runs out.
+fn number_in(alloc: Global, found: &ArgMatches, id: &str) -> Result<u64, LineFault>
+    ensures ok { IfOk result (HasNumber (rows_of (found_of found.now)) id.now) }
+    ensures err { IfErr result (UnlessNoMemory ((n : ℕ) → n < 2 ^ 64
+        → HasNumber (rows_of (found_of found.now)) id.now n → ⊥)) }
+{
+    match found.get_one::<u64>(id) {
+        Some(number) => Ok(number),
+        None => Err(misread(alloc)),
+    }
+}
+
+/// Reads the text of the argument `id`; `None` if it is left out. Fails with `NoMemory` if memory runs out.
+fn text_in(alloc: Global, found: &ArgMatches, id: &str) -> Result<Option<String>, NoMemory>
+    ensures { IfOk result (λ text.
+        MayHave (rows_of (found_of found.now)) id.now (option_map string_bytes text)) }
+{
+    match found.get_str(id) {
+        Some(text) => Ok(Some(text.to_string(alloc)?)),
+        None => Ok(None),
+    }
+}
 
 /// Reads the arguments of `list` from clap's matches. Fails if these lack one, or with `NoMemory` if memory runs out.
 fn list_args(alloc: Global, found: &ArgMatches) -> Result<Args, LineFault>
