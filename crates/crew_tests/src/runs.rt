@@ -1,10 +1,13 @@
 // Answers by one thread alone, and by the workers of a crew behind a lock.
+ghost use Rattle.shop_runs.specs.Standings.{IsStandingOf};
+
 use crate::instances::{CROSSING, GAP, ZEROS, instance_of};
+use crate::rounds::after_round;
 use crate::telling::{assert_told, told_of};
 use shop_board::LockCrew;
 use shop_model::Instance;
 use shop_round::{Alone, run_alone};
-use shop_runs::{Crew, Entry, Order, Plan, Round, run};
+use shop_runs::{Crew, Entry, Order, Plan, Round, Standing, run};
 use shop_workers::OpenGate;
 use std::alloc::{AllocError as NoMemory, Global};
 use std::fmt::Write;
@@ -72,6 +75,85 @@ fn open_nodes_by_bound_in_a_row_and_in_a_map(rt: HostRuntime) {
         let plan = Plan::ordered(1_000, 1, 1, Order::Bound).expect(&rt, "a plan");
         let answer = run_alone(rt.alloc(), &instance, &plan).expect(&rt, "memory");
         assert!(&rt; answer.makespan == *least && answer.bound == *least && answer.open_nodes == 0);
+    }
+}
+
+/// The text of nine jobs that each visit seven machines, with times of 1 to `longest`, each `unit` times as long.
+fn made_text(rt: &impl Abort, alloc: Global, longest: u64, unit: u64) -> String {
+    let mut text = String::new(alloc);
+    write!(text, "9 7\n").expect(rt, "memory");
+    for job in 0..9_u64 {
+        write!(text, "0").expect(rt, "memory");
+        for step in 0..7_u64 {
+            let machine = step.wrapping_mul(1 + job % 6).wrapping_add(job) % 7;
+            let time = job.wrapping_mul(31).wrapping_add(step.wrapping_mul(17)) % longest.max(1);
+            let time = time.wrapping_add(1).wrapping_mul(unit);
+            write!(text, " {machine} {time}").expect(rt, "memory");
+        }
+        write!(text, "\n").expect(rt, "memory");
+    }
+    text
+}
+
+/// Asserts that a run by `plan` ends where the rounds that are cut and gathered one by one do.
+fn assert_stands(rt: &impl Abort, alloc: Global, instance: &Instance, plan: &Plan, end: &Standing) {
+    let answer = run_alone(alloc, instance, plan).expect(rt, "memory");
+    let least = end
+        .open
+        .iter()
+        .map(|node| node.bound)
+        .min()
+        .unwrap_or(end.makespan);
+    assert!(rt; answer.makespan == end.makespan && answer.bound == least);
+    assert!(rt; answer.open_nodes == end.open.len() && answer.nodes == end.nodes);
+}
+
+/// The standing after one more round, or `standing` itself if no node is open.
+fn after_one(
+    rt: &impl Abort,
+    alloc: Global,
+    instance: &Instance,
+    plan: &Plan,
+    standing: Standing,
+) -> Standing
+    requires { IsStandingOf instance.now standing }
+    ensures { IsStandingOf instance.now result }
+{
+    if standing.open.is_empty() {
+        return standing;
+    }
+    after_round(rt, alloc, instance, plan, standing)
+}
+
+/// The longest time, its unit, a budget and a piece. After three rounds more nodes are open than a fourth one takes.
+/// With a unit of 1000 they stand in a map.
+static OPEN_BY_BOUND: [(u64, u64, u64, usize); 4] = [
+    (40, 1, 9, 1),
+    (3, 1, 9, 1),
+    (40, 1, 20, 2),
+    (40, 1_000, 9, 1),
+];
+
+/// Rounds that are cut one by one keep all nodes open; a run only counts those that no round left can take.
+#[test]
+fn runs_end_where_rounds_do(rt: HostRuntime) {
+    for (longest, unit, budget, piece) in &OPEN_BY_BOUND {
+        let text = made_text(&rt, rt.alloc(), *longest, *unit);
+        let instance = instance_of(&rt, rt.alloc(), text.as_str());
+        let plan_of = |rounds: u64| -> Plan {
+            Plan::ordered(rounds, *budget, *piece, Order::Bound).expect(&rt, "a plan")
+        };
+        let all = plan_of(9);
+        let start = Standing::start(rt.alloc(), &instance).expect(&rt, "memory");
+        let first = after_one(&rt, rt.alloc(), &instance, &all, start);
+        assert_stands(&rt, rt.alloc(), &instance, &plan_of(1), &first);
+        let second = after_one(&rt, rt.alloc(), &instance, &all, first);
+        assert_stands(&rt, rt.alloc(), &instance, &plan_of(2), &second);
+        let third = after_one(&rt, rt.alloc(), &instance, &all, second);
+        assert_stands(&rt, rt.alloc(), &instance, &plan_of(3), &third);
+        assert!(rt; third.open.len() > piece.saturating_mul(256));
+        let fourth = after_one(&rt, rt.alloc(), &instance, &all, third);
+        assert_stands(&rt, rt.alloc(), &instance, &plan_of(4), &fourth);
     }
 }
 

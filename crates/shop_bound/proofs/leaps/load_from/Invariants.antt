@@ -1,6 +1,0 @@
-use Rattle.std.proofs.Common.{take}
-use Rattle.shop_bound.proofs.LeapTurns.{IsLoadOf}
-use Rattle.shop_bound.proofs.leaps.load_from.Given as goal
-
-abbrev pub invariant-loop-t : goal.invariant-loop-t
-invariant-loop-t l = IsLoadOf (take l.t-index l.triples) l.from l.time l.load

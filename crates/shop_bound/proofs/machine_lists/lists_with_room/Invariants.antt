@@ -1,6 +1,0 @@
-use Rattle.std.proofs.Common.{◌≡◌, take}
-use Rattle.shop_bound.specs.inner.MachineLists.{rooms_in}
-use Rattle.shop_bound.proofs.machine_lists.lists_with_room.Given as goal
-
-abbrev pub invariant-loop-count : goal.invariant-loop-count
-invariant-loop-count l = rooms_in l.lists.items ≡ take l.count-index l.counts

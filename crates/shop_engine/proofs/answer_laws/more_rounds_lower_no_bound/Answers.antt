@@ -1,5 +1,0 @@
-use Rattle.shop_engine.proofs.LaterBounds.{more_rounds_lower_no_bound}
-use Rattle.shop_engine.proofs.answer_laws.more_rounds_lower_no_bound.Goals as goal
-
-pub returns : goal.returns
-returns c = more_rounds_lower_no_bound

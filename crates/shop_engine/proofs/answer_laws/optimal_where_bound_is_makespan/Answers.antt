@@ -1,5 +1,0 @@
-use Rattle.shop_engine.proofs.Optima.{optimal_where_bound_is_makespan}
-use Rattle.shop_engine.proofs.answer_laws.optimal_where_bound_is_makespan.Goals as goal
-
-pub returns : goal.returns
-returns c = optimal_where_bound_is_makespan

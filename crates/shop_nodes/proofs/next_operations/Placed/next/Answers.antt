@@ -1,6 +1,0 @@
-use Rattle.std.proofs.Common.{arith}
-use Rattle.shop_nodes.proofs.PlacedLemmas.{is_read, next_end-small}
-use Rattle.shop_nodes.proofs.next_operations.Placed.next.Goals as goal
-
-pub overflow_add-result : goal.overflow_add-result
-overflow_add-result c = grind (arith, is_read, next_end-small)

@@ -1,5 +1,0 @@
-use Rattle.shop_runs.proofs.Counting.{counts_small}
-use Rattle.shop_runs.proofs.round_laws.counts_stay_small.Goals as goal
-
-pub returns : goal.returns
-returns c = counts_small

@@ -1,5 +1,0 @@
-use Rattle.shop_runs.proofs.Covering.{gather_covers}
-use Rattle.shop_runs.proofs.round_laws.gathering_covers.Goals as goal
-
-pub returns : goal.returns
-returns c = gather_covers

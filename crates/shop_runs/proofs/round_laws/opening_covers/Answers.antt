@@ -1,5 +1,0 @@
-use Rattle.shop_runs.proofs.Covering.{opens_covering}
-use Rattle.shop_runs.proofs.round_laws.opening_covers.Goals as goal
-
-pub returns : goal.returns
-returns c = opens_covering

@@ -1,5 +1,0 @@
-use Rattle.shop_runs.proofs.Cutting.{pieces_all}
-use Rattle.shop_runs.proofs.round_laws.pieces_are_all.Goals as goal
-
-pub returns : goal.returns
-returns c = pieces_all

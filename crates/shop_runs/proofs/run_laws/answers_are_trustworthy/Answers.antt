@@ -1,5 +1,0 @@
-use Rattle.shop_runs.proofs.Trusting.{trustworthy}
-use Rattle.shop_runs.proofs.run_laws.answers_are_trustworthy.Goals as goal
-
-pub returns : goal.returns
-returns c = trustworthy

@@ -1,5 +1,0 @@
-use Rattle.shop_runs.proofs.Ending.{searches_end}
-use Rattle.shop_runs.proofs.run_laws.searches_end.Goals as goal
-
-pub returns : goal.returns
-returns c = searches_end

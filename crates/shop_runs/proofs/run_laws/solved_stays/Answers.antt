@@ -1,5 +1,0 @@
-use Rattle.shop_runs.proofs.Ending.{solved_stays}
-use Rattle.shop_runs.proofs.run_laws.solved_stays.Goals as goal
-
-pub returns : goal.returns
-returns c = solved_stays

@@ -1,6 +1,0 @@
-use Rattle.std.proofs.{Common.arith, lemmas.Grind.common_steps}
-use Rattle.shop_text.proofs.Pairs.{pair_at, fault_on, route_on}
-use Rattle.shop_text.proofs.rows.route_of.Goals as goal
-
-pub loop-i-preserved : goal.loop-i-preserved
-loop-i-preserved c = grind (arith, pair_at, fault_on, route_on, common_steps)

@@ -1,5 +1,0 @@
-use Rattle.shop_text.proofs.VisibleNames.{names_visible}
-use Rattle.shop_text.proofs.table_laws.names_are_visible.Goals as goal
-
-pub returns : goal.returns
-returns c = names_visible

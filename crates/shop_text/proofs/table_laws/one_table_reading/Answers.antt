@@ -1,5 +1,0 @@
-use Rattle.shop_text.proofs.TableReadings.{one_table}
-use Rattle.shop_text.proofs.table_laws.one_table_reading.Goals as goal
-
-pub returns : goal.returns
-returns c = one_table

@@ -1,5 +1,0 @@
-use Rattle.shop_text.proofs.TableReadings.{some_table}
-use Rattle.shop_text.proofs.table_laws.some_table_reading.Goals as goal
-
-pub returns : goal.returns
-returns c = some_table
