@@ -44,23 +44,58 @@ struct Run<T> {
     word: Vec<u16>,
     best: T,
     open: Open<T>,
+    /// How many nodes of each bound from the horizon on are open: no round that is left can take them.
+    distant: BTreeMap<T, usize>,
+    horizon: Option<T>,
+    /// How many nodes are opened before they are counted again.
+    wait: usize,
+    rounds_left: u64,
     nodes: u64,
 }
 
 impl<T: Lane> Run<T> {
-    fn new(instance: &Instance, order: Order) -> Self {
-        let open = match order {
+    fn new(instance: &Instance, plan: &Plan) -> Self {
+        let open = match plan.order {
             Order::Kept => Open::Kept(Vec::new()),
             Order::Bound => Open::ByBound(BTreeMap::new()),
         };
         let word = instance.opening_word();
         let best = T::of(instance.placed(&word).1 + 1);
-        Run { word, best, open, nodes: 0 }
+        let (distant, horizon, rounds_left) = (BTreeMap::new(), None, plan.rounds);
+        Run { word, best, open, distant, horizon, wait: 0, rounds_left, nodes: 0 }
     }
 
+    /// Opens a node, or only counts it if its bound is from the horizon on.
     fn push(&mut self, node: Node<T>, paths: &mut Paths) {
-        paths.hold(node.path);
-        self.open.push(node);
+        if self.horizon.is_some_and(|horizon| node.bound >= horizon) {
+            *self.distant.entry(node.bound).or_default() += 1;
+        } else {
+            paths.hold(node.path);
+            self.open.push(node);
+            self.wait = self.wait.saturating_sub(1);
+        }
+    }
+
+    /// Keeps the nodes of least bounds, up to the first bound with which they are `most` or more, and counts the others,
+    /// once a node was opened for each bound and every eighth node that were gone through before.
+    fn retire(&mut self, most: usize, paths: &mut Paths) {
+        let Open::ByBound(stacks) = &mut self.open else { return };
+        if self.wait > 0 {
+            return;
+        }
+        let mut kept = 0;
+        let enough = stacks.iter().find(|(_, stack)| {
+            kept += stack.len();
+            kept >= most
+        });
+        self.wait = stacks.len() + kept / 8;
+        let Some((&last, _)) = enough else { return };
+        let horizon = T::of(last.number() + 1);
+        for (bound, stack) in stacks.split_off(&horizon) {
+            *self.distant.entry(bound).or_default() += stack.len();
+            stack.iter().for_each(|node| paths.release(node.path));
+        }
+        self.horizon = Some(horizon);
     }
 
     /// Opens the empty word, unless its bound closes it.
@@ -99,12 +134,15 @@ impl<T: Lane> Run<T> {
                 self.word = sheet.found.take().expect("a better makespan comes with its word");
             }
         }
+        self.rounds_left -= 1;
         if self.best == bound {
+            self.distant.clear();
             return self.open.clear();
         }
         let Task { round, paths } = &mut *crew.task.write().expect("no worker panics");
         if self.best < best {
             self.open.close(self.best, paths);
+            self.distant.split_off(&self.best);
         }
         for sheet in sheets.into_iter().rev() {
             self.gather(sheet, paths);
@@ -112,6 +150,7 @@ impl<T: Lane> Run<T> {
         for node in &round.nodes {
             paths.release(node.path);
         }
+        self.retire(self.rounds_left as usize * PIECES * plan.piece + 1, paths);
     }
 
     /// Opens what a sheet left, the last of it first, since the first is to stand before it.
@@ -188,7 +227,7 @@ fn search<T: Lane, const BLOCKS: usize>(
 /// The first round has the empty word alone: where machines are ordered, those behind it have a layout for the words of
 /// the second.
 fn answer_in<T: Lane, const BLOCKS: usize>(instance: &Instance, plan: &Plan) -> Answer {
-    let mut run = Run::new(instance, plan.order);
+    let mut run = Run::new(instance, plan);
     let mut paths = Paths::default();
     let mut layout = layout_for::<T, BLOCKS>(instance, &[Vec::new()]);
     run.begin(Walker::new(layout.clone()).opening_bound(), &mut paths);
@@ -203,7 +242,7 @@ fn answer_in<T: Lane, const BLOCKS: usize>(instance: &Instance, plan: &Plan) -> 
         word: run.word,
         makespan: run.best.number() - 1,
         bound: bound.number() - 1,
-        open: run.open.len(),
+        open: run.open.len() + run.distant.values().sum::<usize>(),
         rounds,
         nodes: run.nodes,
     }
