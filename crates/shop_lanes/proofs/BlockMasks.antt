@@ -1,19 +1,13 @@
 -- Masks and least numbers of lists in blocks of eight, and the first number that a mask tells.
-use Rattle.std.proofs.Common.{◌≡◌, ◌≢◌, ℕ, zero, suc, ◌+◌, ◌-◌, ◌*◌, ◌<◌, ◌≤◌, ◌^◌, min, Bool, true, false, rules}
-use Rattle.std.proofs.Common.{inl, inr, ◌==◌, List, [], ◌∷◌, ◌++◌, length, map, take, drop, replicate, get_or}
-use Rattle.std.proofs.Common.{ap, sym, ◌∙◌, arith, pow-suc, take-append-drop, length-drop}
-use Rattle.std.proofs.lemmas.Bool.{cases_lt}
+use Rattle.std.proofs.Common.{◌≡◌, ◌≢◌, ℕ, zero, suc, ◌+◌, ◌-◌, ◌*◌, ◌<◌, ◌≤◌, ◌^◌, min, Bool, true, false, rules, inl}
+use Rattle.std.proofs.Common.{inr, ◌==◌, List, [], ◌∷◌, ◌++◌, length, map, take, drop, replicate, get_or, ap, sym, ◌∙◌}
+use Rattle.std.proofs.{Common.{arith, pow-suc, take-append-drop, length-drop}, lemmas.Bool.cases_lt}
 use Rattle.std.proofs.lemmas.Bool.Decides.{nat_tests}
 use Rattle.std.proofs.lemmas.List.{drop_all, drop-drop, map-append, length-map, length-take, take_all}
-use Rattle.std.proofs.lemmas.Simd.{mask_l-lt, none_from_empty_mask, get_or-chunk, length-zip2}
-use Rattle.std.proofs.Math.Pow.{pow_mono}
-use lib.Count.{count_trailing_zeros}
-use lib.Lanes.{mask_l, zip2}
-use Rattle.shop_lanes.specs.Ends.{IsFirstLeast}
-use Rattle.shop_lanes.specs.Folds.{least_up_to}
-use Rattle.shop_lanes.specs.inner.Passes.{IsLeastFound}
-use Rattle.shop_lanes.proofs.Extremes.{least-append, least-lesser, least_le_top}
-use Rattle.shop_lanes.proofs.MarkLemmas.{odd_lowest, even_lowest}
+use Rattle.std.proofs.{lemmas.Simd.{mask_l-lt, none_from_empty_mask, get_or-chunk, length-zip2}, Math.Pow.pow_mono}
+use lib.{Count.count_trailing_zeros, Lanes.{mask_l, zip2}}
+use Rattle.shop_lanes.specs.{Ends.IsFirstLeast, Folds.least_up_to, inner.Passes.IsLeastFound}
+use Rattle.shop_lanes.proofs.{Extremes.{least-append, least-lesser, least_le_top}, MarkLemmas.{odd_lowest, even_lowest}}
 
 -- the elements from block b on are those of block b and those behind it
 pub drop_split : {A : Type 0} (b : ℕ) (xs : List A)

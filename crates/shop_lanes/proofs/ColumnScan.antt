@@ -1,16 +1,11 @@
 -- The load of columns served one after the other, from the load of each by itself.
-use Rattle.std.proofs.Common.{◌≡◌, ℕ, zero, suc, ◌+◌, ◌*◌, ◌<◌, ◌≤◌, max, List, [], ◌∷◌, ◌++◌}
-use Rattle.std.proofs.Common.{take, drop, get_or, refl, ap, sym, ◌∙◌, arith, take-append-drop}
-use Rattle.std.proofs.Math.Seq.{take-suc, take-add}
+use Rattle.std.proofs.Common.{◌≡◌, ℕ, zero, suc, ◌+◌, ◌*◌, ◌<◌, ◌≤◌, max, List, [], ◌∷◌, ◌++◌, take, drop, get_or, refl}
+use Rattle.std.proofs.{Common.{ap, sym, ◌∙◌, arith, take-append-drop}, Math.Seq.{take-suc, take-add}}
 use Rattle.std.proofs.lemmas.List.{drop-drop, drop_all}
 use lib.Lanes.{sum_l}
-use Rattle.shop_lanes.specs.Eights.{added, AddsFit}
-use Rattle.shop_lanes.specs.Folds.{greatest, sums_before}
-use Rattle.shop_lanes.proofs.Extremes.{greatest-append}
-use Rattle.shop_lanes.specs.Rows.{Lane}
-use Rattle.shop_lanes.specs.Spans.{span, FitsSpan}
+use Rattle.shop_lanes.specs.{Eights.{added, AddsFit}, Folds.{greatest, sums_before}, Rows.Lane, Spans.{span, FitsSpan}}
 use Rattle.shop_lanes.specs.inner.Passes.{clock_after, column, eight}
-use Rattle.shop_lanes.proofs.ColumnTurns.{AreColumnsOf, eight_fit, in_eight}
+use Rattle.shop_lanes.proofs.{Extremes.greatest-append, ColumnTurns.{AreColumnsOf, eight_fit, in_eight}}
 use Rattle.shop_lanes.proofs.Loads.{work-append, load-append, work_le, load_le, work_le_load}
 use Rattle.shop_lanes.proofs.SpanParts.{sum_part, greatest_part}
 

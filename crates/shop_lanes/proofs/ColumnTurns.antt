@@ -1,21 +1,14 @@
 -- Eight columns served side by side, a block at a time, over lists alone.
-use Rattle.std.proofs.Common.{◌≡◌, ℕ, suc, ◌+◌, ◌*◌, ◌<◌, ◌≤◌, max, cond, leb, List, [], ◌∷◌, ◌++◌, length}
-use Rattle.std.proofs.Common.{take, drop, get_or, refl, ap, sym, ◌∙◌, arith, subst, replicate, ◌/◌, ◌%◌, map, sum_by}
-use Rattle.std.proofs.Math.Seq.{take-suc}
-use Rattle.std.proofs.lemmas.List.{get_or-drop, length-drop, length-map}
-use Rattle.std.proofs.lemmas.Simd.{get_or-chunk}
+use Rattle.std.proofs.Common.{◌≡◌, ℕ, suc, ◌+◌, ◌*◌, ◌<◌, ◌≤◌, max, cond, leb, List, [], ◌∷◌, ◌++◌, length, take, drop}
+use Rattle.std.proofs.Common.{get_or, refl, ap, sym, ◌∙◌, arith, subst, replicate, ◌/◌, ◌%◌, map, sum_by}
+use Rattle.std.proofs.{Math.Seq.take-suc, lemmas.List.{get_or-drop, length-drop, length-map}, lemmas.Simd.get_or-chunk}
 use lib.Lanes.{zip2}
-use Rattle.shop_lanes.specs.Eights.{added, waiting, AddsFit}
-use Rattle.shop_lanes.proofs.Eights.{on_eight, same_eight}
-use Rattle.shop_lanes.specs.Rows.{Lane, lanes, by_columns, lanes_in}
-use Rattle.shop_lanes.specs.declared.lane_rows.LaneRows.{LaneRows}
-use Rattle.shop_lanes.specs.Spans.{span, greatest_by, FitsSpan}
+use Rattle.shop_lanes.specs.{Eights.{added, waiting, AddsFit}, Rows.{Lane, lanes, by_columns, lanes_in}}
+use Rattle.shop_lanes.specs.{declared.lane_rows.LaneRows.LaneRows, Spans.{span, greatest_by, FitsSpan}}
 use Rattle.shop_lanes.specs.inner.Passes.{clock_after, eight}
-use Rattle.shop_lanes.proofs.BlockMasks.{length-block}
+use Rattle.shop_lanes.proofs.{Eights.{on_eight, same_eight}, BlockMasks.length-block, RowValues.as_long}
 use Rattle.shop_lanes.proofs.Columns.{rank_below, length-by_columns, by_columns-at, place_of_rank}
-use Rattle.shop_lanes.proofs.LaneLists.{lane_at, length-lanes, get_or-lanes}
-use Rattle.shop_lanes.proofs.Loads.{work_more, load_more, work_le}
-use Rattle.shop_lanes.proofs.RowValues.{as_long}
+use Rattle.shop_lanes.proofs.{LaneLists.{lane_at, length-lanes, get_or-lanes}, Loads.{work_more, load_more, work_le}}
 use Rattle.shop_lanes.proofs.SpanParts.{each_greatest, sum_part}
 
 -- eight numbers as a function of the column

@@ -1,13 +1,10 @@
 -- What comparisons of vectors choose, as lists.
-use Rattle.std.proofs.Common.{◌≡◌, ℕ, ◌+◌, ◌-◌, ◌%◌, ◌^◌, ◌<◌, min, max, Bool, cond, List, [], ◌∷◌, length, map}
-use Rattle.std.proofs.Common.{get_or, refl, ap, sym, ◌∙◌, arith, leb, ltb, ◌≤◌, replicate}
-use Rattle.std.proofs.Math.Nat.{add-mod_right, mod-eq_of_lt}
-use Rattle.std.proofs.lemmas.Bool.{cases_lt}
-use Rattle.std.proofs.lemmas.Bool.Decides.{nat_tests}
+use Rattle.std.proofs.Common.{◌≡◌, ℕ, ◌+◌, ◌-◌, ◌%◌, ◌^◌, ◌<◌, min, max, Bool, cond, List, [], ◌∷◌, length, map, get_or}
+use Rattle.std.proofs.Common.{refl, ap, sym, ◌∙◌, arith, leb, ltb, ◌≤◌, replicate}
+use Rattle.std.proofs.{Math.Nat.{add-mod_right, mod-eq_of_lt}, lemmas.Bool.cases_lt, lemmas.Bool.Decides.nat_tests}
 use Rattle.std.proofs.lemmas.Simd.{tops_compared, zip2_splat, zip2_splat_left}
 use lib.Lanes.{zip2, sel_l, top, Each1, Each2}
-use mir.Syntax.{Width}
-use mir.Val.{bits, hbits}
+use mir.{Syntax.Width, Val.{bits, hbits}}
 use Rattle.shop_lanes.specs.Eights.{ahead_of, waiting, lessened}
 
 -- which heads are at least `least`, as a comparison of two vectors tells it

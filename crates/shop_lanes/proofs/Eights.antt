@@ -1,10 +1,9 @@
 -- Lists of eight, their sums by three shifted additions, and their greatest by three turns.
 use Rattle.std.proofs.Common.{◌≡◌, ℕ, suc, ◌+◌, ◌-◌, ◌≤◌, ◌^◌, List, [], ◌∷◌, length, refl, ap, ◌∙◌, arith}
-use lib.Lanes.{Each2, sum_l}
-use mir.Syntax.{Width}
-use mir.Val.{Fits, bits}
 use Rattle.std.proofs.lemmas.Nat.{pow_pos}
-use Rattle.shop_lanes.specs.Eights.{added, up_one, up_two, up_four, AddsFit}
+use lib.Lanes.{Each2, sum_l}
+use mir.{Syntax.Width, Val.{Fits, bits}}
+use Rattle.shop_lanes.specs.{Eights.{added, AddsFit, moved}, declared.blocks.Move.TheVariants.{UpOne, UpTwo, UpFour}}
 use Rattle.shop_lanes.specs.Folds.{sums_before}
 
 one_more : (P : List ℕ → Type 0) (n : ℕ) → ((x : ℕ) (xs : List ℕ) → length xs ≡ n → P (x ∷ xs))
@@ -28,13 +27,13 @@ on_eight P each =
     none_more (λ v. P (a ∷ b ∷ c ∷ d ∷ e ∷ f ∷ g ∷ h ∷ v)) (each a b c d e f g h)))))))))
 
 abbrev pub pairs : List ℕ → List ℕ
-pairs v = added v (up_one v)
+pairs v = added v (moved UpOne v)
 
 abbrev pub fours : List ℕ → List ℕ
-fours v = added (pairs v) (up_two (pairs v))
+fours v = added (pairs v) (moved UpTwo (pairs v))
 
 abbrev pub eights : List ℕ → List ℕ
-eights v = added (fours v) (up_four (fours v))
+eights v = added (fours v) (moved UpFour (fours v))
 
 -- for each number `start` plus all numbers up to it
 abbrev pub running : ℕ → List ℕ → List ℕ
@@ -48,21 +47,22 @@ lanes_fit w (x ∷ xs) [] h = tt
 lanes_fit w (x ∷ xs) (y ∷ ys) h = grind (arith, pow_pos, lanes_fit w xs ys h.1)
 
 -- the sums up to each one, moved by one
-sums_moved : (v : List ℕ) → length v ≡ 8 → up_one (running 0 v) ≡ sums_before 0 v
-sums_moved = on_eight (λ v. up_one (running 0 v) ≡ sums_before 0 v) (λ a b c d e f g h. refl)
+sums_moved : (v : List ℕ) → length v ≡ 8 → moved UpOne (running 0 v) ≡ sums_before 0 v
+sums_moved = on_eight (λ v. moved UpOne (running 0 v) ≡ sums_before 0 v) (λ a b c d e f g h. refl)
 
-pub pairs_fit : (limit : ℕ) (v : List ℕ) → length v ≡ 8 → sum_l v ≤ limit → AddsFit limit v (up_one v)
-pairs_fit limit = on_eight (λ v. sum_l v ≤ limit → AddsFit limit v (up_one v)) (λ a b c d e f g h small. omega arith)
+pub pairs_fit : (limit : ℕ) (v : List ℕ) → length v ≡ 8 → sum_l v ≤ limit → AddsFit limit v (moved UpOne v)
+pairs_fit limit = on_eight (λ v. sum_l v ≤ limit → AddsFit limit v (moved UpOne v))
+    (λ a b c d e f g h small. omega arith)
 
 pub fours_fit : (limit : ℕ) (v : List ℕ) → length v ≡ 8 → sum_l v ≤ limit
-    → AddsFit limit (pairs v) (up_two (pairs v))
-fours_fit limit =
-    on_eight (λ v. sum_l v ≤ limit → AddsFit limit (pairs v) (up_two (pairs v))) (λ a b c d e f g h small. omega arith)
+    → AddsFit limit (pairs v) (moved UpTwo (pairs v))
+fours_fit limit = on_eight (λ v. sum_l v ≤ limit → AddsFit limit (pairs v) (moved UpTwo (pairs v)))
+    (λ a b c d e f g h small. omega arith)
 
 pub eights_fit : (limit : ℕ) (v : List ℕ) → length v ≡ 8 → sum_l v ≤ limit
-    → AddsFit limit (fours v) (up_four (fours v))
-eights_fit limit =
-    on_eight (λ v. sum_l v ≤ limit → AddsFit limit (fours v) (up_four (fours v))) (λ a b c d e f g h small. omega arith)
+    → AddsFit limit (fours v) (moved UpFour (fours v))
+eights_fit limit = on_eight (λ v. sum_l v ≤ limit → AddsFit limit (fours v) (moved UpFour (fours v)))
+    (λ a b c d e f g h small. omega arith)
 
 pub same_eight : {a b c d e f g h a' b' c' d' e' f' g' h' : ℕ} → a ≡ a' → b ≡ b' → c ≡ c' → d ≡ d' → e ≡ e' → f ≡ f'
     → g ≡ g' → h ≡ h'
@@ -77,26 +77,26 @@ eights-running = on_eight (λ v. eights v ≡ running 0 v) (λ a b c d e f g h.
 
 -- the three additions one by one
 module _ (limit : ℕ) (v ones : List ℕ) (eight : length v ≡ 8) (small : sum_l v ≤ limit)
-    (ones_are : ones ≡ up_one v) where
+    (ones_are : ones ≡ moved UpOne v) where
   pub ones_fit : AddsFit limit v ones
   ones_fit = rw ones_are (pairs_fit limit v eight small)
 
-  module _ (ps twos : List ℕ) (ps_are : ps ≡ added v ones) (twos_are : twos ≡ up_two ps) where
+  module _ (ps twos : List ℕ) (ps_are : ps ≡ added v ones) (twos_are : twos ≡ moved UpTwo ps) where
     are_pairs : ps ≡ pairs v
     are_pairs = ps_are ∙ ap (added v) ones_are
 
-    are_twos : twos ≡ up_two (pairs v)
-    are_twos = twos_are ∙ ap up_two are_pairs
+    are_twos : twos ≡ moved UpTwo (pairs v)
+    are_twos = twos_are ∙ ap (moved UpTwo) are_pairs
 
     pub twos_fit : AddsFit limit ps twos
     twos_fit = rw (are_pairs, are_twos) (fours_fit limit v eight small)
 
-    module _ (fs four : List ℕ) (fs_are : fs ≡ added ps twos) (four_is : four ≡ up_four fs) where
+    module _ (fs four : List ℕ) (fs_are : fs ≡ added ps twos) (four_is : four ≡ moved UpFour fs) where
       are_fours : fs ≡ fours v
       are_fours = fs_are ∙ ap (λ l. added l twos) are_pairs ∙ ap (added (pairs v)) are_twos
 
-      are_four : four ≡ up_four (fours v)
-      are_four = four_is ∙ ap up_four are_fours
+      are_four : four ≡ moved UpFour (fours v)
+      are_four = four_is ∙ ap (moved UpFour) are_fours
 
       pub four_fits : AddsFit limit fs four
       four_fits = rw (are_fours, are_four) (eights_fit limit v eight small)
@@ -104,5 +104,5 @@ module _ (limit : ℕ) (v ones : List ℕ) (eight : length v ≡ 8) (small : sum
       sums_run : (sums : List ℕ) → sums ≡ added fs four → sums ≡ running 0 v
       sums_run sums e = grind (arith, are_fours, are_four, eights-running)
 
-      pub run_moved : (sums moved : List ℕ) → sums ≡ added fs four → moved ≡ up_one sums → moved ≡ sums_before 0 v
-      run_moved sums moved e f = f ∙ ap up_one (sums_run sums e) ∙ sums_moved v eight
+      pub run_moved : (sums up : List ℕ) → sums ≡ added fs four → up ≡ moved UpOne sums → up ≡ sums_before 0 v
+      run_moved sums up e f = f ∙ ap (moved UpOne) (sums_run sums e) ∙ sums_moved v eight

@@ -1,7 +1,7 @@
 -- The greatest and the least of lists and of vectors.
 use Rattle.std.proofs.Common.{◌≡◌, ℕ, ◌≤◌, min, max, List, [], ◌∷◌, ◌++◌, length, get_or, refl, sym, ◌∙◌, arith}
 use lib.Lanes.{zip2, top}
-use Rattle.shop_lanes.specs.Eights.{halves, quarters, neighbours}
+use Rattle.shop_lanes.specs.{Eights.moved, declared.blocks.Move.TheVariants.{Halves, Quarters, Neighbours}}
 use Rattle.shop_lanes.specs.Folds.{greatest, least_up_to}
 use Rattle.shop_lanes.proofs.Eights.{on_eight}
 
@@ -34,9 +34,9 @@ least-lesser top (x ∷ xs) (y ∷ ys) e = grind (arith, least-lesser top xs ys 
 
 abbrev pub folded : (ℕ → ℕ → ℕ) → List ℕ → ℕ
 folded f v =
-    let fours = zip2 f v (halves v)
-    in let pairs = zip2 f fours (quarters fours)
-    in get_or (zip2 f pairs (neighbours pairs)) 0 0
+    let fours = zip2 f v (moved Halves v)
+    in let pairs = zip2 f fours (moved Quarters fours)
+    in get_or (zip2 f pairs (moved Neighbours pairs)) 0 0
 
 pub folded-max : (v : List ℕ) → length v ≡ 8 → folded max v ≡ greatest v
 folded-max = on_eight (λ v. folded max v ≡ greatest v) (λ a b c d e f g h.
@@ -64,6 +64,7 @@ folded-min top = on_eight (λ v. folded min v ≤ top → folded min v ≡ least
     two : (p q : ℕ) → min p q ≤ top → min p (min q top) ≡ min p q
     two p q le = omega arith
 
-pub folded_is : (f : ℕ → ℕ → ℕ) (v fours pairs all : List ℕ) → fours ≡ zip2 f v (halves v)
-    → pairs ≡ zip2 f fours (quarters fours) → all ≡ zip2 f pairs (neighbours pairs) → get_or all 0 0 ≡ folded f v
+pub folded_is : (f : ℕ → ℕ → ℕ) (v fours pairs all : List ℕ) → fours ≡ zip2 f v (moved Halves v)
+    → pairs ≡ zip2 f fours (moved Quarters fours) → all ≡ zip2 f pairs (moved Neighbours pairs)
+    → get_or all 0 0 ≡ folded f v
 folded_is f v fours pairs all a b c = grind arith

@@ -1,10 +1,7 @@
 -- The least head from a number on, block by block.
 use Rattle.std.proofs.Common.{arith, ◌≡◌, ℕ, ◌+◌, ◌*◌, ◌≤◌, min, List, [], ◌∷◌, map, take, drop}
-use Rattle.std.proofs.lemmas.Bool.Decides.{nat_tests}
-use Rattle.std.proofs.lemmas.List.{take-map, drop-map}
-use Rattle.shop_lanes.specs.Eights.{ahead_of}
-use Rattle.shop_lanes.specs.Folds.{least_up_to}
-use Rattle.shop_lanes.specs.inner.LaterHeads.{least_later}
+use Rattle.std.proofs.{lemmas.Bool.Decides.nat_tests, lemmas.List.{take-map, drop-map}}
+use Rattle.shop_lanes.specs.{Eights.ahead_of, Folds.least_up_to, inner.LaterHeads.least_later}
 
 -- a block of a row: how far its numbers lie ahead
 pub ahead_block : (top from from' b : ℕ) (row block ahead : List ℕ) → from' ≡ from

@@ -1,11 +1,8 @@
 -- Spans from heads on, and how far one load settles them.
 use Rattle.std.proofs.Common.{◌≡◌, ℕ, ◌+◌, ◌-◌, ◌<◌, ◌≤◌, min, max, List, [], ◌∷◌, length, refl, ap, sym, ◌∙◌, arith}
-use Rattle.std.proofs.lemmas.Bool.Decides.{nat_tests}
-use Rattle.std.proofs.lemmas.Bool.{cases_lt}
-use Rattle.shop_lanes.specs.Rows.{Lane, lanes}
-use Rattle.shop_lanes.specs.Spans.{span, spans_from, spans_between, FitsSpan, IsRaisedBelow}
-use Rattle.shop_lanes.specs.Eights.{later_head}
-use Rattle.shop_lanes.specs.inner.LaterHeads.{least_later}
+use Rattle.std.proofs.{lemmas.Bool.Decides.nat_tests, lemmas.Bool.cases_lt}
+use Rattle.shop_lanes.specs.{Rows.{Lane, lanes}, Spans.{span, spans_from, spans_between, FitsSpan, IsRaisedBelow}}
+use Rattle.shop_lanes.specs.{Eights.later_head, inner.LaterHeads.least_later}
 use Rattle.shop_lanes.proofs.Loads.{span_from_start, load_le, work_le}
 
 -- fewer lanes that begin earlier end no later

@@ -1,9 +1,7 @@
 -- The load of some lanes is their span from 0 on, and their work the clock afterwards: how both are put together.
 use Rattle.std.proofs.Common.{◌≡◌, ℕ, ◌+◌, ◌≤◌, max, cond, leb, List, [], ◌∷◌, ◌++◌, refl, ap, ◌∙◌, arith, sum_by}
 use Rattle.std.proofs.lemmas.List.Sums.{sum_by-cons}
-use Rattle.shop_lanes.specs.Rows.{Lane}
-use Rattle.shop_lanes.specs.Spans.{span, greatest_by}
-use Rattle.shop_lanes.specs.inner.Passes.{clock_after}
+use Rattle.shop_lanes.specs.{Rows.Lane, Spans.{span, greatest_by}, inner.Passes.clock_after}
 use Rattle.shop_lanes.proofs.SpanParts.{span-append}
 
 -- all ends are later by the start; with no lane there is but the start

@@ -1,15 +1,11 @@
 -- Bits as positions: the lowest taken out, none left, and the mask of a test.
 use Rattle.std.proofs.Common.{◌≡◌, ℕ, zero, suc, ◌+◌, ◌-◌, ◌/◌, ◌%◌, ◌^◌, ◌<◌, ◌≤◌, Bool, List, [], ◌∷◌, length, map}
 use Rattle.std.proofs.Common.{refl, ap, sym, ◌∙◌, arith, min, ◌↔◌, IsTrue, nat_eq, pow-suc}
-use Rattle.std.proofs.lemmas.Bool.Decides.{nat_tests}
-use Rattle.std.proofs.lemmas.Bool.{cases_eq}
-use Rattle.std.specs.Int.Bits.{bit_and, and_self}
-use Rattle.std.specs.Int.{bit_at}
+use Rattle.std.proofs.{lemmas.Bool.Decides.nat_tests, lemmas.Bool.cases_eq}
 use Rattle.std.proofs.lemmas.Nat.Bits.{bit_at_and, bit_at-suc, bit_at_lowest, same_from_bits}
-use lib.Count.{count_trailing_zeros}
-use lib.Lanes.{mask_l}
-use Rattle.shop_lanes.specs.Marks.{marked}
-use Rattle.shop_lanes.specs.SetBits.{set_bits}
+use Rattle.std.specs.{Int.Bits.{bit_and, and_self}, Int.bit_at}
+use lib.{Count.count_trailing_zeros, Lanes.mask_l}
+use Rattle.shop_lanes.specs.{Marks.marked, SetBits.set_bits}
 
 pub half_and : (a b : ℕ) → bit_and a b / 2 ≡ bit_and (a / 2) (b / 2)
 half_and a b = same_from_bits (bit_and a b / 2) (bit_and (a / 2) (b / 2)) (λ i.

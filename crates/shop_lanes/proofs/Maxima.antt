@@ -1,9 +1,9 @@
 -- The greatest numbers before and behind each of eight, by three turns and by position.
-use Rattle.std.proofs.Common.{◌≡◌, ℕ, zero, suc, ◌<◌, max, List, [], ◌∷◌, length, take, drop, get_or}
-use Rattle.std.proofs.Common.{refl, ap, ◌∙◌, arith}
+use Rattle.std.proofs.Common.{◌≡◌, ℕ, zero, suc, ◌<◌, max, List, [], ◌∷◌, length, take, drop, get_or, refl, ap, ◌∙◌}
+use Rattle.std.proofs.Common.{arith}
 use lib.Lanes.{zip2}
-use Rattle.shop_lanes.specs.Eights.{up_one, up_two, up_four, down_one, down_two, down_four}
-use Rattle.shop_lanes.specs.Folds.{greatest, greatest_before, maxima_behind}
+use Rattle.shop_lanes.specs.{Eights.moved, declared.blocks.Move.Move, Folds.{greatest, greatest_before, maxima_behind}}
+use Rattle.shop_lanes.specs.declared.blocks.Move.TheVariants.{UpOne, UpTwo, UpFour, DownOne, DownTwo, DownFour}
 use Rattle.shop_lanes.proofs.Eights.{on_eight, same_eight}
 
 pub greatest_before-get : (most : ℕ) (xs : List ℕ) (k : ℕ) → k < length xs
@@ -19,8 +19,8 @@ maxima_behind-get most (x ∷ xs) zero lt = refl
 maxima_behind-get most (x ∷ xs) (suc k) lt = maxima_behind-get most xs k (omega arith)
 
 -- the turns that give them
-abbrev pub turned : (List ℕ → List ℕ) → List ℕ → List ℕ
-turned move v = zip2 max v (move v)
+abbrev pub turned : Move → List ℕ → List ℕ
+turned how v = zip2 max v (moved how v)
 
 pair : (p a b : ℕ) → max (max b a) p ≡ max (max p a) b
 pair p a b = omega arith
@@ -29,9 +29,8 @@ four : (p a b c d : ℕ) → max (max (max d c) (max b a)) p ≡ max (max (max (
 four p a b c d = grind (arith, pair)
 
 pub before_turned : (v : List ℕ) → length v ≡ 8
-    → turned up_four (turned up_two (turned up_one (up_one v))) ≡ greatest_before 0 v
-before_turned =
-    on_eight (λ v. turned up_four (turned up_two (turned up_one (up_one v))) ≡ greatest_before 0 v)
+    → turned UpFour (turned UpTwo (turned UpOne (moved UpOne v))) ≡ greatest_before 0 v
+before_turned = on_eight (λ v. turned UpFour (turned UpTwo (turned UpOne (moved UpOne v))) ≡ greatest_before 0 v)
     (λ a b c d e f g h. same_eight
     refl
     (omega arith)
@@ -52,9 +51,8 @@ before_turned =
     three a b c = omega arith
 
 pub behind_turned : (v : List ℕ) → length v ≡ 8
-    → turned down_four (turned down_two (turned down_one (down_one v))) ≡ maxima_behind 0 v
-behind_turned =
-    on_eight (λ v. turned down_four (turned down_two (turned down_one (down_one v))) ≡ maxima_behind 0 v)
+    → turned DownFour (turned DownTwo (turned DownOne (moved DownOne v))) ≡ maxima_behind 0 v
+behind_turned = on_eight (λ v. turned DownFour (turned DownTwo (turned DownOne (moved DownOne v))) ≡ maxima_behind 0 v)
     (λ a b c d e f g h. same_eight
     (fours b c d e (max (max f g) (max h 0)) ∙ ap (λ p. max 0 (max b (max c (max d (max e p))))) (three f g h))
     (fours c d e f (max (max g h) 0) ∙ ap (λ p. max 0 (max c (max d (max e (max f p))))) (two g h))
@@ -78,8 +76,8 @@ behind_turned =
     fours a b c d p = grind arith
 
 -- the turns one by one
-pub turns_are : (one two four : List ℕ → List ℕ) (v ones moved pairs moved' fours moved'' all : List ℕ)
-    → ones ≡ one v → moved ≡ one ones → pairs ≡ zip2 max ones moved → moved' ≡ two pairs
-    → fours ≡ zip2 max pairs moved' → moved'' ≡ four fours → all ≡ zip2 max fours moved''
-    → all ≡ turned four (turned two (turned one (one v)))
-turns_are one two four v ones moved pairs moved' fours moved'' all eo em ep em' ef em'' ea = grind arith
+pub turns_are : (one two four : Move) (v ones beside pairs beside' fours beside'' all : List ℕ)
+    → ones ≡ moved one v → beside ≡ moved one ones → pairs ≡ zip2 max ones beside → beside' ≡ moved two pairs
+    → fours ≡ zip2 max pairs beside' → beside'' ≡ moved four fours → all ≡ zip2 max fours beside''
+    → all ≡ turned four (turned two (turned one (moved one v)))
+turns_are one two four v ones beside pairs beside' fours beside'' all eo em ep em' ef em'' ea = grind arith

@@ -1,24 +1,19 @@
 -- The passes for own spans: down the columns, and back.
 use Rattle.std.proofs.Common.{◌≡◌, ℕ, suc, ◌+◌, ◌-◌, ◌*◌, ◌<◌, ◌≤◌, max, cond, leb, rules, List, ◌∷◌, length, take}
 use Rattle.std.proofs.Common.{drop, set, get_or, ap, sym, ◌∙◌, arith, subst, replicate, inl, inr, length-set, ◌%◌, ◌/◌}
-use Rattle.std.proofs.Math.Seq.{drop-cons, take-add}
-use Rattle.std.proofs.lemmas.Bool.{cases_lt}
+use Rattle.std.proofs.{Math.Seq.{drop-cons, take-add}, lemmas.Bool.cases_lt}
 use Rattle.std.proofs.lemmas.Simd.{get_or-zip2, length-zip2, length-put_chunk, get_or-put_chunk_below}
 use Rattle.std.proofs.lemmas.Simd.{get_or-put_chunk_at, get_or-put_chunk_above}
 use lib.Lanes.{zip2, put_chunk}
-use Rattle.shop_lanes.specs.Eights.{added, lessened, waiting, AddsFit}
-use Rattle.shop_lanes.specs.Rows.{Lane, lanes, by_columns}
-use Rattle.shop_lanes.specs.Spans.{span, FitOwnSpans}
-use Rattle.shop_lanes.specs.inner.OwnSpans.{rank_of, IsLoadBehind, own_span_at}
+use Rattle.shop_lanes.specs.{Eights.{added, lessened, waiting, AddsFit}, Rows.{Lane, lanes, by_columns}}
+use Rattle.shop_lanes.specs.{Spans.{span, FitOwnSpans}, inner.OwnSpans.{rank_of, IsLoadBehind, own_span_at}}
 use Rattle.shop_lanes.specs.inner.Passes.{clock_after, eight}
 use Rattle.shop_lanes.proofs.Columns.{rank_fits, rank_below, rank_of_parts, by_columns-of, by_columns-set}
 use Rattle.shop_lanes.proofs.Columns.{length-by_columns, lanes-by_columns}
 use Rattle.shop_lanes.proofs.ColumnTurns.{AreColumnsOf, IsServedTo, front_of, fronts, part_of, as_eight, eight_same}
 use Rattle.shop_lanes.proofs.ColumnTurns.{in_eight, eight_fit, block_eight, work_next, work_small, tail_small}
-use Rattle.shop_lanes.proofs.LaneLists.{lane_at}
-use Rattle.shop_lanes.proofs.Loads.{span_from_start, load-append, work-append, load_le}
-use Rattle.shop_lanes.proofs.SpanParts.{greatest_part}
-use Rattle.shop_lanes.proofs.OwnPositions.{own_in_order, own_fits, own_at}
+use Rattle.shop_lanes.proofs.{LaneLists.lane_at, Loads.{span_from_start, load-append, work-append, load_le}}
+use Rattle.shop_lanes.proofs.{SpanParts.greatest_part, OwnPositions.{own_in_order, own_fits, own_at}}
 
 -- what stands at a place, in order of rank
 module _ {count : ℕ} {hs ts qs : List ℕ} {all : List Lane} (cols : AreColumnsOf count hs ts qs all) where
@@ -223,14 +218,14 @@ module _ {count : ℕ} {hs ts qs : List ℕ} {rows : List Lane} (cols : AreColum
         first_fronts : first ≡ eight (λ k. span 1 0 (front_of count rows k j))
         first_fronts = grind (arith, noted, begins_eight, noted_eight, part_of, eight_same, front_of, front_load)
 
-        pub first_long : length first ≡ 8
+        first_long : length first ≡ 8
         first_long = ap length first_fronts
 
         first_eight : first ≡ eight (λ k. get_or first k 0)
         first_eight = as_eight first first_long
 
         first_here : (k : ℕ) → k < 8 → get_or first k 0 ≡ span 1 0 (take (rank_of count (8 * j + k)) rows)
-        first_here k lt = search (rules, first_fronts, in_eight, front_of, rank_of_parts)
+        first_here k lt = search (rules, first_fronts, in_eight, rank_of_parts)
 
         behind_here : (k : ℕ) → k < 8 → IsLoadBehind rows (suc (rank_of count (8 * j + k))) (get_or behind k 0)
         behind_here k lt =
@@ -255,6 +250,9 @@ module _ {count : ℕ} {hs ts qs : List ℕ} {rows : List Lane} (cols : AreColum
 
         own_begins : added heads times ≡ eight (λ k. get_or hs (8 * j + k) 0 + get_or ts (8 * j + k) 0)
         own_begins = grind (arith, heads_eight, times_eight)
+
+        pub rest_long : {less : List ℕ} → less ≡ lessened behind times → length first ≡ length less
+        rest_long told = grind (arith, first_long, behind_eight, times_eight)
 
         pub ends_fit : AddsFit limit (added heads times) (zip2 max first (lessened behind times))
         ends_fit = grind (arith, own_begins, own_rest, eight_fit, here_fits)

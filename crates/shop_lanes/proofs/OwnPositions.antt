@@ -1,15 +1,11 @@
 -- The own span of one position, from the ends of what stands before it and behind it.
 use Rattle.std.proofs.Common.{◌≡◌, ℕ, zero, suc, ◌+◌, ◌-◌, ◌<◌, ◌≤◌, max, Bool, cond, leb, List, [], ◌∷◌, ◌++◌, length}
 use Rattle.std.proofs.Common.{take, drop, set, get_or, refl, ap, sym, ◌∙◌, arith, subst, take-append-drop, length-set}
+use Rattle.std.proofs.{lemmas.List.Sums.{sum_by-cons, sum_by-append}, lemmas.Bool.Decides.nat_tests}
 use Rattle.std.specs.Prelude.{All}
-use Rattle.std.proofs.lemmas.List.Sums.{sum_by-cons, sum_by-append}
-use Rattle.std.proofs.lemmas.Bool.Decides.{nat_tests}
-use Rattle.shop_lanes.specs.Rows.{Lane, lanes}
-use Rattle.shop_lanes.specs.Spans.{span, FitsSpan, FitOwnSpans}
-use Rattle.shop_lanes.specs.inner.OwnSpans.{IsLoadBehind}
+use Rattle.shop_lanes.specs.{Rows.{Lane, lanes}, Spans.{span, FitsSpan, FitOwnSpans}, inner.OwnSpans.IsLoadBehind}
 use Rattle.shop_lanes.specs.inner.Passes.{clock_after}
-use Rattle.shop_lanes.proofs.SpanParts.{greatest_by-append}
-use Rattle.shop_lanes.proofs.LaneLists.{lane_at, lanes_more, lanes-take, lanes-drop}
+use Rattle.shop_lanes.proofs.{SpanParts.greatest_by-append, LaneLists.{lane_at, lanes_more, lanes-take, lanes-drop}}
 use Rattle.shop_lanes.proofs.Loads.{work-append, load-append, work-one, work_le_load, work_le, load_le, span_from_start}
 
 -- where all lanes are those before one, that one and those behind, none of their sums is above the limit

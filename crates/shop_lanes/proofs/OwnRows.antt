@@ -1,13 +1,9 @@
 -- Own spans in blocks that were sliced out of rows are those of the rows.
-use Rattle.std.proofs.Common.{◌≡◌, ℕ, zero, suc, ◌+◌, ◌-◌, ◌*◌, ◌<◌, ◌≤◌, List, [], ◌∷◌, length, map, take}
-use Rattle.std.proofs.Common.{drop, set, get_or, refl, ap, sym, ◌∙◌, arith, length-set}
-use Rattle.std.proofs.lemmas.Simd.{get_or-chunk}
-use Rattle.shop_lanes.specs.Rows.{AreBlocksOf, AreCutFrom, lanes, blocks}
-use Rattle.shop_lanes.specs.declared.lane_rows.LaneRows.{LaneRows}
-use Rattle.shop_lanes.specs.Spans.{own_span, AreOwnSpans}
-use Rattle.shop_lanes.specs.inner.OwnSpans.{own_span_at, AreOwnSpansOf}
-use Rattle.shop_lanes.proofs.LaneLists.{lanes-blocks}
-use Rattle.shop_lanes.proofs.Padding.{take-set}
+use Rattle.std.proofs.Common.{◌≡◌, ℕ, zero, suc, ◌+◌, ◌-◌, ◌*◌, ◌<◌, ◌≤◌, List, [], ◌∷◌, length, map, take, drop, set}
+use Rattle.std.proofs.{Common.{get_or, refl, ap, sym, ◌∙◌, arith, length-set}, lemmas.Simd.get_or-chunk}
+use Rattle.shop_lanes.specs.{Rows.{AreBlocksOf, AreCutFrom, lanes, blocks}, declared.lane_rows.LaneRows.LaneRows}
+use Rattle.shop_lanes.specs.{Spans.{own_span, AreOwnSpans}, inner.OwnSpans.{own_span_at, AreOwnSpansOf}}
+use Rattle.shop_lanes.proofs.{LaneLists.lanes-blocks, Padding.take-set}
 use Rattle.shop_lanes.proofs.RowValues.{count_cut, heads_cut, long_cut, tails_cut, times_cut}
 
 drop-set : (k i x : ℕ) (xs : List ℕ) → drop k (set xs (k + i) x) ≡ set (drop k xs) i x

@@ -1,15 +1,10 @@
 -- Where the passes for own spans begin, down the columns and back.
 use Rattle.std.proofs.Common.{◌≡◌, ℕ, ◌+◌, ◌*◌, List, take, get_or, refl, ap, sym, ◌∙◌, arith, rules}
-use Rattle.shop_lanes.specs.Eights.{added}
-use Rattle.shop_lanes.specs.Folds.{greatest_before, maxima_behind, sums_before}
+use Rattle.shop_lanes.specs.{Eights.added, Folds.{greatest_before, maxima_behind, sums_before}, Rows.Lane, Spans.span}
+use Rattle.shop_lanes.specs.{inner.OwnSpans.AreLoadsBehind, inner.Passes.{clock_after, eight}}
 use Rattle.shop_lanes.proofs.Maxima.{greatest_before-get, maxima_behind-get}
-use Rattle.shop_lanes.specs.Rows.{Lane}
-use Rattle.shop_lanes.specs.Spans.{span}
-use Rattle.shop_lanes.specs.inner.OwnSpans.{AreLoadsBehind}
-use Rattle.shop_lanes.specs.inner.Passes.{clock_after, eight}
-use Rattle.shop_lanes.proofs.ColumnScan.{begin, work, load, finish, begin_next, ends_before, ends_behind}
-use Rattle.shop_lanes.proofs.ColumnScan.{begins_eight, ends_eight, next_column}
-use Rattle.shop_lanes.proofs.ColumnTurns.{AreColumnsOf, as_eight, eight_same}
+use Rattle.shop_lanes.proofs.ColumnScan.{begin, work, load, finish, begin_next, ends_before, ends_behind, begins_eight}
+use Rattle.shop_lanes.proofs.{ColumnScan.{ends_eight, next_column}, ColumnTurns.{AreColumnsOf, as_eight, eight_same}}
 
 module _ {count : ℕ} {hs ts qs : List ℕ} {all : List Lane} (cols : AreColumnsOf count hs ts qs all)
     {works begins : List ℕ} (works_are : works ≡ eight (work 1 cols)) (begins_told : begins ≡ sums_before 0 works)

@@ -1,7 +1,6 @@
 -- Rows of numbers of some width, seen as numbers.
 use Rattle.std.proofs.Common.{◌≡◌, ℕ, ◌-◌, ◌*◌, ◌/◌, ◌++◌, List, length, map, take, sym, ap, ◌∙◌, arith}
-use Rattle.std.proofs.lemmas.List.{length-map, take-map, drop-map}
-use Rattle.std.proofs.Math.Seq.{take-append_seam}
+use Rattle.std.proofs.{lemmas.List.{length-map, take-map, drop-map}, Math.Seq.take-append_seam}
 use Rattle.shop_lanes.specs.Rows.{AreBlocksOf, AreCutFrom, blocks, lanes_in, lanes_of}
 use Rattle.shop_lanes.specs.declared.lane_rows.LaneRows.{LaneRows}
 use Rattle.shop_lanes.proofs.LaneLists.{lanes-blocks, length-blocks}

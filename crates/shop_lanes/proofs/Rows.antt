@@ -1,10 +1,8 @@
 -- Worked rows: lanes served by hand, and the bits of a number.
 use Rattle.std.specs.Prelude.{◌≡◌, ℕ, List, [], ◌∷◌}
 use Rattle.std.proofs.Common.{refl}
-use Rattle.shop_lanes.specs.Rows.{Rows, Lane, lanes_between, place_at_rank, by_columns}
-use Rattle.shop_lanes.specs.Spans.{span, spans_between, own_span}
-use Rattle.shop_lanes.specs.Marks.{positions_below}
-use Rattle.shop_lanes.specs.SetBits.{set_bits}
+use Rattle.shop_lanes.specs.{Rows.{Rows, Lane, lanes_between, place_at_rank, by_columns}, Marks.positions_below}
+use Rattle.shop_lanes.specs.{Spans.{span, spans_between, own_span}, SetBits.set_bits}
 
 -- three operations with heads of 3, 1 and 6, and a position where nothing waits
 abbrev pub three : List Lane

@@ -1,10 +1,7 @@
 -- Lanes served one after the other: some of them, and then others.
-use Rattle.std.proofs.Common.{◌≡◌, ℕ, ◌+◌, ◌≤◌, ◌<◌, max, List, [], ◌∷◌, ◌++◌, zero, suc}
-use Rattle.std.proofs.Common.{arith, sum_by, length, get_or, take, drop, take-append-drop, ap}
-use Rattle.std.proofs.lemmas.List.Sums.{sum_by-append}
-use Rattle.shop_lanes.specs.Rows.{Lane}
-use Rattle.shop_lanes.specs.Spans.{span, greatest_by}
-use Rattle.shop_lanes.specs.inner.Passes.{clock_after}
+use Rattle.std.proofs.Common.{◌≡◌, ℕ, ◌+◌, ◌≤◌, ◌<◌, max, List, [], ◌∷◌, ◌++◌, zero, suc, arith, sum_by, length, get_or}
+use Rattle.std.proofs.{Common.{take, drop, take-append-drop, ap}, lemmas.List.Sums.sum_by-append}
+use Rattle.shop_lanes.specs.{Rows.Lane, Spans.{span, greatest_by}, inner.Passes.clock_after}
 
 -- serving some lanes and then others
 pub span-append : (least start : ℕ) (xs ys : List Lane)

@@ -1,12 +1,9 @@
 -- What the masks of comparisons tell of vectors, as bits.
-use Rattle.std.proofs.Common.{◌≡◌, ℕ, zero, suc, ◌-◌, ◌%◌, ◌≤◌, ◌^◌, Bool, cond, ltb, leb, List, []}
-use Rattle.std.proofs.Common.{◌∷◌, length, map, replicate, refl, ap, ◌∙◌, arith}
-use Rattle.std.proofs.lemmas.List.{length-map}
-use Rattle.std.proofs.lemmas.Simd.{mask_l-mod}
+use Rattle.std.proofs.Common.{◌≡◌, ℕ, zero, suc, ◌-◌, ◌%◌, ◌≤◌, ◌^◌, Bool, cond, ltb, leb, List, [], ◌∷◌, length, map}
+use Rattle.std.proofs.{Common.{replicate, refl, ap, ◌∙◌, arith}, lemmas.List.length-map, lemmas.Simd.mask_l-mod}
 use Rattle.std.specs.Int.Bits.{bit_and}
 use lib.Lanes.{zip2, top, mask_l}
-use mir.Syntax.{Width}
-use mir.Val.{bits, hbits}
+use mir.{Syntax.Width, Val.{bits, hbits}}
 use Rattle.shop_lanes.specs.Eights.{is_between}
 
 -- above the one number and at most the other

@@ -1,7 +1,6 @@
 -- Eight numbers moved among their lanes, added, subtracted, and chosen from.
---     up_one, up_two, up_four          moved up by one, two or four lanes, with zeros from below
---     down_one, down_two, down_four    moved down by one, two or four lanes, with zeros from above
---     halves, quarters, neighbours     with halves, quarters or neighbours exchanged
+--     moved how xs                     moved up or down by one, two or four lanes, with zeros behind them; or with
+--                                      halves, quarters or neighbours exchanged
 --     waiting least heads xs           the numbers whose head is at least `least`, 0 in other lanes
 --     later_head rest least head       `head` if it is at least `least`, else `rest`
 --     ahead_of greatest from x         how far x lies ahead of `from`; 0 follows on `greatest`
@@ -9,36 +8,23 @@
 --     is_marked equal number x         if `equal`, x is the number; else x is above 0 and at most the number
 use Rattle.std.specs.Prelude.{◌≡◌, ℕ, ◌+◌, ◌-◌, ◌≤◌, Bool, ◌&&◌, ◌==◌, List, [], ◌∷◌, ◌++◌, length, replicate, map}
 use Rattle.std.specs.{Prelude.{nat_le, nat_lt, if◌then◌else◌, slice_index}, Simd.Lanes.{pick_l, sel_l, zip2, Each2}}
+use Rattle.shop_lanes.specs.{declared.blocks.Move.Move, declared.blocks.Move.TheVariants.{UpOne, UpTwo, UpFour}}
+use Rattle.shop_lanes.specs.declared.blocks.Move.TheVariants.{DownOne, DownTwo, DownFour, Halves, Quarters, Neighbours}
 
 abbrev pub eight_zeros : List ℕ
 eight_zeros = 0 ∷ 0 ∷ 0 ∷ 0 ∷ 0 ∷ 0 ∷ 0 ∷ 0 ∷ []
 
-abbrev pub up_one : List ℕ → List ℕ
-up_one v = pick_l 0 (v ++ eight_zeros) (8 ∷ 0 ∷ 1 ∷ 2 ∷ 3 ∷ 4 ∷ 5 ∷ 6 ∷ [])
-
-abbrev pub up_two : List ℕ → List ℕ
-up_two v = pick_l 0 (v ++ eight_zeros) (8 ∷ 8 ∷ 0 ∷ 1 ∷ 2 ∷ 3 ∷ 4 ∷ 5 ∷ [])
-
-abbrev pub up_four : List ℕ → List ℕ
-up_four v = pick_l 0 (v ++ eight_zeros) (8 ∷ 8 ∷ 8 ∷ 8 ∷ 0 ∷ 1 ∷ 2 ∷ 3 ∷ [])
-
-abbrev pub down_one : List ℕ → List ℕ
-down_one v = pick_l 0 (v ++ eight_zeros) (1 ∷ 2 ∷ 3 ∷ 4 ∷ 5 ∷ 6 ∷ 7 ∷ 8 ∷ [])
-
-abbrev pub down_two : List ℕ → List ℕ
-down_two v = pick_l 0 (v ++ eight_zeros) (2 ∷ 3 ∷ 4 ∷ 5 ∷ 6 ∷ 7 ∷ 8 ∷ 8 ∷ [])
-
-abbrev pub down_four : List ℕ → List ℕ
-down_four v = pick_l 0 (v ++ eight_zeros) (4 ∷ 5 ∷ 6 ∷ 7 ∷ 8 ∷ 8 ∷ 8 ∷ 8 ∷ [])
-
-abbrev pub halves : List ℕ → List ℕ
-halves v = pick_l 0 (v ++ v) (4 ∷ 5 ∷ 6 ∷ 7 ∷ 0 ∷ 1 ∷ 2 ∷ 3 ∷ [])
-
-abbrev pub quarters : List ℕ → List ℕ
-quarters v = pick_l 0 (v ++ v) (2 ∷ 3 ∷ 0 ∷ 1 ∷ 4 ∷ 5 ∷ 6 ∷ 7 ∷ [])
-
-abbrev pub neighbours : List ℕ → List ℕ
-neighbours v = pick_l 0 (v ++ v) (1 ∷ 0 ∷ 2 ∷ 3 ∷ 4 ∷ 5 ∷ 6 ∷ 7 ∷ [])
+-- the numbers moved among their lanes
+abbrev pub moved : Move → List ℕ → List ℕ
+moved UpOne v = pick_l 0 (v ++ eight_zeros) (8 ∷ 0 ∷ 1 ∷ 2 ∷ 3 ∷ 4 ∷ 5 ∷ 6 ∷ [])
+moved UpTwo v = pick_l 0 (v ++ eight_zeros) (8 ∷ 8 ∷ 0 ∷ 1 ∷ 2 ∷ 3 ∷ 4 ∷ 5 ∷ [])
+moved UpFour v = pick_l 0 (v ++ eight_zeros) (8 ∷ 8 ∷ 8 ∷ 8 ∷ 0 ∷ 1 ∷ 2 ∷ 3 ∷ [])
+moved DownOne v = pick_l 0 (v ++ eight_zeros) (1 ∷ 2 ∷ 3 ∷ 4 ∷ 5 ∷ 6 ∷ 7 ∷ 8 ∷ [])
+moved DownTwo v = pick_l 0 (v ++ eight_zeros) (2 ∷ 3 ∷ 4 ∷ 5 ∷ 6 ∷ 7 ∷ 8 ∷ 8 ∷ [])
+moved DownFour v = pick_l 0 (v ++ eight_zeros) (4 ∷ 5 ∷ 6 ∷ 7 ∷ 8 ∷ 8 ∷ 8 ∷ 8 ∷ [])
+moved Halves v = pick_l 0 (v ++ v) (4 ∷ 5 ∷ 6 ∷ 7 ∷ 0 ∷ 1 ∷ 2 ∷ 3 ∷ [])
+moved Quarters v = pick_l 0 (v ++ v) (2 ∷ 3 ∷ 0 ∷ 1 ∷ 4 ∷ 5 ∷ 6 ∷ 7 ∷ [])
+moved Neighbours v = pick_l 0 (v ++ v) (1 ∷ 0 ∷ 2 ∷ 3 ∷ 4 ∷ 5 ∷ 6 ∷ 7 ∷ [])
 
 abbrev pub added : List ℕ → List ℕ → List ℕ
 added = zip2 (λ a b. a + b)

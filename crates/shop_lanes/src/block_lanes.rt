@@ -60,8 +60,7 @@ fn end_row<B: Block>(row: &mut [B::Number], positions: usize)
 /// Writes head 0 at each of the first `positions` places of `row`, and `GREATEST` at all places behind them.
 fn clear_row<B: Block>(row: &mut [B::Number], positions: usize)
     requires { positions ≤ length row.old }
-    ensures { map B.value row.new
-        ≡ replicate positions 0 ++ replicate (length row.old - positions) B.GREATEST }
+    ensures { map B.value row.new ≡ replicate positions 0 ++ replicate (length row.old - positions) B.GREATEST }
 {
     for position in 0..positions {
         row[position] = B::narrowed(0);
@@ -95,14 +94,6 @@ impl<B: Block, const EACH: usize> BlockLanes<B, EACH> {
         ensures { result.now ≡ take self.now.positions self.now.row.items }
     {
         &self.row[..self.positions]
-    }
-
-    /// The end of each job's next operation, and the padding behind the last one.
-    #[inline(always)]
-    fn ends(&self) -> &[B::Number]
-        ensures { result.now ≡ drop (self.now.positions + 8) self.now.row.items }
-    {
-        &self.row[self.positions + 8..]
     }
 }
 
@@ -179,7 +170,8 @@ impl<B: Block, const EACH: usize> StateLanes for BlockLanes<B, EACH> {
 
     #[inline(always)]
     fn first_least_end(&self) -> (usize, u64) {
-        first_least::<B, EACH>(self.ends())
+        // the ends, and the padding behind the last one
+        first_least::<B, EACH>(&self.row[self.positions + 8..])
     }
 
     #[inline(always)]

@@ -1,11 +1,27 @@
 // What each width of lanes offers: blocks of eight numbers, which are read, added and compared lane by lane at once.
 ghost use Rattle.std.specs.Prelude.{◌≡◌, ℕ, ◌+◌, ◌*◌, ◌<◌, ◌≤◌, List, length, replicate, map, min, max, IfOk, take};
 ghost use Rattle.std.specs.{Prelude.drop, Simd.Lanes.{mask_l, zip2, put_chunk}};
-ghost use Rattle.shop_lanes.specs.Eights.{first_of, is_marked, IsSplat, up_one, up_two, up_four, down_one, down_two};
-ghost use Rattle.shop_lanes.specs.Eights.{down_four, halves, quarters, neighbours, added, lessened, waiting, AddsFit};
-ghost use Rattle.shop_lanes.specs.Eights.{ahead_of};
+ghost use Rattle.shop_lanes.specs.Eights.{added, ahead_of, first_of, is_marked, lessened, moved, waiting, AddsFit};
+ghost use Rattle.shop_lanes.specs.Eights.{IsSplat};
 
 use std::alloc::{AllocError as NoMemory, Global};
+
+/// How the numbers of a block move among its lanes. Up is to the higher lane; 0 comes into lanes that are left.
+#[derive(Clone, Copy)]
+pub enum Move {
+    UpOne,
+    UpTwo,
+    UpFour,
+    DownOne,
+    DownTwo,
+    DownFour,
+    /// lanes 0 to 3 swap with lanes 4 to 7
+    Halves,
+    /// lanes 0 and 1 swap with lanes 2 and 3; the other lanes stay
+    Quarters,
+    /// lanes 0 and 1 swap; the other lanes stay
+    Neighbours,
+}
 
 /// A block: eight numbers of one width, one in each lane. An operation works on all eight lanes at once.
 pub trait Block: Copy + Drop {
@@ -45,45 +61,16 @@ pub trait Block: Copy + Drop {
     fn store(written: Self, row: &mut [Self::Number], block: usize)
         requires eight { length (numbers written) ≡ 8 }
         requires within { 8 * (block + 1) ≤ length row.old }
-        ensures { map value row.new
-            ≡ put_chunk (8 * block) (map value row.old) (numbers written) };
+        ensures { map value row.new ≡ put_chunk (8 * block) (map value row.old) (numbers written) };
 
     /// The number in the first lane of `block`.
     fn first(block: Self) -> u64
         ensures first { result ≡ first_of (numbers block) }
         ensures small { result ≤ GREATEST };
 
-    /// Moves each number one lane up; 0 comes into the first lane.
-    fn up_one(block: Self) -> Self
-        ensures { numbers result ≡ up_one (numbers block) };
-
-    fn up_two(block: Self) -> Self
-        ensures { numbers result ≡ up_two (numbers block) };
-
-    fn up_four(block: Self) -> Self
-        ensures { numbers result ≡ up_four (numbers block) };
-
-    /// Moves each number one lane down; 0 comes into the last lane.
-    fn down_one(block: Self) -> Self
-        ensures { numbers result ≡ down_one (numbers block) };
-
-    fn down_two(block: Self) -> Self
-        ensures { numbers result ≡ down_two (numbers block) };
-
-    fn down_four(block: Self) -> Self
-        ensures { numbers result ≡ down_four (numbers block) };
-
-    /// Swaps lanes 0 to 3 with lanes 4 to 7.
-    fn halves(block: Self) -> Self
-        ensures { numbers result ≡ halves (numbers block) };
-
-    /// Swaps lanes 0 and 1 with lanes 2 and 3; the other lanes stay.
-    fn quarters(block: Self) -> Self
-        ensures { numbers result ≡ quarters (numbers block) };
-
-    /// Swaps lanes 0 and 1; the other lanes stay.
-    fn neighbours(block: Self) -> Self
-        ensures { numbers result ≡ neighbours (numbers block) };
+    /// Moves the numbers of `block` among its lanes. Of a literal `how` only that move is compiled, without a branch.
+    fn moved(block: Self, how: Move) -> Self
+        ensures { numbers result ≡ moved how (numbers block) };
 
     fn sum(a: Self, b: Self) -> Self
         requires { AddsFit GREATEST (numbers a) (numbers b) }
@@ -94,10 +81,12 @@ pub trait Block: Copy + Drop {
         requires { length (numbers a) ≡ length (numbers b) }
         ensures { numbers result ≡ lessened (numbers a) (numbers b) };
 
+    /// The greater of the two numbers in each lane.
     fn greater(a: Self, b: Self) -> Self
         requires { length (numbers a) ≡ length (numbers b) }
         ensures { numbers result ≡ zip2 max (numbers a) (numbers b) };
 
+    /// The lesser of the two numbers in each lane.
     fn lesser(a: Self, b: Self) -> Self
         requires { length (numbers a) ≡ length (numbers b) }
         ensures { numbers result ≡ zip2 min (numbers a) (numbers b) };
@@ -106,8 +95,7 @@ pub trait Block: Copy + Drop {
     fn waiting(block: Self, heads: Self, least: Self) -> Self
         requires heads { length (numbers heads) ≡ 8 }
         requires least { IsSplat (numbers least) }
-        ensures { numbers result
-            ≡ waiting (first_of (numbers least)) (numbers heads) (numbers block) };
+        ensures { numbers result ≡ waiting (first_of (numbers least)) (numbers heads) (numbers block) };
 
     /// Reads eight numbers of `row`, from number 8 * `block` on. Answers in each lane how far its number lies ahead of
     /// `from`, where 0 follows `GREATEST`.
@@ -130,8 +118,7 @@ pub trait Block: Copy + Drop {
     fn pair_bits(row: &[Self::Number], pair: usize, equal: bool, number: u64) -> u64
         requires within { 16 * (pair + 1) ≤ length row.now }
         requires fits { number ≤ GREATEST }
-        ensures { result
-            ≡ mask_l (map (is_marked equal number) (take 16 (drop (16 * pair) (map value row.now)))) };
+        ensures { result ≡ mask_l (map (is_marked equal number) (take 16 (drop (16 * pair) (map value row.now)))) };
 
     ghost has_numbers: { 0 < GREATEST };
 }

@@ -1,9 +1,8 @@
 // Raises a bound to the greatest span from a head in a range. The span from head h is h plus the load L of the
 // operations with no lesser head. Later heads have no greater load, so `leap` skips the heads up to the bound less L.
 ghost use Rattle.std.specs.Prelude.{◌≡◌, ◌%◌, ◌≤◌, max, length, map};
-ghost use Rattle.shop_lanes.specs.{Eights.ahead_of, Folds.least_up_to, Rows.lanes_in};
+ghost use Rattle.shop_lanes.specs.{Eights.ahead_of, Folds.least_up_to, Rows.lanes_in, inner.Passes.CanRaiseBound};
 ghost use Rattle.shop_lanes.specs.Spans.{spans_between, IsRaisedBelow};
-ghost use Rattle.shop_lanes.specs.inner.Passes.{CanRaiseBound};
 
 use crate::blocks::Block;
 use crate::folds::least_of;
@@ -17,8 +16,7 @@ fn nearest_of<B: Block>(count: usize, heads: &[B::Number], from: u64, greatest: 
     requires whole_blocks { count % 8 ≡ 0 }
     requires from { from ≤ B.GREATEST }
     requires greatest { greatest ≡ B.GREATEST }
-    ensures { result
-        ≡ least_up_to B.GREATEST (map (ahead_of B.GREATEST from) (map B.value heads.now)) }
+    ensures { result ≡ least_up_to B.GREATEST (map (ahead_of B.GREATEST from) (map B.value heads.now)) }
 {
     let begin = B::splat(from);
     let mut least = B::splat(greatest);
@@ -41,8 +39,7 @@ pub(crate) fn leap<B: Block>(
 ) -> u64
     requires count { length rows.now.heads.now ≡ count }
     requires can { CanRaiseBound B.value B.GREATEST range.upto rows.now }
-    ensures { IsRaisedBelow limit
-        (max most (spans_between range.above range.upto (lanes_in B.value rows.now))) result }
+    ensures { IsRaisedBelow limit (max most (spans_between range.above range.upto (lanes_in B.value rows.now))) result }
 {
     let greatest = B::GREATEST;
     let upto = range.upto;
@@ -77,8 +74,7 @@ pub(crate) fn leap_over<B: Block>(
     limit: u64,
 ) -> u64
     requires { CanRaiseBound B.value B.GREATEST range.upto rows.now }
-    ensures { IsRaisedBelow limit
-        (max most (spans_between range.above range.upto (lanes_in B.value rows.now))) result }
+    ensures { IsRaisedBelow limit (max most (spans_between range.above range.upto (lanes_in B.value rows.now))) result }
 {
     match rows.heads.len() {
         8 => leap::<B>(8, rows, range, most, limit),

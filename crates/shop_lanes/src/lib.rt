@@ -3,9 +3,7 @@
 
 mod block_lanes;
 mod blocks;
-mod blocks_of_16;
-mod blocks_of_32;
-mod blocks_of_64;
+mod blocks_of_widths;
 mod folds;
 mod lane_rows;
 mod leaps;
@@ -16,9 +14,7 @@ mod served_blocks;
 mod state_lanes;
 
 use block_lanes::BlockLanes;
-use blocks_of_16::Block16;
-use blocks_of_32::Block32;
-use blocks_of_64::Block64;
+use blocks_of_widths::{Block16, Block32, Block64};
 pub use lane_rows::{HeadRange, LaneRows};
 pub use marking::Marks;
 pub use passes::are_wide;

@@ -1,7 +1,7 @@
 // The own span of each waiting operation of a machine: how late the operation, and the others with their tails, end if
 // it goes first. Takes two passes: one goes down the columns and sums each up by itself, one goes back up.
-ghost use Rattle.std.specs.{Prelude.{◌≡◌, ◌/◌, length, max}, Simd.Lanes.zip2};
-ghost use Rattle.shop_lanes.specs.{Eights.{added, lessened, AddsFit}, Rows.lanes_in};
+ghost use Rattle.std.specs.Prelude.{◌≡◌, ◌/◌, length};
+ghost use Rattle.shop_lanes.specs.Rows.{lanes_in};
 ghost use Rattle.shop_lanes.specs.inner.{Passes.AreColumns, OwnSpans.{AreEnds, AreNoted, CanOwn, WritesOwnSpans}};
 
 use crate::blocks::Block;
@@ -54,25 +54,6 @@ fn note_columns<B: Block>(
     (clocks, most)
 }
 
-/// Answers in each lane the own span of its operation: how late it, and the others with their tails, end if it goes
-/// first. With all waiting operations served by rank from time 0 on, `before` and `behind` hold the greatest end, tail
-/// included, of the operations before and behind it. `behind` counts its time, which `own_ends` takes off.
-#[inline(always)]
-fn own_ends<B: Block>(heads: B, times: B, before: B, behind: B) -> B
-    requires heads { length (B.numbers heads) ≡ 8 }
-    requires times { length (B.numbers times) ≡ 8 }
-    requires before { length (B.numbers before) ≡ 8 }
-    requires behind { length (B.numbers behind) ≡ 8 }
-    requires begins { AddsFit B.GREATEST (B.numbers heads) (B.numbers times) }
-    requires ends { AddsFit B.GREATEST (added (B.numbers heads) (B.numbers times))
-        (zip2 max (B.numbers before) (lessened (B.numbers behind) (B.numbers times))) }
-    ensures { B.numbers result ≡ added (added (B.numbers heads) (B.numbers times))
-        (zip2 max (B.numbers before) (lessened (B.numbers behind) (B.numbers times))) }
-{
-    let rest = B::greater(before, B::less(behind, times));
-    B::sum(B::sum(heads, times), rest)
-}
-
 /// Goes back up the columns and replaces what `note_columns` wrote into `owns` by own spans: how late each operation,
 /// and the others with their tails, end if it goes first.
 #[inline(always)]
@@ -98,9 +79,13 @@ fn write_back<B: Block>(
         let time = B::load(rows.times, block);
         let tail = B::load(rows.tails, block);
         let noted = B::load(owns, block);
+        // With all waiting operations served by rank from time 0 on, `first` and `behind` hold in each lane the
+        // greatest end, tail included, of those before and behind its own. `behind` counts the time of its own one,
+        // which is taken off.
         let first = B::greater(ends.before, B::sum(ends.begins, noted));
         let late = B::sum(clocks, B::waiting(tail, head, one));
-        B::store(own_ends(head, time, first, behind), owns, block);
+        let rest = B::greater(first, B::less(behind, time));
+        B::store(B::sum(B::sum(head, time), rest), owns, block);
         behind = B::greater(behind, late);
         clocks = B::less(clocks, B::waiting(time, head, one));
     }

@@ -2,8 +2,7 @@
 // a mask) which numbers are positive and at most a limit, or equal a number.
 ghost use Rattle.std.specs.{Prelude.{◌≡◌, ◌+◌, ◌*◌, ◌/◌, ◌%◌, ◌≤◌, length, map}, Simd.Lanes.mask_l};
 ghost use Rattle.shop_lanes.specs.{Rows.lanes_in, Spans.{span, FitsSpan}, Eights.{is_between, is_marked}};
-ghost use Rattle.shop_lanes.specs.Folds.{least_up_to};
-ghost use Rattle.shop_lanes.specs.inner.Passes.{CanFindLeast, IsLeastFound};
+ghost use Rattle.shop_lanes.specs.{Folds.least_up_to, inner.Passes.{CanFindLeast, IsLeastFound}};
 
 use crate::blocks::Block;
 use crate::folds::{greatest_of, least_of, sums_before};

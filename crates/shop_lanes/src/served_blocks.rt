@@ -1,7 +1,6 @@
 // Serves the operations of a block: adds their times to the clocks of their columns, and finds their ends with tails.
 ghost use Rattle.std.specs.Prelude.{◌≡◌, length};
-ghost use Rattle.shop_lanes.specs.Eights.{IsSplat};
-ghost use Rattle.shop_lanes.specs.inner.Passes.{FitServed, AreServed};
+ghost use Rattle.shop_lanes.specs.{Eights.IsSplat, inner.Passes.{FitServed, AreServed}};
 
 use crate::blocks::Block;
 

@@ -1,9 +1,8 @@
 // `StateLanes`: what lanes of any width offer to store the heads and ends of a word's state and to bound the word.
 ghost use Rattle.std.specs.Prelude.{◌≡◌, ℕ, ◌+◌, ◌-◌, ◌*◌, ◌%◌, ◌<◌, ◌≤◌, max, List, All, IfOk, length, map, replicate};
 ghost use Rattle.std.specs.Prelude.{slice_index, slice_index_or, slice_set};
-ghost use Rattle.shop_lanes.specs.Rows.{lanes_in, lanes_of, AreBlocksOf};
+ghost use Rattle.shop_lanes.specs.{Rows.{lanes_in, lanes_of, AreBlocksOf}, Marks.positions_among, Ends.IsFirstLeast};
 ghost use Rattle.shop_lanes.specs.Spans.{spans_between, FitsSpan, FitOwnSpans, AreOwnSpans, IsRaisedBelow};
-ghost use Rattle.shop_lanes.specs.{Marks.positions_among, Ends.IsFirstLeast};
 
 use crate::lane_rows::{HeadRange, LaneRows};
 use crate::marking::Marks;
@@ -139,9 +138,7 @@ pub trait StateLanes: Drop {
     fn own_spans(&self, fixed: &Self::Fixed, from: usize, to: usize, owns: &mut [Self::Number])
         requires blocks { AreBlocksOf (heads self.now) (times fixed.now) (tails fixed.now) from to }
         requires room { length owns.old ≡ 8 * to - 8 * from }
-        requires fits { FitOwnSpans GREATEST
-            (lanes_of (heads self.now) (times fixed.now) (tails fixed.now) from to) }
+        requires fits { FitOwnSpans GREATEST (lanes_of (heads self.now) (times fixed.now) (tails fixed.now) from to) }
         ensures long { length owns.new ≡ length owns.old }
-        ensures owns { AreOwnSpans (heads self.now) (times fixed.now) (tails fixed.now) from to
-            (map value owns.new) };
+        ensures owns { AreOwnSpans (heads self.now) (times fixed.now) (tails fixed.now) from to (map value owns.new) };
 }

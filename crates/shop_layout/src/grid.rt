@@ -236,16 +236,14 @@ impl<L: StateLanes> Grid<L> {
     /// late the operation, and the others with their tails, end if it goes first at its head.
     #[inline(always)]
     pub fn own_spans(&self, lanes: &L, from: usize, to: usize, owns: &mut [L::Number])
-        requires blocks { AreBlocks (rows_of self.now (L.heads lanes.now) (L.ends lanes.now))
-            from to }
+        requires blocks { AreBlocks (rows_of self.now (L.heads lanes.now) (L.ends lanes.now)) from to }
         requires times { length self.now.times ≡ length (L.heads lanes.now) }
         requires tails { length self.now.tails ≡ length self.now.times }
         requires room { 8 * to - 8 * from ≤ length owns.old }
         requires fits { FitOwnSpans L.GREATEST (lanes_between
             (rows_of self.now (L.heads lanes.now) (L.ends lanes.now)) from to) }
         ensures long { length owns.new ≡ length owns.old }
-        ensures owns { AreOwnSpans (L.heads lanes.now) self.now.times self.now.tails from to
-            (map L.value owns.new) }
+        ensures owns { AreOwnSpans (L.heads lanes.now) self.now.times self.now.tails from to (map L.value owns.new) }
     {
         let owns = &mut owns[..8 * (to - from)];
         lanes.own_spans(&self.fixed, from, to, owns);

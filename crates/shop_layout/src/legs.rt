@@ -36,8 +36,7 @@ fn add_route(
 ) -> Result<(), NoMemory>
     requires machines { AreBelow (length machines.now) places.now }
     requires times { AreBelow (length times.now) places.now }
-    ensures { OnOk result (legs.new.items
-        ≡ legs.old.items ++ route_legs machines.now times.now end places.now) }
+    ensures { OnOk result (legs.new.items ≡ legs.old.items ++ route_legs machines.now times.now end places.now) }
 {
     for place in places {
         let position = *place as usize;

@@ -108,8 +108,7 @@ fn add_blocks(slots: &mut Vec<Slot>, list: &[Slot], count: usize) -> Result<(), 
 fn cells_of(alloc: Global, lists: &[Vec<Slot>]) -> Result<Cells, NoMemory>
     requires few { length lists.now ≤ MAX_MACHINES }
     requires short { AreShorter (MAX_JOBS * MAX_STEPS) (items_in lists.now) }
-    ensures { IfOk result (λ c. AreCells (items_in lists.now) (length lists.now)
-        c.slots.items c.blocks.items) }
+    ensures { IfOk result (λ c. AreCells (items_in lists.now) (length lists.now) c.slots.items c.blocks.items) }
 {
     let mut slots = Vec::new(alloc);
     let mut blocks = Vec::new(alloc);
@@ -145,8 +144,7 @@ fn note_places(places: &mut [Vec<u32>], slots: &[Slot], first: usize, count: usi
     requires room { length slots.now ≤ 8 * count }
     requires small { first + 8 * count < 2 ^ 32 }
     ensures long { length places.new ≡ length places.old }
-    ensures noted { AreNoted (length slots.now) first count slots.now
-        (items_in places.old) (items_in places.new) }
+    ensures noted { AreNoted (length slots.now) first count slots.now (items_in places.old) (items_in places.new) }
 {
     for rank in 0..slots.len() {
         let slot = slots[rank];
@@ -164,8 +162,7 @@ fn places_of(
     lists: &[Vec<Slot>],
     blocks: &[u32],
 ) -> Result<Vec<Vec<u32>>, NoMemory>
-    requires slots { (ranks : List ℕ)
-        × AreMachineSlots (ranked ranks instance.now) (items_in lists.now) }
+    requires slots { (ranks : List ℕ) × AreMachineSlots (ranked ranks instance.now) (items_in lists.now) }
     requires blocks { length blocks.now ≡ instance.now.machines + 1 }
     requires room { HaveRoom (items_in lists.now) instance.now.machines blocks.now }
     requires few { All (λ b. b ≤ MAX_MACHINES * (MAX_JOBS * MAX_STEPS + 8)) blocks.now }
@@ -196,8 +193,7 @@ fn following_of(alloc: Global, slots: &[Slot], places: &[Vec<u32>]) -> Result<Ve
     requires jobs { All (λ s. s.job < length places.now) slots.now }
     requires steps { All (λ s. s.step < 2 ^ 32) slots.now }
     requires few { length slots.now < 2 ^ 32 }
-    ensures { IfOk result (λ v. v.items
-        ≡ map (place_after (length slots.now) (items_in places.now)) slots.now) }
+    ensures { IfOk result (λ v. v.items ≡ map (place_after (length slots.now) (items_in places.now)) slots.now) }
 {
     let mut following = Vec::new(alloc);
     for s in slots {
@@ -212,8 +208,7 @@ fn following_of(alloc: Global, slots: &[Slot], places: &[Vec<u32>]) -> Result<Ve
 fn machines_of(alloc: Global, blocks: &[u32]) -> Result<Vec<u32>, NoMemory>
     requires from_0 { slice_index blocks.now 0 ≡ 0 }
     requires some { 0 < length blocks.now }
-    requires ordered { (m : ℕ) → m + 1 < length blocks.now
-        → slice_index blocks.now m ≤ slice_index blocks.now (m + 1) }
+    requires ordered { (m : ℕ) → m + 1 < length blocks.now → slice_index blocks.now m ≤ slice_index blocks.now (m + 1) }
     requires few { All (λ b. b ≤ MAX_MACHINES * (MAX_JOBS * MAX_STEPS + 8)) blocks.now }
     requires small { length blocks.now ≤ MAX_MACHINES + 1 }
     ensures { IfOk result (λ v. AreMachinesOf blocks.now (length blocks.now - 1) v.items) }

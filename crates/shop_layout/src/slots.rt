@@ -56,8 +56,7 @@ pub(crate) fn machine_slots(
     ranks: &[usize],
 ) -> Result<Vec<Vec<Slot>>, NoMemory>
     requires { AreRanks instance.now.machines ranks.now }
-    ensures { IfOk result (λ v. AreMachineSlots (ranked ranks.now instance.now)
-        (map (λ slots. slots.items) v.items)) }
+    ensures { IfOk result (λ v. AreMachineSlots (ranked ranks.now instance.now) (map (λ slots. slots.items) v.items)) }
 {
     let mut lists = Vec::with_capacity(alloc, instance.machines())?;
     for _ in 0..instance.machines() {

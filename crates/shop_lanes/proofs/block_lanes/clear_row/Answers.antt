@@ -1,5 +1,4 @@
-use Rattle.std.proofs.Common.{arith}
-use Rattle.std.proofs.lemmas.List.{take-map}
+use Rattle.std.proofs.{Common.arith, lemmas.List.take-map}
 use Rattle.shop_lanes.proofs.block_lanes.clear_row.Goals as goal
 
 pub returns : goal.returns

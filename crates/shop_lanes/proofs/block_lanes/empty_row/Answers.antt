@@ -1,5 +1,4 @@
-use Rattle.std.proofs.Common.{arith}
-use Rattle.std.proofs.lemmas.List.{length-map, length-replicate, take-replicate}
+use Rattle.std.proofs.{Common.arith, lemmas.List.{length-map, length-replicate, take-replicate}}
 use Rattle.shop_lanes.proofs.EmptyRows.{is_cleared}
 use Rattle.shop_lanes.proofs.block_lanes.empty_row.Goals as goal
 

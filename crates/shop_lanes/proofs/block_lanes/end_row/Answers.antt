@@ -1,5 +1,4 @@
-use Rattle.std.proofs.Common.{arith, length-set}
-use Rattle.std.proofs.lemmas.List.{take-map, take_more_set, map_push}
+use Rattle.std.proofs.{Common.{arith, length-set}, lemmas.List.{take-map, take_more_set, map_push}}
 use Rattle.shop_lanes.proofs.EmptyRows.{row_begun, row_more}
 use Rattle.shop_lanes.proofs.block_lanes.end_row.Goals as goal
 

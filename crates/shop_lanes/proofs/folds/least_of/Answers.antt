@@ -1,5 +1,4 @@
-use Rattle.std.proofs.Common.{arith}
-use Rattle.std.proofs.lemmas.Simd.{length-zip2}
+use Rattle.std.proofs.{Common.arith, lemmas.Simd.length-zip2}
 use Rattle.shop_lanes.proofs.Extremes.{folded-min, folded_is}
 use Rattle.shop_lanes.proofs.folds.least_of.Goals as goal
 

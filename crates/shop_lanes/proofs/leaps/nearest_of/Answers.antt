@@ -1,7 +1,5 @@
-use Rattle.std.proofs.Common.{arith}
-use Rattle.std.proofs.lemmas.List.{length-map}
-use Rattle.shop_lanes.proofs.BlockMasks.{least_begins, least_more, least_ends, length-lesser}
-use Rattle.shop_lanes.proofs.LaterTurns.{ahead_block}
+use Rattle.std.proofs.{Common.arith, lemmas.List.length-map}
+use Rattle.shop_lanes.proofs.{BlockMasks.{least_begins, least_more, least_ends, length-lesser}, LaterTurns.ahead_block}
 use Rattle.shop_lanes.proofs.leaps.nearest_of.Goals as goal
 
 pub loop-block-init : goal.loop-block-init

@@ -1,6 +1,5 @@
 use Rattle.std.proofs.Common.{◌≡◌, ◌*◌, min, drop, map, length}
-use Rattle.shop_lanes.specs.Eights.{ahead_of}
-use Rattle.shop_lanes.specs.Folds.{least_up_to}
+use Rattle.shop_lanes.specs.{Eights.ahead_of, Folds.least_up_to}
 use Rattle.shop_lanes.proofs.leaps.nearest_of.Given as goal
 
 abbrev pub invariant-loop-block : goal.invariant-loop-block

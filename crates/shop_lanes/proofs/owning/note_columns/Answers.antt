@@ -1,7 +1,5 @@
-use Rattle.std.proofs.Common.{arith}
-use Rattle.std.proofs.lemmas.List.{length-map}
-use Rattle.shop_lanes.proofs.BlockMasks.{length-block}
-use Rattle.shop_lanes.proofs.ColumnTurns.{columns_in, parts, both_fit, served_more}
+use Rattle.std.proofs.{Common.arith, lemmas.List.length-map}
+use Rattle.shop_lanes.proofs.{BlockMasks.length-block, ColumnTurns.{columns_in, parts, both_fit, served_more}}
 use Rattle.shop_lanes.proofs.OwnColumns.{note_more}
 use Rattle.shop_lanes.proofs.owning.note_columns.Goals as goal
 

@@ -1,6 +1,5 @@
 use Rattle.std.proofs.Common.{arith}
-use Rattle.shop_lanes.proofs.ColumnTurns.{columns_in}
-use Rattle.shop_lanes.proofs.ColumnScan.{works_fit, begins_fit, ends_fit}
+use Rattle.shop_lanes.proofs.{ColumnTurns.columns_in, ColumnScan.{works_fit, begins_fit, ends_fit}}
 use Rattle.shop_lanes.proofs.OwnScan.{first_clocks, first_loads, last_clocks, last_loads}
 use Rattle.shop_lanes.proofs.owning.own_spans_of.Goals as goal
 

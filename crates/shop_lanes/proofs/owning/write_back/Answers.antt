@@ -1,8 +1,16 @@
-use Rattle.std.proofs.Common.{◌∙◌, ◌-◌, ap, sym, length, arith}
+use Rattle.std.proofs.Common.{◌≡◌, ℕ, List, max, ◌∙◌, ◌-◌, ap, sym, length, arith}
+use lib.Lanes.{zip2}
+use Rattle.shop_lanes.specs.Eights.{added, lessened}
 use Rattle.shop_lanes.proofs.ColumnTurns.{columns_in}
 use Rattle.shop_lanes.proofs.OwnColumns.{begins_fit, ends_fit, tails_fit, own_eight, late_eight, served_eight}
-use Rattle.shop_lanes.proofs.OwnColumns.{back_more, noted_fit, begun_long, first_long, heads_eight_long}
+use Rattle.shop_lanes.proofs.OwnColumns.{back_more, noted_fit, begun_long, heads_eight_long, rest_long}
 use Rattle.shop_lanes.proofs.owning.write_back.Goals as goal
+
+-- the own spans of a block, by the two sums and the greater number that make them
+own_told : (heads times behind first : List ℕ) {begun less rest own : List ℕ} → begun ≡ added heads times
+    → less ≡ lessened behind times → rest ≡ zip2 max first less → own ≡ added begun rest
+    → own ≡ added (added heads times) (zip2 max first (lessened behind times))
+own_told heads times behind first a b d e = grind arith
 
 pub sum-requires : goal.sum-requires
 sum-requires g c =
@@ -19,19 +27,20 @@ greater-first-requires g c =
     c.load-tail.ensures c.load-noted.ensures c.splat-one.ensures c.requires.ends.begins c.requires.ends.before
     c.sum.ensures)
 
-pub own_ends-requires-clause-begins : goal.own_ends-requires-clause-begins
-own_ends-requires-clause-begins g c =
+pub sum-requires-in-loop-block : goal.sum-requires-in-loop-block
+sum-requires-in-loop-block g c =
     let cols = columns_in g.B.Block.value c.args.rows.now c.args.count c.requires.count c.requires.can.whole_blocks
     in begins_fit cols c.requires.can.fits (c.loop-block.block - 1) (omega (arith, c.loop-block-test.true))
     c.loop-block.invariant c.load-head.ensures c.load-time.ensures c.load-tail.ensures c.load-noted.ensures
     c.splat-one.ensures c.requires.ends.begins c.requires.ends.before c.sum.ensures c.greater-first.ensures
 
-pub own_ends-requires-clause-ends : goal.own_ends-requires-clause-ends
-own_ends-requires-clause-ends g c =
+pub sum-requires-in-loop-block-2 : goal.sum-requires-in-loop-block-2
+sum-requires-in-loop-block-2 g c =
     let cols = columns_in g.B.Block.value c.args.rows.now c.args.count c.requires.count c.requires.can.whole_blocks
-    in ends_fit cols c.requires.can.fits (c.loop-block.block - 1) (omega (arith, c.loop-block-test.true))
+    in rw (c.sum-in-loop-block.ensures, c.greater-rest.ensures, c.less.ensures)
+    (ends_fit cols c.requires.can.fits (c.loop-block.block - 1) (omega (arith, c.loop-block-test.true))
     c.loop-block.invariant c.load-head.ensures c.load-time.ensures c.load-tail.ensures c.load-noted.ensures
-    c.splat-one.ensures c.requires.ends.begins c.requires.ends.before c.sum.ensures c.greater-first.ensures
+    c.splat-one.ensures c.requires.ends.begins c.requires.ends.before c.sum.ensures c.greater-first.ensures)
 
 pub store-requires-clause-eight : goal.store-requires-clause-eight
 store-requires-clause-eight g c =
@@ -39,7 +48,8 @@ store-requires-clause-eight g c =
     in ap length (own_eight cols c.requires.can.fits (c.loop-block.block - 1)
     (omega (arith, c.loop-block-test.true)) c.loop-block.invariant c.load-head.ensures c.load-time.ensures
     c.load-tail.ensures c.load-noted.ensures c.splat-one.ensures c.requires.ends.begins c.requires.ends.before
-    c.sum.ensures c.greater-first.ensures c.own_ends.ensures)
+    c.sum.ensures c.greater-first.ensures
+    (own_told _ _ _ _ c.sum-in-loop-block.ensures c.less.ensures c.greater-rest.ensures c.sum-in-loop-block-2.ensures))
 
 pub sum-late-requires : goal.sum-late-requires
 sum-late-requires g c =
@@ -72,15 +82,17 @@ loop-block-preserved g c =
     in back_more cols c.requires.can.fits (c.loop-block.block - 1) (omega (arith, c.loop-block-test.true))
     c.loop-block.invariant c.load-head.ensures c.load-time.ensures c.load-tail.ensures c.load-noted.ensures
     c.splat-one.ensures c.requires.ends.begins c.requires.ends.before c.sum.ensures c.greater-first.ensures
-    c.own_ends.ensures c.waiting.ensures c.sum-late.ensures c.waiting-in-loop-block.ensures c.store.ensures
-    c.greater-behind.ensures c.less-clocks.ensures
+    (own_told _ _ _ _ c.sum-in-loop-block.ensures c.less.ensures c.greater-rest.ensures c.sum-in-loop-block-2.ensures)
+    c.waiting.ensures c.sum-late.ensures c.waiting-in-loop-block.ensures c.store.ensures c.greater-behind.ensures
+    c.less-clocks.ensures
 
-pub own_ends-requires-clause-before : goal.own_ends-requires-clause-before
-own_ends-requires-clause-before g c =
+pub greater-rest-requires : goal.greater-rest-requires
+greater-rest-requires g c =
     let cols = columns_in g.B.Block.value c.args.rows.now c.args.count c.requires.count c.requires.can.whole_blocks
-    in first_long cols c.requires.can.fits (c.loop-block.block - 1) (omega (arith, c.loop-block-test.true))
+    in rest_long cols c.requires.can.fits (c.loop-block.block - 1) (omega (arith, c.loop-block-test.true))
     c.loop-block.invariant c.load-head.ensures c.load-time.ensures c.load-tail.ensures c.load-noted.ensures
     c.splat-one.ensures c.requires.ends.begins c.requires.ends.before c.sum.ensures c.greater-first.ensures
+    c.less.ensures
 
 pub waiting-requires-in-loop-block-clause-heads : goal.waiting-requires-in-loop-block-clause-heads
 waiting-requires-in-loop-block-clause-heads g c =

@@ -1,7 +1,5 @@
-use Rattle.std.proofs.Common.{arith, map}
-use Rattle.std.proofs.lemmas.List.{length-map}
-use Rattle.shop_lanes.proofs.Extremes.{least_le_top}
-use Rattle.shop_lanes.proofs.BlockMasks.{least_by_mask}
+use Rattle.std.proofs.{Common.{arith, map}, lemmas.List.length-map}
+use Rattle.shop_lanes.proofs.{Extremes.least_le_top, BlockMasks.least_by_mask}
 use Rattle.shop_lanes.proofs.passes.first_least_of.Goals as goal
 
 pub bits_of-bits-requires-clause-fits : goal.bits_of-bits-requires-clause-fits

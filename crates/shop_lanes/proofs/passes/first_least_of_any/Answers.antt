@@ -1,7 +1,5 @@
-use Rattle.std.proofs.Common.{arith, length, map}
-use Rattle.std.proofs.lemmas.List.{length-map}
-use Rattle.shop_lanes.proofs.BlockMasks.{least_found, position_in_block, none_in_block}
-use Rattle.shop_lanes.proofs.Extremes.{least_le_top}
+use Rattle.std.proofs.{Common.{arith, length, map}, lemmas.List.length-map}
+use Rattle.shop_lanes.proofs.{BlockMasks.{least_found, position_in_block, none_in_block}, Extremes.least_le_top}
 use Rattle.shop_lanes.proofs.passes.first_least_of_any.Goals as goal
 
 pub bits-bits-requires-clause-fits : goal.bits-bits-requires-clause-fits

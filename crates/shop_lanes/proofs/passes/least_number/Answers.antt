@@ -1,5 +1,4 @@
-use Rattle.std.proofs.Common.{arith}
-use Rattle.std.proofs.lemmas.List.{length-map}
+use Rattle.std.proofs.{Common.arith, lemmas.List.length-map}
 use Rattle.shop_lanes.proofs.BlockMasks.{least_begins, least_more, least_ends, length-lesser}
 use Rattle.shop_lanes.proofs.passes.least_number.Goals as goal
 

@@ -1,5 +1,4 @@
-use Rattle.std.proofs.Common.{arith}
-use Rattle.std.proofs.lemmas.Simd.{length-zip2}
+use Rattle.std.proofs.{Common.arith, lemmas.Simd.length-zip2}
 use Rattle.shop_lanes.proofs.Serving.{length-waiting}
 use Rattle.shop_lanes.proofs.served_blocks.serve.Goals as goal
 

@@ -2,10 +2,9 @@ use Rattle.std.proofs.Common.{◌≡◌, ◌∙◌, ◌+◌, ◌<◌, List, ap, 
 use Rattle.std.proofs.{lemmas.Fn.always_returns_same, lemmas.List.length-map}
 use Rattle.std.specs.Prelude.{IsPermutation}
 use Rattle.shop_layout.specs.{declared.slots.Slot.Slot, Ranks.{ranked, ranked_op}}
-use Rattle.shop_bound.proofs.SortedTails.{falls_from_sort}
+use Rattle.shop_bound.proofs.{SortedTails.falls_from_sort, TimeSums.times_small}
 use Rattle.shop_layout.proofs.SlotLists.{IsSortedUpTo, jobs_written, sorted_more, items_written, items_read}
 use Rattle.shop_layout.proofs.RankedShops.{jobs_ranked, route_ranked}
-use Rattle.shop_bound.proofs.TimeSums.{times_small}
 use Rattle.shop_layout.proofs.slots.machine_slots.Goals as goal
 
 pub add_operations-requires-clause-times : goal.add_operations-requires-clause-times

@@ -1,9 +1,7 @@
 use Rattle.std.proofs.Common.{◌∙◌, ap, map, take}
 use lib.Lanes.{mask_l}
-use Rattle.shop_lanes.specs.Eights.{is_between}
-use Rattle.shop_lanes.specs.Rows.{blocks}
-use Rattle.shop_lanes.proofs.Padding.{marks_below}
-use Rattle.shop_lanes.proofs.RowValues.{values_of_blocks}
+use Rattle.shop_lanes.specs.{Eights.is_between, Rows.blocks}
+use Rattle.shop_lanes.proofs.{Padding.marks_below, RowValues.values_of_blocks}
 use Rattle.shop_lanes.proofs.block_lanes.BlockLanesStateLanes.below.Goals as goal
 
 pub returns : goal.returns

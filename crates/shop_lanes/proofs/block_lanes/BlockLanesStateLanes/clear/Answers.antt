@@ -1,5 +1,4 @@
-use Rattle.std.proofs.Common.{◌∙◌, ◌++◌, sym, ap, length, drop, arith, take}
-use Rattle.std.proofs.lemmas.List.{length-map, length-take-le}
+use Rattle.std.proofs.{Common.{◌∙◌, ◌++◌, sym, ap, length, drop, arith, take}, lemmas.List.{length-map, length-take-le}}
 use Rattle.shop_lanes.proofs.EmptyRows.{is_empty, is_cleared}
 use Rattle.shop_lanes.proofs.block_lanes.BlockLanesStateLanes.clear.Goals as goal
 

@@ -1,6 +1,5 @@
 use Rattle.std.proofs.Common.{arith, rules}
-use Rattle.shop_lanes.proofs.OwnRows.{owns_of_cut}
-use Rattle.shop_lanes.proofs.RowValues.{lanes_of_cut, long_cut}
+use Rattle.shop_lanes.proofs.{OwnRows.owns_of_cut, RowValues.{lanes_of_cut, long_cut}}
 use Rattle.shop_lanes.proofs.block_lanes.BlockLanesStateLanes.own_spans.Goals as goal
 
 pub own_spans-requires : goal.own_spans-requires

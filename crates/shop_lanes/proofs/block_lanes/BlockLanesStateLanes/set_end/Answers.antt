@@ -1,5 +1,4 @@
-use Rattle.std.proofs.Common.{arith, length-set}
-use Rattle.std.proofs.lemmas.List.{map-set, get_or-set_other, drop-set-add, take-set-le}
+use Rattle.std.proofs.{Common.{arith, length-set}, lemmas.List.{map-set, get_or-set_other, drop-set-add, take-set-le}}
 use Rattle.shop_lanes.proofs.Padding.{take-set, padded_set}
 use Rattle.shop_lanes.proofs.block_lanes.BlockLanesStateLanes.set_end.Goals as goal
 

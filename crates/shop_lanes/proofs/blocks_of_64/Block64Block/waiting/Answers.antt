@@ -1,6 +1,0 @@
-use Rattle.std.proofs.Common.{w64}
-use Rattle.shop_lanes.proofs.Comparisons.{waiting_told_is}
-use Rattle.shop_lanes.proofs.blocks_of_64.Block64Block.waiting.Goals as goal
-
-pub returns : goal.returns
-returns c = waiting_told_is w64 c.args.block.0 c.args.heads.0 c.args.least.0 c.requires.heads c.requires.least
