@@ -1,20 +1,14 @@
 -- One more operation in the heads by position.
 use Rattle.std.proofs.Common.{rules, ◌≡◌, ℕ, ◌+◌, ◌≤◌, ◌<◌, ◌^◌, inl, inr, List, [], ◌∷◌, ◌++◌, length, get_or, set}
-use Rattle.std.proofs.Common.{refl, sym, ◌∙◌, ap, subst, arith}
-use Rattle.std.proofs.lemmas.Bool.{cases_eq, cases_lt, lt-ltb, le-ltb}
-use Rattle.std.proofs.lemmas.Grind.{get_or-set_at}
-use Rattle.std.proofs.lemmas.List.{get_or-set_other, length-set}
+use Rattle.std.proofs.{Common.{refl, sym, ◌∙◌, ap, subst, arith}, lemmas.Bool.{cases_eq, cases_lt, lt-ltb, le-ltb}}
+use Rattle.std.proofs.lemmas.{Grind.get_or-set_at, List.{get_or-set_other, length-set}}
 use Rattle.shop_lanes.specs.Rows.{Rows, with_head}
-use Rattle.shop_model.specs.Shop.{Shop, IsOperation, machine_of, time_of}
-use Rattle.shop_model.specs.Word.{Placing, IsWord, placing, place_next}
-use Rattle.shop_model.proofs.Placings.{IsNext, place_next-is}
-use Rattle.shop_model.proofs.Unders.{placing-snoc, next_operation, after_word}
+use Rattle.shop_model.specs.{Shop.{Shop, IsOperation, machine_of, time_of}, Word.{Placing, IsWord, placing, place_next}}
+use Rattle.shop_model.proofs.{Placings.{IsNext, place_next-is}, Unders.{placing-snoc, next_operation, after_word}}
 use Rattle.shop_bound.specs.Heads.{head_of}
-use Rattle.shop_states.specs.inner.LaneEnds.{IsEndOf}
-use Rattle.shop_states.specs.inner.LaneHeads.{AreHeadsAt}
-use Rattle.shop_states.specs.inner.LaneStates.{AreHeadsInLanes}
-use Rattle.shop_layout.specs.Positions.{LayoutState, place, first_position}
+use Rattle.shop_states.specs.inner.{LaneEnds.IsEndOf, LaneHeads.AreHeadsAt, LaneStates.AreHeadsInLanes}
 use Rattle.shop_states.specs.inner.Raises.{AreFirst, HasBlocks, IsLeastRaise, IsOnMachine, IsRaisable, Raises}
+use Rattle.shop_layout.specs.Positions.{LayoutState, place, first_position}
 use Rattle.shop_bound.proofs.HeadTurns.{ready_first}
 use Rattle.shop_layout.proofs.LaidPlaces.{place_of}
 use Rattle.shop_states.proofs.RaisedHeads.{left, raisable, raised, has_blocks}

@@ -1,20 +1,14 @@
 -- Heads behind operations of a machine are raised, one operation after the other.
-use Rattle.std.proofs.Common.{◌≡◌, ℕ, ◌+◌, ◌*◌, ◌≤◌, ◌<◌, ◌⊎◌, inl, inr, List, [], ◌∷◌, length, get_or, refl, sym}
-use Rattle.std.proofs.Common.{◌∙◌, subst, arith}
-use Rattle.std.proofs.lemmas.Bool.{cases_eq, cases_lt}
-use Rattle.std.proofs.lemmas.List.{get_or_default, get_or_past}
-use Rattle.shop_lanes.specs.Marks.{positions_among}
-use Rattle.shop_lanes.specs.Rows.{Rows}
-use Rattle.shop_layout.specs.declared.legs.Leg.{Leg}
-use Rattle.shop_layout.specs.Legs.{all_legs, end_of, leg_index}
+use Rattle.std.proofs.Common.{◌≡◌, ℕ, ◌+◌, ◌*◌, ◌≤◌, ◌<◌, ◌⊎◌, inl, inr, List, [], ◌∷◌, length, get_or, refl, sym, ◌∙◌}
+use Rattle.std.proofs.{Common.{subst, arith}, lemmas.{Bool.{cases_eq, cases_lt}, List.{get_or_default, get_or_past}}}
+use Rattle.shop_lanes.specs.{Marks.positions_among, Rows.Rows}
+use Rattle.shop_layout.specs.{declared.legs.Leg.Leg, Legs.{all_legs, end_of, leg_index}}
 use Rattle.shop_layout.specs.Positions.{LayoutState, place, place_or}
 use Rattle.shop_layout.proofs.RouteLegs.{index_known, leg_behind, leg_here}
 use Rattle.shop_states.specs.inner.Raises.{AreInRouteOrder, IsFollowed, IsInBlocks, IsIndexed, IsPlace, IsPosition}
-use Rattle.shop_states.specs.inner.Raises.{IsRaisable, IsRaised, Raises, at_in, steps_of}
-use Rattle.shop_states.specs.inner.RisingLists.{IsIn, Rises}
+use Rattle.shop_states.specs.inner.{Raises.{IsRaisable, IsRaised, Raises, at_in, steps_of}, RisingLists.{IsIn, Rises}}
 use Rattle.shop_states.specs.inner.Siblings.{CanRaiseBehind, IsEndAt, IsLateAt, IsRaisedBehind, RaisesBehind}
-use Rattle.shop_states.proofs.Followed.{place_there}
-use Rattle.shop_states.proofs.MarkedPositions.{IsBelow, below_is_in, below_rises, in_is_below}
+use Rattle.shop_states.proofs.{Followed.place_there, MarkedPositions.{IsBelow, below_is_in, below_rises, in_is_below}}
 use Rattle.shop_states.proofs.RaiseWalks.{apart}
 
 -- nothing more is raised
@@ -100,9 +94,6 @@ module _ {greatest : ℕ} {l : LayoutState} {rows : Rows} {p free : ℕ}
 
   pub its_place : IsPlace l p
   its_place = can.places p some
-
-  pub its_within : p < length rows.heads
-  its_within = grind (arith, cases_lt, get_or_past)
 
   pub its_end : free + get_or l.times p 0 ≤ greatest
   its_end = can.ends p free (refl, refl) some

@@ -1,19 +1,12 @@
 -- A candidate of a word is dispatched: what that asks for, what is told of its bound, and what is kept.
 use Rattle.std.proofs.Common.{◌≡◌, ℕ, List, [], ◌∷◌, ◌++◌, max, min, refl, subst}
 use Rattle.std.specs.Prelude.{◌^◌, Option, OnSome}
-use Rattle.shop_model.specs.Limits.{IsWithinLimits}
-use Rattle.shop_model.specs.Shop.{Shop}
-use Rattle.shop_model.specs.Word.{IsWord}
+use Rattle.shop_model.specs.{Limits.IsWithinLimits, Shop.Shop, Word.IsWord}
 use Rattle.shop_bound.specs.Bound.{lb}
-use Rattle.shop_layout.specs.Lanes.{rows_of}
-use Rattle.shop_layout.specs.Positions.{LayoutState}
-use Rattle.shop_states.specs.States.{TellsBoundBelow}
-use Rattle.shop_states.specs.inner.Advances.{CanAdvance, IsAdvancing}
-use Rattle.shop_states.specs.inner.Candidates.{IsCandidateOf}
-use Rattle.shop_states.specs.inner.Ceilings.{AreChildCeilings}
-use Rattle.shop_states.specs.inner.LaneStates.{IsKeptInLanes}
-use Rattle.shop_states.proofs.Candidates.{tells_below}
-use Rattle.shop_states.proofs.OwnSpans.{candidate_advancing}
+use Rattle.shop_layout.specs.{Lanes.rows_of, Positions.LayoutState}
+use Rattle.shop_states.specs.{States.TellsBoundBelow, inner.Advances.{CanAdvance, IsAdvancing}}
+use Rattle.shop_states.specs.inner.{Candidates.IsCandidateOf, Ceilings.AreChildCeilings, LaneStates.IsKeptInLanes}
+use Rattle.shop_states.proofs.{Candidates.tells_below, OwnSpans.candidate_advancing}
 
 -- the layout that was read is that of the state, and the dispatch is of the candidate's job
 module _ {greatest : ℕ} {l read : LayoutState} (is : read ≡ l) {heads ends nexts : List ℕ} {j its : ℕ}

@@ -1,11 +1,8 @@
 -- Ceilings of spans, read off the spans from heads.
-use Rattle.std.proofs.Common.{◌≡◌, ℕ, ◌+◌, ◌≤◌, ◌<◌, inl, inr, List, refl, arith}
-use Rattle.std.proofs.lemmas.Bool.{cases_lt}
-use Rattle.shop_lanes.specs.Rows.{Lane}
-use Rattle.shop_lanes.specs.Spans.{span, spans_between}
+use Rattle.std.proofs.{Common.{◌≡◌, ℕ, ◌+◌, ◌≤◌, ◌<◌, inl, inr, List, refl, arith}, lemmas.Bool.cases_lt}
+use Rattle.shop_lanes.specs.{Rows.Lane, Spans.{span, spans_between}}
 use Rattle.shop_lanes.proofs.LeapTurns.{least_among, least_head, least_head_le, same_span, span_falls}
-use Rattle.shop_states.proofs.RisenLanes.{AreBeside, IsLaneBeside, beside, nothing}
-use Rattle.shop_states.proofs.SpanTurns.{span_left}
+use Rattle.shop_states.proofs.{RisenLanes.{AreBeside, IsLaneBeside, beside, nothing}, SpanTurns.span_left}
 
 -- no span of these lanes, from whatever moment on, is above c
 abbrev pub IsCeiling : ℕ → List Lane → Type 0

@@ -1,21 +1,15 @@
 -- What is known of the bound after one more operation before any head is raised, and after the heads were raised.
 use Rattle.std.proofs.Common.{◌≡◌, ℕ, ◌+◌, ◌-◌, ◌≤◌, ◌<◌, ◌⊎◌, inl, inr, List, [], ◌∷◌, ◌++◌, get_or, refl, ap, arith}
 use Rattle.std.proofs.lemmas.Bool.{cases_lt}
-use Rattle.shop_lanes.specs.Rows.{Lane, lanes_of}
-use Rattle.shop_lanes.specs.Spans.{span, spans_between}
-use Rattle.shop_model.specs.Limits.{IsWithinLimits}
-use Rattle.shop_model.specs.Shop.{Shop, machine_of, IsOperation}
+use Rattle.shop_lanes.specs.{Rows.{Lane, lanes_of}, Spans.{span, spans_between}}
+use Rattle.shop_model.specs.{Limits.IsWithinLimits, Shop.{Shop, machine_of, IsOperation}}
 use Rattle.shop_model.specs.Word.{Placing, IsWord, placing, place_next}
-use Rattle.shop_bound.specs.Bound.{lb}
-use Rattle.shop_bound.specs.Heads.{head_of}
-use Rattle.shop_bound.specs.OneMachine.{one}
+use Rattle.shop_bound.specs.{Bound.lb, Heads.head_of, OneMachine.one}
 use Rattle.shop_states.specs.inner.LaneHeads.{AreHeadsAt, AreStored}
 use Rattle.shop_layout.specs.Positions.{LayoutState, IsLaidOut}
-use Rattle.shop_states.proofs.ChildBounds.{raised_left, child-ge-left}
+use Rattle.shop_states.proofs.{ChildBounds.{raised_left, child-ge-left}, MachineLanes.{lanes_matched, left_matched}}
 use Rattle.shop_states.proofs.LaneSpans.{IsServedAs, from_none, span_within, spans_cover, spans_within}
-use Rattle.shop_states.proofs.MachineLanes.{lanes_matched, left_matched}
-use Rattle.shop_states.proofs.LeftSlots.{left_falls, left_for}
-use Rattle.shop_states.proofs.Raising.{one_between-none}
+use Rattle.shop_states.proofs.{LeftSlots.{left_falls, left_for}, Raising.one_between-none}
 
 module _ {shop : Shop} (limits : IsWithinLimits shop) {l : LayoutState} (laid : IsLaidOut shop l) (w : List ℕ)
     (j : ℕ) (fits : IsWord shop (w ++ j ∷ [])) where

@@ -1,25 +1,15 @@
 -- The raises of a dispatch cover all heads by which the bound of the child may exceed that of its parent.
 use Rattle.std.proofs.Common.{◌≡◌, ℕ, ◌+◌, ◌≤◌, ◌<◌, ◌⊎◌, List, [], ◌∷◌, ◌++◌, get_or, refl, ap, arith}
 use Rattle.std.proofs.lemmas.Bool.{cases_lt}
-use Rattle.shop_lanes.specs.Rows.{Rows, lanes_of}
-use Rattle.shop_lanes.specs.Spans.{spans_between}
-use Rattle.shop_model.specs.Limits.{IsWithinLimits}
-use Rattle.shop_model.specs.Shop.{Shop, machine_of, IsOperation}
+use Rattle.shop_lanes.specs.{Rows.{Rows, lanes_of}, Spans.spans_between}
+use Rattle.shop_model.specs.{Limits.IsWithinLimits, Shop.{Shop, machine_of, IsOperation}}
 use Rattle.shop_model.specs.Word.{IsWord, placing, place_next}
-use Rattle.shop_bound.specs.Bound.{lb}
-use Rattle.shop_states.proofs.BoundsUpTo.{IsBoundUpTo}
-use Rattle.shop_bound.specs.Heads.{head_of}
-use Rattle.shop_bound.specs.OneMachine.{one}
-use Rattle.shop_layout.specs.HeadLimits.{latest_end}
-use Rattle.shop_layout.specs.Lanes.{lanes_on}
-use Rattle.shop_states.specs.inner.LaneHeads.{AreHeadsAt}
-use Rattle.shop_layout.specs.Positions.{LayoutState, IsLaidOut}
-use Rattle.shop_states.specs.inner.HeadRaises.{Raise}
-use Rattle.shop_states.proofs.ChildBounds.{child-le}
+use Rattle.shop_bound.specs.{Bound.lb, Heads.head_of, OneMachine.one}
+use Rattle.shop_states.proofs.{BoundsUpTo.IsBoundUpTo, ChildBounds.child-le, LeftSlots.left_for}
 use Rattle.shop_states.proofs.ChildExits.{after_spans-cover, after_spans-le}
-use Rattle.shop_layout.proofs.LaidPlaces.{each_position}
-use Rattle.shop_layout.proofs.LatestEnds.{latest_end_is}
-use Rattle.shop_states.proofs.LeftSlots.{left_for}
+use Rattle.shop_layout.specs.{HeadLimits.latest_end, Lanes.lanes_on, Positions.{LayoutState, IsLaidOut}}
+use Rattle.shop_states.specs.inner.{LaneHeads.AreHeadsAt, HeadRaises.Raise}
+use Rattle.shop_layout.proofs.{LaidPlaces.each_position, LatestEnds.latest_end_is}
 
 -- no head is later than the latest end
 pub heads_small : (shop : Shop) → IsWithinLimits shop → (l : LayoutState) → IsLaidOut shop l → (w : List ℕ)

@@ -1,24 +1,14 @@
 -- What is read of the next operation of a job, and what is foreseen of the bound after it.
 use Rattle.std.proofs.Common.{◌≡◌, ℕ, ◌+◌, ◌≤◌, max, ◌-◌, List, [], ◌∷◌, ◌++◌, set, get_or, ◌∙◌, ap, arith}
-use Rattle.shop_lanes.specs.Rows.{Rows, with_head}
-use Rattle.shop_lanes.specs.Spans.{span}
-use Rattle.shop_model.specs.Shop.{Shop, machine_of, time_of, IsOperation}
-use Rattle.shop_model.specs.Word.{IsWord, placing, place_next}
-use Rattle.shop_model.proofs.Placings.{place_next-is}
-use Rattle.shop_model.proofs.Unders.{after_word, next_operation}
-use Rattle.shop_model.proofs.WordLemmas.{IsWord-init}
-use Rattle.shop_bound.specs.Bound.{lb}
-use Rattle.shop_bound.specs.Heads.{head_of}
-use Rattle.shop_states.specs.inner.ChildBounds.{IsLeastAfter}
-use Rattle.shop_layout.specs.Lanes.{lanes_on}
-use Rattle.shop_states.specs.inner.LaneHeads.{AreStored}
-use Rattle.shop_states.specs.inner.LaneStates.{AreHeadsInLanes}
-use Rattle.shop_layout.specs.Positions.{AreMachinesOf, LayoutState, place}
-use Rattle.shop_states.proofs.ChildBounds.{child-ge-before}
-use Rattle.shop_states.proofs.ChildExits.{open_span-le}
+use Rattle.shop_lanes.specs.{Rows.{Rows, with_head}, Spans.span}
+use Rattle.shop_model.specs.{Shop.{Shop, machine_of, time_of, IsOperation}, Word.{IsWord, placing, place_next}}
+use Rattle.shop_model.proofs.{Placings.place_next-is, Unders.{after_word, next_operation}, WordLemmas.IsWord-init}
+use Rattle.shop_bound.specs.{Bound.lb, Heads.head_of}
+use Rattle.shop_states.specs.inner.{ChildBounds.IsLeastAfter, LaneHeads.AreStored, LaneStates.AreHeadsInLanes}
+use Rattle.shop_layout.specs.{Lanes.lanes_on, Positions.{AreMachinesOf, LayoutState, place}}
+use Rattle.shop_states.proofs.{ChildBounds.child-ge-before, ChildExits.open_span-le, RaisedHeads.left}
 use Rattle.shop_bound.proofs.HeadTurns.{ready_first}
 use Rattle.shop_layout.proofs.LaidPlaces.{place_of}
-use Rattle.shop_states.proofs.RaisedHeads.{left}
 
 module _ {greatest : ℕ} {shop : Shop} {w : List ℕ} {l : LayoutState} {rows : Rows}
     (kept : AreHeadsInLanes greatest shop w l rows) (j : ℕ) (fits : IsWord shop (w ++ j ∷ [])) where

@@ -1,24 +1,17 @@
 -- The heads that a child of a word has, before any list of them is at hand.
 use Rattle.std.proofs.Common.{◌≡◌, ℕ, zero, suc, ◌+◌, ◌≤◌, ◌<◌, inl, inr, List, [], ◌∷◌, ◌++◌, length, get_or, set}
-use Rattle.std.proofs.Common.{refl, ◌∙◌, ap, arith}
-use Rattle.std.proofs.lemmas.Bool.{cases_eq, cases_lt}
+use Rattle.std.proofs.{Common.{refl, ◌∙◌, ap, arith}, lemmas.{Bool.{cases_eq, cases_lt}, Grind.get_or-set_at}}
 use Rattle.std.proofs.lemmas.List.{get_or_append_left, get_or_past, get_or-set_other, length-append}
-use Rattle.std.proofs.lemmas.Grind.{get_or-set_at}
 use Rattle.std.proofs.Math.Seq.{get_or-append_seam}
 use Rattle.shop_lanes.specs.Rows.{Rows}
-use Rattle.shop_model.specs.Shop.{Shop, IsOperation, machine_of}
-use Rattle.shop_model.specs.Word.{IsWord, Placing, place_next, placing}
+use Rattle.shop_model.specs.{Shop.{Shop, IsOperation, machine_of}, Word.{IsWord, Placing, place_next, placing}}
 use Rattle.shop_model.proofs.Unders.{placing-snoc}
 use Rattle.shop_bound.specs.Heads.{head_of}
-use Rattle.shop_layout.specs.HeadLimits.{latest_end}
-use Rattle.shop_layout.specs.Positions.{LayoutState, first_position, place}
-use Rattle.shop_layout.proofs.LaidPlaces.{IsOperationAt, each_position, place_of}
-use Rattle.shop_layout.proofs.LatestEnds.{latest_end_is}
-use Rattle.shop_states.specs.inner.LaneHeads.{AreHeadsAt, AreStored}
-use Rattle.shop_states.specs.inner.LaneStates.{AreHeadsInLanes}
+use Rattle.shop_layout.specs.{HeadLimits.latest_end, Positions.{LayoutState, first_position, place}}
+use Rattle.shop_layout.proofs.{LaidPlaces.{IsOperationAt, each_position, place_of}, LatestEnds.latest_end_is}
+use Rattle.shop_states.specs.inner.{LaneHeads.{AreHeadsAt, AreStored}, LaneStates.AreHeadsInLanes}
 use Rattle.shop_states.specs.inner.Raises.{AreInRouteOrder, IsOnMachine, IsRaised, at_in}
-use Rattle.shop_states.proofs.AdvanceSteps.{first_left, next_fits, next_is, within}
-use Rattle.shop_states.proofs.ChildReads.{left_stored}
+use Rattle.shop_states.proofs.{AdvanceSteps.{first_left, next_fits, next_is, within}, ChildReads.left_stored}
 use Rattle.shop_states.proofs.RaisedHeads.{in_order, target, target_at, target_least, target_none, target_raised}
 use Rattle.shop_states.proofs.RaisedHeads.{waits_at}
 

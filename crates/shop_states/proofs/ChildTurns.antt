@@ -1,29 +1,16 @@
 -- What is kept while the bound after one more operation is found.
-use Rattle.std.proofs.Common.{◌≡◌, ℕ, ◌+◌, ◌*◌, ◌≤◌, ◌<◌, List, [], ◌∷◌, ◌++◌, length, get_or, set}
-use Rattle.std.proofs.Common.{refl, ap, subst, arith}
-use Rattle.std.proofs.lemmas.List.{length-set}
-use Rattle.shop_lanes.specs.Rows.{Rows, with_head, lanes_of}
-use Rattle.shop_lanes.specs.Spans.{span, spans_between}
-use Rattle.shop_model.specs.Shop.{Shop}
-use Rattle.shop_model.specs.Word.{Placing, IsWord, placing, place_next}
-use Rattle.shop_model.proofs.Ends.{IsOperation-job}
-use Rattle.shop_model.proofs.Unders.{next_operation, placing-snoc}
-use Rattle.shop_bound.specs.Bound.{lb}
-use Rattle.shop_states.proofs.BoundsUpTo.{IsBoundUpTo}
-use Rattle.shop_bound.specs.OneMachine.{one}
-use Rattle.shop_states.specs.inner.ChildBounds.{IsLeastAfter}
-use Rattle.shop_layout.specs.HeadLimits.{latest_end}
-use Rattle.shop_layout.specs.Lanes.{lanes_on}
-use Rattle.shop_states.specs.inner.LaneHeads.{AreHeadsAt}
-use Rattle.shop_states.specs.inner.LaneStates.{AreHeadsInLanes}
-use Rattle.shop_layout.specs.Positions.{AreMachinesOf, LayoutState, place}
-use Rattle.shop_states.specs.inner.Watchers.{IsSeenAt, floor_on}
-use Rattle.shop_states.specs.inner.HeadRaises.{Raise}
-use Rattle.shop_states.proofs.ChildRaises.{bound_is, heads_small, its_lanes}
-use Rattle.shop_states.proofs.ChildReads.{left_stored}
+use Rattle.std.proofs.Common.{◌≡◌, ℕ, ◌+◌, ◌*◌, ◌≤◌, ◌<◌, List, [], ◌∷◌, ◌++◌, length, get_or, set, refl, ap, subst}
+use Rattle.std.proofs.{Common.arith, lemmas.List.length-set}
+use Rattle.shop_lanes.specs.{Rows.{Rows, with_head, lanes_of}, Spans.{span, spans_between}}
+use Rattle.shop_model.specs.{Shop.Shop, Word.{Placing, IsWord, placing, place_next}}
+use Rattle.shop_model.proofs.{Ends.IsOperation-job, Unders.{next_operation, placing-snoc}}
+use Rattle.shop_bound.specs.{Bound.lb, OneMachine.one}
+use Rattle.shop_states.proofs.{BoundsUpTo.IsBoundUpTo, ChildRaises.{bound_is, heads_small, its_lanes}}
+use Rattle.shop_states.proofs.{ChildReads.left_stored, SeenRaises.{bounded_by_seen, span_ahead}, LeftSlots.left_for}
+use Rattle.shop_states.specs.inner.{ChildBounds.IsLeastAfter, LaneHeads.AreHeadsAt, LaneStates.AreHeadsInLanes}
+use Rattle.shop_states.specs.inner.{Watchers.{IsSeenAt, floor_on}, HeadRaises.Raise}
+use Rattle.shop_layout.specs.{HeadLimits.latest_end, Lanes.lanes_on, Positions.{AreMachinesOf, LayoutState, place}}
 use Rattle.shop_layout.proofs.LaneLimits.{blocks_within}
-use Rattle.shop_states.proofs.SeenRaises.{bounded_by_seen, span_ahead}
-use Rattle.shop_states.proofs.LeftSlots.{left_for}
 
 pub its_job : (shop : Shop) (w : List ℕ) (j : ℕ) → IsWord shop (w ++ j ∷ []) → j < length shop.jobs
 its_job shop w j fits = IsOperation-job shop j _ (next_operation shop w j fits)

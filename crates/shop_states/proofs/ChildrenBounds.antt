@@ -1,31 +1,20 @@
 -- What is known of the children of a word once heads are raised as if their machine were free late.
-use Rattle.std.proofs.Common.{rules, ◌≡◌, ℕ, ◌+◌, ◌^◌, ◌≤◌, ◌<◌, inl, inr, List, [], ◌∷◌, ◌++◌, length, get_or}
-use Rattle.std.proofs.Common.{refl, ◌∙◌, ap, arith}
+use Rattle.std.proofs.Common.{rules, ◌≡◌, ℕ, ◌+◌, ◌^◌, ◌≤◌, ◌<◌, inl, inr, List, [], ◌∷◌, ◌++◌, length, get_or, refl}
+use Rattle.std.proofs.Common.{◌∙◌, ap, arith}
 use Rattle.shop_lanes.specs.Rows.{Rows}
-use Rattle.shop_model.specs.Shop.{Shop, machine_of}
-use Rattle.shop_model.specs.Word.{placing}
+use Rattle.shop_model.specs.{Shop.{Shop, machine_of}, Word.placing}
 use Rattle.shop_bound.specs.Bound.{lb}
 use Rattle.shop_bound.proofs.SmallSums.{sums_small}
-use Rattle.shop_layout.specs.HeadLimits.{latest_end}
-use Rattle.shop_layout.specs.Lanes.{lanes_on, rows_of}
-use Rattle.shop_layout.specs.Positions.{LayoutState}
-use Rattle.shop_states.proofs.CeilingLemmas.{IsCeiling}
-use Rattle.shop_states.specs.declared.dispatching.Candidate.{Candidate}
-use Rattle.shop_states.specs.declared.siblings.Latest.{Latest}
-use Rattle.shop_states.specs.inner.Advances.{IsAdvancing}
-use Rattle.shop_states.specs.inner.Ceilings.{AreChildCeilings}
-use Rattle.shop_states.specs.inner.HeadRaises.{Raise, raise_of}
-use Rattle.shop_states.specs.inner.LaneStates.{IsKeptInLanes}
-use Rattle.shop_states.specs.inner.MachineRaises.{AreEmpty, AreRaisesFit}
-use Rattle.shop_states.specs.inner.Raises.{HasBlocks, IsInBlocks}
+use Rattle.shop_layout.specs.{HeadLimits.latest_end, Lanes.{lanes_on, rows_of}, Positions.LayoutState}
+use Rattle.shop_states.proofs.{CeilingLemmas.IsCeiling, LaneFits.spans_fit, OwnSpans.its_machine}
+use Rattle.shop_states.proofs.{LateHeads.{can_end, can_late, its_word, now_small, second_low}, RaisedHeads.has_blocks}
+use Rattle.shop_states.proofs.LateSpans.{child_ceilings, late_ceiling, settled}
+use Rattle.shop_states.specs.declared.{dispatching.Candidate.Candidate, siblings.Latest.Latest}
+use Rattle.shop_states.specs.inner.{Advances.IsAdvancing, Ceilings.AreChildCeilings, HeadRaises.{Raise, raise_of}}
+use Rattle.shop_states.specs.inner.{LaneStates.IsKeptInLanes, MachineRaises.{AreEmpty, AreRaisesFit}}
+use Rattle.shop_states.specs.inner.{Raises.{HasBlocks, IsInBlocks}, Watchers.{AreSeen, Watches, no_floor}}
 use Rattle.shop_states.specs.inner.Siblings.{AreLatest, AreSiblings, BoundsRaises, CanRaiseLate, IsAmong, IsLateAt}
 use Rattle.shop_states.specs.inner.Siblings.{RaisesBehind, end_by, job_at}
-use Rattle.shop_states.specs.inner.Watchers.{AreSeen, Watches, no_floor}
-use Rattle.shop_states.proofs.LaneFits.{spans_fit}
-use Rattle.shop_states.proofs.LateHeads.{can_end, can_late, its_word, now_small, second_low}
-use Rattle.shop_states.proofs.LateSpans.{child_ceilings, late_ceiling, settled}
-use Rattle.shop_states.proofs.OwnSpans.{its_machine}
-use Rattle.shop_states.proofs.RaisedHeads.{has_blocks}
 
 module _ {greatest : ℕ} {shop : Shop} {w : List ℕ} {l : LayoutState} {hs es nexts : List ℕ}
     (kept : IsKeptInLanes greatest shop w l (rows_of l hs es) nexts) {cs : List Candidate}

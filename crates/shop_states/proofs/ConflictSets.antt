@@ -1,21 +1,14 @@
 -- The conflict set gathered on the machine of the operation that can end first.
 use Rattle.std.proofs.Common.{rules, ◌≡◌, ℕ, ◌+◌, ◌*◌, ◌^◌, ◌≤◌, ◌<◌, List, [], ◌∷◌, length, get_or, subst, arith, refl}
-use Rattle.shop_lanes.specs.Marks.{positions_among}
-use Rattle.shop_lanes.specs.Spans.{AreOwnSpans}
+use Rattle.shop_lanes.specs.{Marks.positions_among, Spans.AreOwnSpans}
 use Rattle.shop_model.specs.Shop.{Shop}
 use Rattle.shop_bound.specs.Conflicts.{conflict}
-use Rattle.shop_layout.specs.Lanes.{rows_of}
-use Rattle.shop_layout.specs.Positions.{LayoutState}
-use Rattle.shop_states.specs.declared.candidate_lists.FirstEnd.{FirstEnd}
-use Rattle.shop_states.specs.declared.dispatching.Candidate.{Candidate}
+use Rattle.shop_layout.specs.{Lanes.rows_of, Positions.LayoutState}
+use Rattle.shop_states.specs.declared.{candidate_lists.FirstEnd.FirstEnd, dispatching.Candidate.Candidate}
 use Rattle.shop_states.specs.inner.Candidates.{AreCandidatesOf, CanList, IsChosenBy, ListsGathered, told_at}
-use Rattle.shop_states.specs.inner.LaneChoices.{AreNextPlaced, IsAlone, IsJobBelow}
-use Rattle.shop_states.specs.inner.LaneStates.{IsKeptInLanes}
-use Rattle.shop_states.specs.inner.Raises.{IsInBlocks}
-use Rattle.shop_states.specs.inner.RisingLists.{IsGatheredWith}
-use Rattle.shop_states.proofs.Candidates.{choosable}
-use Rattle.shop_states.proofs.LaneChoices.{alone_with}
-use Rattle.shop_states.proofs.NextOperations.{next_placed}
+use Rattle.shop_states.specs.inner.{LaneChoices.{AreNextPlaced, IsAlone, IsJobBelow}, LaneStates.IsKeptInLanes}
+use Rattle.shop_states.specs.inner.{Raises.IsInBlocks, RisingLists.IsGatheredWith}
+use Rattle.shop_states.proofs.{Candidates.choosable, LaneChoices.alone_with, NextOperations.next_placed}
 use Rattle.shop_states.proofs.OwnSpans.{CanTell, alone, can_tell, told, told_all}
 
 module _ {greatest : ℕ} {shop : Shop} {w : List ℕ} {l : LayoutState} {heads ends nexts : List ℕ}

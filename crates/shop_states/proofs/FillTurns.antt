@@ -1,20 +1,15 @@
 -- Heads by position are set one by one.
-use Rattle.std.proofs.Common.{◌≡◌, ℕ, ◌+◌, ◌-◌, ◌≤◌, ◌<◌, ◌^◌, max, inl, inr, List, length, get_or}
-use Rattle.std.proofs.Common.{set, refl, sym, ◌∙◌, ap, subst, arith}
-use Rattle.std.proofs.lemmas.Bool.{cases_eq}
-use Rattle.std.proofs.lemmas.Grind.{get_or-set_at}
+use Rattle.std.proofs.Common.{◌≡◌, ℕ, ◌+◌, ◌-◌, ◌≤◌, ◌<◌, ◌^◌, max, inl, inr, List, length, get_or, set, refl, sym, ◌∙◌}
+use Rattle.std.proofs.{Common.{ap, subst, arith}, lemmas.{Bool.cases_eq, Grind.get_or-set_at}}
 use Rattle.std.proofs.lemmas.List.{get_or-set_other, length-set}
 use Rattle.shop_lanes.specs.Rows.{Rows, with_head}
-use Rattle.shop_model.specs.Shop.{Shop, IsOperation, machine_of, route_of, time_of}
-use Rattle.shop_model.specs.Word.{Placing}
-use Rattle.shop_model.proofs.Ends.{IsOperation-job}
-use Rattle.shop_model.proofs.Unders.{after_word}
-use Rattle.shop_bound.specs.Heads.{ready_after, head_of}
+use Rattle.shop_model.specs.{Shop.{Shop, IsOperation, machine_of, route_of, time_of}, Word.Placing}
 use Rattle.shop_model.specs.Placements.{PlacementState, IsPlacement}
+use Rattle.shop_model.proofs.{Ends.IsOperation-job, Unders.after_word}
+use Rattle.shop_bound.specs.Heads.{ready_after, head_of}
 use Rattle.shop_states.specs.inner.Fills.{IsAtLeg, IsStored, CanFill, AreSameBeside, HasFilledJob}
 use Rattle.shop_states.specs.inner.LaneHeads.{AreHeadsAt}
-use Rattle.shop_layout.specs.declared.legs.Leg.{Leg}
-use Rattle.shop_layout.specs.Legs.{all_legs, end_of, leg_index}
+use Rattle.shop_layout.specs.{declared.legs.Leg.Leg, Legs.{all_legs, end_of, leg_index}}
 use Rattle.shop_layout.specs.Positions.{IsFree, LayoutState, place}
 use Rattle.shop_layout.proofs.LaidPlaces.{place_of}
 use Rattle.shop_states.proofs.JobLegs.{IsLegOf, index_there, leg_is, leg_small, step_past, step_there}
@@ -150,9 +145,6 @@ module _ {greatest : ℕ} {shop : Shop} {l : LayoutState} {rows : Rows} (can : C
 
         leg_found : IsLegOf shop l j so_far.step leg
         leg_found = leg_is can.limits can.laid j job so_far.step so_far.within same so_far.index_is is op_there
-
-        pub leg_position_known : leg.position < length now.heads
-        leg_position_known = position_known can job so_far.up_to op_there leg_found.position
 
         leg_machine_known : leg.machine < shop.machines
         leg_machine_known = let a = leg_found.machine in let b = can.limits.on_machines j so_far.step in omega arith

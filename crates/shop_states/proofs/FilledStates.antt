@@ -1,24 +1,13 @@
 -- A state that was set by a placement.
-use Rattle.std.proofs.Common.{◌≡◌, ℕ, ◌<◌, List, length, replicate, get_or, ◌∙◌, ap, arith}
-use Rattle.std.proofs.lemmas.Bool.{cases_lt}
+use Rattle.std.proofs.{Common.{◌≡◌, ℕ, ◌<◌, List, length, replicate, get_or, ◌∙◌, ap, arith}, lemmas.Bool.cases_lt}
 use Rattle.std.proofs.lemmas.List.{get_or_past, get_or-replicate, length-replicate}
-use Rattle.shop_model.specs.Placements.{IsPlacement}
-use Rattle.shop_model.specs.Shop.{Shop}
-use Rattle.shop_model.specs.Word.{IsWord, Placing, placing}
+use Rattle.shop_model.specs.{Placements.IsPlacement, Shop.Shop, Word.{IsWord, Placing, placing}}
 use Rattle.shop_model.proofs.Ends.{IsOperation-job}
-use Rattle.shop_layout.specs.LaidOuts.{IsReady}
-use Rattle.shop_layout.specs.Lanes.{rows_of}
-use Rattle.shop_layout.specs.Positions.{LayoutState}
+use Rattle.shop_layout.specs.{LaidOuts.IsReady, Lanes.rows_of, Positions.LayoutState}
 use Rattle.shop_layout.proofs.LatestEnds.{latest_end_is}
-use Rattle.shop_states.specs.inner.Fills.{CanFill}
-use Rattle.shop_states.specs.inner.LaneStates.{HasRoom, IsKeptInLanes}
-use Rattle.shop_states.specs.inner.PlacedNexts.{IsPlacedAt}
-use Rattle.shop_states.proofs.HeadsFit.{heads_fit}
-use Rattle.shop_states.proofs.NextOperations.{head_first}
-use Rattle.shop_states.proofs.FilledJobs.{AreNextsSet}
-use Rattle.shop_states.proofs.FillTurns.{HasFilled, IsRested}
-use Rattle.shop_states.proofs.PlacedNexts.{placement_at, placement_is}
-use Rattle.shop_states.proofs.SoleCandidates.{sole_keeps_bound}
+use Rattle.shop_states.specs.inner.{Fills.CanFill, LaneStates.{HasRoom, IsKeptInLanes}, PlacedNexts.IsPlacedAt}
+use Rattle.shop_states.proofs.{HeadsFit.heads_fit, PlacedNexts.{placement_at, placement_is}, NextOperations.head_first}
+use Rattle.shop_states.proofs.{FilledJobs.AreNextsSet, FillTurns.{HasFilled, IsRested}, SoleCandidates.sole_keeps_bound}
 
 module _ {greatest : ℕ} {shop : Shop} {l : LayoutState} (is : IsReady greatest shop l) {hs es nexts : List ℕ}
     (room : HasRoom shop l hs es nexts) {hs' : List ℕ} (heads : hs' ≡ replicate (length hs) 0) where

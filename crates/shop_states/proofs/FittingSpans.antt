@@ -1,9 +1,7 @@
 -- Spans of lanes whose times and greatest tail fit.
-use Rattle.std.proofs.Common.{ℕ, ◌+◌, ◌≤◌, ◌<◌, inl, inr, List, [], ◌∷◌, arith, sum_by}
-use Rattle.std.proofs.lemmas.Bool.{cases_lt}
+use Rattle.std.proofs.{Common.{ℕ, ◌+◌, ◌≤◌, ◌<◌, inl, inr, List, [], ◌∷◌, arith, sum_by}, lemmas.Bool.cases_lt}
 use Rattle.std.proofs.lemmas.List.Sums.{sum_by-cons}
-use Rattle.shop_lanes.specs.Rows.{Lane}
-use Rattle.shop_lanes.specs.Spans.{FitsSpan, greatest_by, span, spans_between, spans_from}
+use Rattle.shop_lanes.specs.{Rows.Lane, Spans.{FitsSpan, greatest_by, span, spans_between, spans_from}}
 use Rattle.shop_states.proofs.SpanTurns.{span_left, spans_counted, spans_high, spans_low}
 
 pub span_within : (least start : ℕ) (xs : List Lane)

@@ -1,6 +1,5 @@
 -- The position of a step of a route, or the number of all positions.
-use Rattle.std.proofs.Common.{◌≡◌, ℕ, ◌≤◌, ◌<◌, refl}
-use Rattle.std.proofs.lemmas.Bool.{lt-ltb, le-ltb}
+use Rattle.std.proofs.{Common.{◌≡◌, ℕ, ◌≤◌, ◌<◌, refl}, lemmas.Bool.{lt-ltb, le-ltb}}
 use Rattle.shop_layout.specs.Positions.{place_or, LayoutState, place}
 use Rattle.shop_states.specs.inner.Raises.{steps_of}
 

@@ -1,11 +1,9 @@
 -- Heads of a word fit into lanes that hold the loads of all machines.
 use Rattle.std.proofs.Common.{ℕ, arith}
-use Rattle.shop_model.specs.Limits.{IsWithinLimits}
-use Rattle.shop_model.specs.Shop.{Shop}
-use Rattle.shop_layout.specs.HeadLimits.{FitsLanes}
+use Rattle.shop_model.specs.{Limits.IsWithinLimits, Shop.Shop}
+use Rattle.shop_layout.specs.{HeadLimits.FitsLanes, Positions.LayoutState}
 use Rattle.shop_layout.proofs.LatestEnds.{latest_end_is}
 use Rattle.shop_states.specs.inner.LaneHeads.{AreHeadsFit}
-use Rattle.shop_layout.specs.Positions.{LayoutState}
 
 pub heads_fit : (greatest : ℕ) (shop : Shop) (l : LayoutState) → IsWithinLimits shop → FitsLanes greatest shop l
     → AreHeadsFit greatest shop

@@ -1,16 +1,12 @@
 -- The legs of a job's route, in the layout of its instance.
 use Rattle.std.proofs.Common.{rules, ◌≡◌, ℕ, zero, suc, ◌+◌, ◌*◌, ◌≤◌, ◌<◌, List, [], ◌∷◌, length, get_or, map, take}
-use Rattle.std.proofs.Common.{sym, ◌∙◌, ap, arith}
-use Rattle.std.specs.List.{flat_map}
-use Rattle.std.proofs.lemmas.Bool.{cases_lt}
+use Rattle.std.proofs.{Common.{sym, ◌∙◌, ap, arith}, lemmas.Bool.cases_lt}
 use Rattle.std.proofs.lemmas.List.{flat_map_more, length-append, length-map, take_more}
-use Rattle.shop_model.specs.Limits.{IsWithinLimits}
-use Rattle.shop_model.specs.Shop.{Shop, machine_of, route_of, time_of}
-use Rattle.shop_layout.specs.declared.legs.Leg.{Leg}
-use Rattle.shop_layout.specs.Legs.{all_legs, end_of, leg_index, leg_of, route_legs}
+use Rattle.std.specs.List.{flat_map}
+use Rattle.shop_model.specs.{Limits.IsWithinLimits, Shop.{Shop, machine_of, route_of, time_of}}
+use Rattle.shop_layout.specs.{declared.legs.Leg.Leg, Legs.{all_legs, end_of, leg_index, leg_of, route_legs}}
 use Rattle.shop_layout.specs.Positions.{IsLaidOut, LayoutState, first_position, place, place_or}
-use Rattle.shop_layout.proofs.LaidPlaces.{place_of}
-use Rattle.shop_layout.proofs.RouteLegs.{index_known, leg_behind, leg_here}
+use Rattle.shop_layout.proofs.{LaidPlaces.place_of, RouteLegs.{index_known, leg_behind, leg_here}}
 use Rattle.shop_states.proofs.Followed.{place_past, place_there}
 
 -- leg k of job j is that of its step k

@@ -1,17 +1,7 @@
 -- One more turn of the loops that bound by lanes.
-use Rattle.std.proofs.Common.{◌≡◌, ℕ, ◌≤◌, ◌<◌, List, [], ◌∷◌, length, set, refl, arith}
-use Rattle.std.proofs.lemmas.Bool.{cases_eq, cases_lt}
-use Rattle.std.proofs.lemmas.List.{get_or-set_same, get_or-set_other, length-set}
-use Rattle.shop_lanes.specs.Rows.{Lane}
-use Rattle.shop_lanes.specs.Spans.{spans_from}
-use Rattle.shop_states.proofs.SpanTurns.{spans_low, spans_high}
-use Rattle.shop_states.specs.inner.HeadRaises.{Raise, raise_of, widened}
-use Rattle.shop_states.specs.inner.HeadRaises.{AreRaisesUpTo}
-
--- nothing begins between where nothing is between
-pub spans-none : (above upto : ℕ) (all xs : List Lane) → upto ≤ above → spans_from above upto all xs ≡ 0
-spans-none above upto all [] h = refl
-spans-none above upto all (x ∷ xs) h = grind (arith, cases_lt, spans_high, spans_low, spans-none above upto all xs h)
+use Rattle.std.proofs.Common.{◌≡◌, ℕ, ◌≤◌, ◌<◌, List, length, set, arith}
+use Rattle.std.proofs.lemmas.{Bool.cases_eq, List.{get_or-set_same, get_or-set_other, length-set}}
+use Rattle.shop_states.specs.inner.HeadRaises.{Raise, raise_of, widened, AreRaisesUpTo}
 
 -- a raise that was widened, and the others
 module _ (raises : List Raise) (m a b : ℕ) (known : m < length raises) (after : List Raise)

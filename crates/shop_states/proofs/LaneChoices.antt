@@ -1,15 +1,12 @@
 -- The choice among next operations by lanes.
 use Rattle.std.proofs.Common.{◌≡◌, ℕ, ◌*◌, ◌≤◌, ◌<◌, ◌⊎◌, inl, inr, List, [], ◌∷◌, length, get_or, refl, sym, ◌∙◌, ap}
-use Rattle.std.proofs.Common.{subst, arith}
-use Rattle.std.specs.List.{AllByRecursion}
-use Rattle.std.proofs.lemmas.List.Elements.{recursion_from_All, All-from_recursion}
+use Rattle.std.proofs.{Common.{subst, arith}, lemmas.List.Elements.{recursion_from_All, All-from_recursion}}
 use Rattle.std.proofs.lemmas.Bool.{cases_lt}
+use Rattle.std.specs.List.{AllByRecursion}
 use Rattle.shop_lanes.specs.Marks.{positions_among}
 use Rattle.shop_layout.specs.Positions.{LayoutState}
-use Rattle.shop_states.specs.inner.LaneChoices.{AreNextPlaced, HaveJobs, IsAlone, IsJobAt, IsJobBelow}
-use Rattle.shop_states.specs.inner.Raises.{IsInBlocks}
-use Rattle.shop_states.specs.inner.JobSets.{HasPut}
-use Rattle.shop_states.specs.inner.RisingLists.{IsIn, Rises, HasGathered, IsGatheredWith}
+use Rattle.shop_states.specs.inner.{LaneChoices.{AreNextPlaced, HaveJobs, IsAlone, IsJobAt, IsJobBelow}, JobSets.HasPut}
+use Rattle.shop_states.specs.inner.{Raises.IsInBlocks, RisingLists.{IsIn, Rises, HasGathered, IsGatheredWith}}
 use Rattle.shop_states.proofs.MarkedPositions.{IsBelow, below_is_in, in_is_below}
 
 -- what is gathered while some of the marked positions are still to come
@@ -23,18 +20,10 @@ pub gathering_begins : (l : LayoutState) (marks old : List ℕ) → AreGathering
 gathering_begins l marks old = grind arith
 
 module _ {l : LayoutState} {marks : List ℕ} where
-  pub gathering_ends : {todo old now : List ℕ} → AreGathering l marks todo old now → todo ≡ []
-      → HasGathered (IsJobAt l marks) old now
-  gathering_ends {now} are nothing = grind arith
-
   module _ {todo old now : List ℕ} (so_far : AreGathering l marks todo old now) {q : ℕ}
       {rest : List ℕ} (popped : todo ≡ q ∷ rest) where
     pub popped_marked : IsIn marks q
     popped_marked = so_far.to_come q (subst (λ (xs : List ℕ). IsIn xs q) (sym popped) (inl refl))
-
-    -- its job is put in
-    pub gathering_on : {new : List ℕ} → HasPut (get_or l.jobs q 0) now new → AreGathering l marks rest old new
-    gathering_on put = grind (arith, popped_marked)
 
 -- of all positions
 pub have_all : {l : LayoutState} {n most : ℕ} → HaveJobs l n most → HaveJobs l (length l.jobs) most
@@ -55,10 +44,6 @@ module _ (heads : List ℕ) (from to limit : ℕ) (ordered : from ≤ to) (withi
 
 -- some blocks, and those behind them
 module _ (l : LayoutState) (heads : List ℕ) (limit : ℕ) where
-  pub none_gathered : (from : ℕ) (old : List ℕ)
-      → HasGathered (IsJobBelow l heads (IsInBlocks from from) limit) old old
-  none_gathered from old = grind arith
-
   pub more_gathered : (first from to : ℕ) (old now new : List ℕ) → first ≤ from → from ≤ to
       → HasGathered (IsJobBelow l heads (IsInBlocks first from) limit) old now
       → HasGathered (IsJobBelow l heads (IsInBlocks from to) limit) now new

@@ -1,31 +1,22 @@
 -- The heads of a word, raised behind the operations of its candidates' machine as if that were free late: that lanes
 -- have room for them, and that no child's heads are higher, but where its own operation delays them.
-use Rattle.std.proofs.Common.{rules, ◌≡◌, ℕ, ◌+◌, ◌≤◌, ◌<◌, max, inl, inr, List, [], ◌∷◌, ◌++◌, get_or, set, refl}
-use Rattle.std.proofs.Common.{sym, ◌∙◌, ap, subst, arith, cond, ltb}
+use Rattle.std.proofs.Common.{rules, ◌≡◌, ℕ, ◌+◌, ◌≤◌, ◌<◌, max, inl, inr, List, [], ◌∷◌, ◌++◌, get_or, set, refl, sym}
+use Rattle.std.proofs.Common.{◌∙◌, ap, subst, arith, cond, ltb}
 use Rattle.std.proofs.lemmas.Bool.{cases_eq, cases_lt, eq-eqb, le-ltb, lt-ltb, ne_eqb}
 use Rattle.shop_lanes.specs.Rows.{Rows}
-use Rattle.shop_model.specs.Shop.{Shop, IsOperation, machine_of}
-use Rattle.shop_model.specs.Word.{IsWord, place_next, placing}
-use Rattle.shop_layout.specs.HeadLimits.{latest_end}
-use Rattle.shop_layout.specs.Lanes.{rows_of}
-use Rattle.shop_layout.specs.Positions.{LayoutState, first_position, place}
+use Rattle.shop_model.specs.{Shop.{Shop, IsOperation, machine_of}, Word.{IsWord, place_next, placing}}
+use Rattle.shop_layout.specs.{HeadLimits.latest_end, Lanes.rows_of, Positions.{LayoutState, first_position, place}}
 use Rattle.shop_layout.proofs.LaidPlaces.{place_of}
-use Rattle.shop_states.specs.declared.dispatching.Candidate.{Candidate}
-use Rattle.shop_states.specs.declared.siblings.Latest.{Latest}
-use Rattle.shop_states.specs.inner.LaneHeads.{AreHeadsAt}
-use Rattle.shop_states.specs.inner.LaneStates.{IsKeptInLanes}
+use Rattle.shop_states.specs.declared.{dispatching.Candidate.Candidate, siblings.Latest.Latest}
+use Rattle.shop_states.specs.inner.{LaneHeads.AreHeadsAt, LaneStates.IsKeptInLanes, Watchers.floor_on}
 use Rattle.shop_states.specs.inner.Raises.{AreInRouteOrder, IsInBlocks, IsOnMachine, IsRaised, at_in, steps_of}
 use Rattle.shop_states.specs.inner.Siblings.{AreLatest, AreSiblings, CanEnd, CanRaiseBehind, IsAmong, IsLateAt}
 use Rattle.shop_states.specs.inner.Siblings.{IsRaisedBehind, RaisesBehind, end_by, job_at}
-use Rattle.shop_states.specs.inner.Watchers.{floor_on}
-use Rattle.shop_states.proofs.AdvanceSteps.{end_small}
-use Rattle.shop_states.proofs.Candidates.{head_is}
-use Rattle.shop_states.proofs.ChildRaises.{heads_small}
-use Rattle.shop_states.proofs.ChildReads.{head_here, is_operation}
-use Rattle.shop_states.proofs.ChildTargets.{child_fits, child_head, child_raised, child_small, heads_least}
-use Rattle.shop_states.proofs.ChildTargets.{struck_here, struck_low, struck_order, struck_other}
+use Rattle.shop_states.proofs.{AdvanceSteps.end_small, Candidates.head_is, ChildRaises.heads_small}
+use Rattle.shop_states.proofs.{ChildReads.{head_here, is_operation}, StateSteps.{next_at, next_known, within}}
+use Rattle.shop_states.proofs.ChildTargets.{child_fits, child_head, child_raised, child_small, heads_least, struck_here}
+use Rattle.shop_states.proofs.ChildTargets.{struck_low, struck_order, struck_other}
 use Rattle.shop_states.proofs.RaisedHeads.{followed, head_waits_at, heads_in_order, indexed, is_place, operation_in}
-use Rattle.shop_states.proofs.StateSteps.{next_at, next_known, within}
 
 module _ {greatest : ℕ} {shop : Shop} {w : List ℕ} {l : LayoutState} {hs es nexts : List ℕ}
     (kept : IsKeptInLanes greatest shop w l (rows_of l hs es) nexts) {cs : List Candidate}

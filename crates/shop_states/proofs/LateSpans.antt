@@ -1,37 +1,22 @@
 -- Spans from heads that are raised as if their machine were free late bound those of each child, and so its bound.
 use Rattle.std.proofs.Common.{rules, ◌≡◌, ℕ, ◌+◌, ◌*◌, ◌≤◌, ◌<◌, ◌⊎◌, inl, inr, List, [], ◌∷◌, ◌++◌, length, get_or}
-use Rattle.std.proofs.Common.{refl, sym, ◌∙◌, ap, subst, arith}
-use Rattle.std.proofs.lemmas.Bool.{cases_eq, cases_lt, eq-eqb, ne_eqb}
-use Rattle.shop_lanes.specs.Rows.{Lane, Rows, lanes_of}
-use Rattle.shop_lanes.specs.Spans.{span, spans_between}
-use Rattle.shop_model.specs.Shop.{Shop, machine_of}
-use Rattle.shop_model.specs.Word.{Placing, place_next, placing}
+use Rattle.std.proofs.{Common.{refl, sym, ◌∙◌, ap, subst, arith}, lemmas.Bool.{cases_eq, cases_lt, eq-eqb, ne_eqb}}
+use Rattle.shop_lanes.specs.{Rows.{Lane, Rows, lanes_of}, Spans.{span, spans_between}}
+use Rattle.shop_model.specs.{Shop.{Shop, machine_of}, Word.{Placing, place_next, placing}}
 use Rattle.shop_model.proofs.Unders.{placing-snoc}
 use Rattle.shop_bound.specs.Bound.{lb}
-use Rattle.shop_layout.specs.HeadLimits.{latest_end}
-use Rattle.shop_layout.specs.Lanes.{lanes_on, rows_of}
-use Rattle.shop_layout.specs.Positions.{LayoutState}
+use Rattle.shop_layout.specs.{HeadLimits.latest_end, Lanes.{lanes_on, rows_of}, Positions.LayoutState}
 use Rattle.shop_layout.proofs.LaneLimits.{blocks_within}
-use Rattle.shop_states.specs.declared.dispatching.Candidate.{Candidate}
-use Rattle.shop_states.specs.declared.siblings.Latest.{Latest}
-use Rattle.shop_states.specs.inner.Advances.{IsAdvancing}
-use Rattle.shop_states.specs.inner.Ceilings.{AreChildCeilings}
-use Rattle.shop_states.specs.inner.HeadRaises.{Raise}
-use Rattle.shop_states.specs.inner.LaneHeads.{AreHeadsAt}
-use Rattle.shop_states.specs.inner.LaneStates.{AreHeadsInLanes, IsKeptInLanes}
-use Rattle.shop_states.specs.inner.Raises.{IsInBlocks}
+use Rattle.shop_states.specs.{inner.{LaneHeads.AreHeadsAt, Watchers.floor_on}, declared.dispatching.Candidate.Candidate}
+use Rattle.shop_states.specs.{inner.{Raises.IsInBlocks, Ceilings.AreChildCeilings}, declared.siblings.Latest.Latest}
+use Rattle.shop_states.specs.inner.{HeadRaises.Raise, Advances.IsAdvancing, LaneStates.{AreHeadsInLanes, IsKeptInLanes}}
 use Rattle.shop_states.specs.inner.Siblings.{AreLatest, AreSiblings, IsAmong, IsLateAt, RaisesBehind, end_by}
-use Rattle.shop_states.specs.inner.Watchers.{floor_on}
-use Rattle.shop_states.proofs.CeilingLemmas.{IsCeiling, IsBelow, ceiling_of_spans}
-use Rattle.shop_states.proofs.ChildBounds.{child-le}
-use Rattle.shop_states.proofs.ChildRaises.{bounded_by_raise, covered_all}
-use Rattle.shop_states.proofs.ChildTargets.{child_heads, child_heads_are}
-use Rattle.shop_states.proofs.ChildTurns.{its_ahead, next_small}
-use Rattle.shop_states.proofs.FittingSpans.{spans_each}
+use Rattle.shop_states.proofs.{CeilingLemmas.{IsCeiling, IsBelow, ceiling_of_spans}, ChildBounds.child-le}
+use Rattle.shop_states.proofs.{ChildRaises.{bounded_by_raise, covered_all}, ChildTargets.{child_heads, child_heads_are}}
+use Rattle.shop_states.proofs.{ChildTurns.{its_ahead, next_small}, FittingSpans.spans_each}
 use Rattle.shop_states.proofs.LateHeads.{child_low, its_end, now_small, same_machine}
 use Rattle.shop_states.proofs.RisenLanes.{AreBeside, IsLaneBeside, IsRisen, IsRisenLane, IsServedBefore, beside_as}
-use Rattle.shop_states.proofs.RisenLanes.{span_beside, spans_risen}
-use Rattle.shop_states.proofs.SeenRaises.{blocks_beside, lanes_are, word_spans}
+use Rattle.shop_states.proofs.{RisenLanes.{span_beside, spans_risen}, SeenRaises.{blocks_beside, lanes_are, word_spans}}
 
 -- what is served from a moment on in a row is served in the other
 abbrev IsServedIn : ℕ → ℕ → ℕ → Type 0

@@ -1,23 +1,14 @@
 -- What is left for a machine, by its slots: what waits for it, so the bound of a word.
 use Rattle.std.proofs.Common.{rules, ◌≡◌, ℕ, zero, suc, ◌+◌, ◌-◌, ◌≤◌, ◌<◌, max, inl, inr, Bool, true, false, List, []}
-use Rattle.std.proofs.Common.{◌∷◌, length, get_or, map, refl, sym, ◌∙◌, ap, arith, eqb, leb}
+use Rattle.std.proofs.{Common.{◌∷◌, length, get_or, map, refl, sym, ◌∙◌, ap, arith, eqb, leb}, lemmas.List.map-append}
+use Rattle.std.proofs.lemmas.{Bool.{cases_Bool, cases_lt, le-leb, leb-true}, List.Elements.filter-append, Simd.map-map}
 use Rattle.std.specs.List.{AllByRecursion, filter, flat_map, range_with_len}
-use Rattle.std.proofs.lemmas.Bool.{cases_Bool, cases_lt, le-leb, leb-true}
-use Rattle.std.proofs.lemmas.List.{map-append}
-use Rattle.std.proofs.lemmas.List.Elements.{filter-append}
-use Rattle.std.proofs.lemmas.Simd.{map-map}
-use Rattle.shop_model.specs.Limits.{IsWithinLimits}
-use Rattle.shop_model.specs.Shop.{Shop, route_of, machine_of, greatest_below}
+use Rattle.shop_model.specs.{Limits.IsWithinLimits, Shop.{Shop, route_of, machine_of, greatest_below}}
 use Rattle.shop_model.specs.Word.{Placing, IsWord, placing}
-use Rattle.shop_bound.specs.declared.triples.Triple.{Triple}
-use Rattle.shop_bound.specs.OneMachine.{one}
-use Rattle.shop_bound.specs.inner.NonincreasingTails.{IsNonincreasing}
-use Rattle.shop_bound.proofs.SameSums.{permuted_sums, filtered_sums, mapped_sums, same_one}
-use Rattle.shop_bound.specs.Bound.{Waiting, waiting, triples_on, lb}
-use Rattle.shop_bound.specs.Heads.{head_of, waiting_at, steps_left}
-use Rattle.shop_bound.proofs.HeadWalks.{waiting_is}
-use Rattle.shop_bound.proofs.LowerBounds.{greatest_below-equal, greatest_below-both}
-use Rattle.shop_bound.proofs.PlacedEnds.{placed_end-free}
+use Rattle.shop_bound.specs.{declared.triples.Triple.Triple, OneMachine.one, inner.NonincreasingTails.IsNonincreasing}
+use Rattle.shop_bound.specs.{Bound.{Waiting, waiting, triples_on, lb}, Heads.{head_of, waiting_at, steps_left}}
+use Rattle.shop_bound.proofs.{SameSums.{permuted_sums, filtered_sums, mapped_sums, same_one}, HeadWalks.waiting_is}
+use Rattle.shop_bound.proofs.{LowerBounds.{greatest_below-equal, greatest_below-both}, PlacedEnds.placed_end-free}
 use Rattle.shop_layout.specs.Slots.{slot_at, operations_in, operations_on, AreMachineSlots, AreSlotsOf}
 use Rattle.shop_layout.specs.declared.slots.Slot.{Slot}
 

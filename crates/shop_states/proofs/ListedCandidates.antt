@@ -1,14 +1,10 @@
 -- The candidates of a word, one by one.
 use Rattle.std.proofs.Common.{ℕ, zero, suc, ◌<◌, inl, inr, List, length, get_or, arith}
-use Rattle.shop_model.specs.Shop.{Shop}
-use Rattle.shop_model.specs.Word.{IsWord, placing}
+use Rattle.shop_model.specs.{Shop.Shop, Word.{IsWord, placing}}
 use Rattle.shop_bound.specs.Conflicts.{conflict, open_jobs}
-use Rattle.shop_states.specs.States.{ListsBelow, none, listed, closed}
-use Rattle.shop_states.specs.declared.dispatching.Candidate.{Candidate}
-use Rattle.shop_states.specs.inner.RisingLists.{IsIn}
-use Rattle.shop_states.specs.inner.Siblings.{AreSiblings, job_at}
-use Rattle.shop_states.proofs.Candidates.{candidate_fits}
-use Rattle.shop_states.proofs.OwnSpans.{on_one}
+use Rattle.shop_states.specs.{States.{ListsBelow, none, listed, closed}, declared.dispatching.Candidate.Candidate}
+use Rattle.shop_states.specs.inner.{RisingLists.IsIn, Siblings.{AreSiblings, job_at}}
+use Rattle.shop_states.proofs.{Candidates.candidate_fits, OwnSpans.on_one}
 
 -- each is one of the jobs, with its own number
 pub listed_at : {shop : Shop} {w : List ℕ} {limit : ℕ} {is : Candidate → Type 0} {js : List ℕ} {cs : List Candidate}

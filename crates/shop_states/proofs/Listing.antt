@@ -1,9 +1,7 @@
 -- Candidates listed one after the other.
 use Rattle.std.proofs.Common.{◌≡◌, ℕ, zero, suc, ◌+◌, ◌-◌, ◌≤◌, inl, inr, List, [], ◌∷◌, ◌++◌, length, take, refl, sym}
-use Rattle.std.proofs.Common.{◌∙◌, ap, subst, append_assoc, arith}
-use Rattle.std.proofs.lemmas.Bool.{cases_lt, le-leb, lt-leb}
-use Rattle.std.proofs.lemmas.List.{append-nil}
-use Rattle.std.proofs.Math.Seq.{take-append-add}
+use Rattle.std.proofs.{Common.{◌∙◌, ap, subst, append_assoc, arith}, lemmas.Bool.{cases_lt, le-leb, lt-leb}}
+use Rattle.std.proofs.{lemmas.List.append-nil, Math.Seq.take-append-add}
 use lib.Dec.{leb}
 use mir.Val.{bool_byte}
 use Rattle.shop_states.specs.declared.dispatching.Candidate.{Candidate}

@@ -1,12 +1,9 @@
 -- A beginning that goes on along a word.
-use Rattle.std.proofs.Common.{◌≡◌, ℕ, ◌≤◌, List, length, take, arith}
-use Rattle.std.proofs.lemmas.List.{with_items_is}
+use Rattle.std.proofs.{Common.{◌≡◌, ℕ, ◌≤◌, List, length, take, arith}, lemmas.List.with_items_is}
 use Rattle.std.specs.Vec.{with_items}
-use Rattle.shop_model.specs.Shop.{Shop, operation_count}
-use Rattle.shop_model.specs.Word.{placing}
+use Rattle.shop_model.specs.{Shop.{Shop, operation_count}, Word.placing}
 use Rattle.shop_layout.specs.Positions.{LayoutState}
-use Rattle.shop_states.specs.declared.beginnings.Beginning.{Beginning}
-use Rattle.shop_states.specs.inner.Beginnings.{IsBeginningOf}
+use Rattle.shop_states.specs.{declared.beginnings.Beginning.Beginning, inner.Beginnings.IsBeginningOf}
 use Rattle.shop_states.specs.inner.PlacedNexts.{IsPlacedAt}
 
 pub gone_on : (shop : Shop) (l : LayoutState) (b : Beginning) → IsBeginningOf shop l b → (w row : List ℕ) (n : ℕ)

@@ -1,13 +1,10 @@
 -- The rows of the next machine whose raise is taken, cut out of rows that were looked up before.
 use Rattle.std.proofs.Common.{◌≡◌, ℕ, ◌+◌, ◌*◌, ◌^◌, ◌≤◌, ◌<◌, List, ◌∷◌, ap, get_or, length, map, refl, ◌∙◌, arith}
 use Rattle.std.proofs.lemmas.List.{length-map}
-use Rattle.shop_lanes.specs.Rows.{AreBlocksOf, AreCutFrom, lanes_in}
-use Rattle.shop_lanes.specs.declared.lane_rows.LaneRows.{LaneRows}
+use Rattle.shop_lanes.specs.{Rows.{AreBlocksOf, AreCutFrom, lanes_in}, declared.lane_rows.LaneRows.LaneRows}
 use Rattle.shop_lanes.proofs.RowValues.{lanes_of_cut, long_cut}
-use Rattle.shop_layout.specs.Lanes.{lanes_on, rows_of}
-use Rattle.shop_layout.specs.Positions.{LayoutState}
-use Rattle.shop_states.specs.declared.head_raises.LaneRaise.{LaneRaise}
-use Rattle.shop_states.specs.inner.HeadRaises.{Raise, raise_in, raise_of}
+use Rattle.shop_layout.specs.{Lanes.{lanes_on, rows_of}, Positions.LayoutState}
+use Rattle.shop_states.specs.{declared.head_raises.LaneRaise.LaneRaise, inner.HeadRaises.{Raise, raise_in, raise_of}}
 use Rattle.shop_states.specs.inner.MachineRaises.{CanBoundRows, CanTakeSpans, IsSpanByRaise}
 use Rattle.shop_states.proofs.RaisedMachines.{AreLeft, first_known}
 

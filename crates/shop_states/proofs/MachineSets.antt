@@ -1,8 +1,7 @@
 -- Machines as the bits of two words: one bit more, and the lowest taken out.
-use Rattle.std.proofs.Common.{◌≡◌, ℕ, ◌+◌, ◌-◌, ◌*◌, ◌%◌, ◌^◌, ◌≤◌, ◌<◌, List, []}
-use Rattle.std.proofs.Common.{◌∷◌, ◌++◌, sym, ◌∙◌, ap, subst, arith}
+use Rattle.std.proofs.Common.{◌≡◌, ℕ, ◌+◌, ◌-◌, ◌*◌, ◌%◌, ◌^◌, ◌≤◌, ◌<◌, List, [], ◌∷◌, ◌++◌, sym, ◌∙◌, ap, subst}
+use Rattle.std.proofs.{Common.arith, lemmas.Nat.or_lt}
 use Rattle.std.specs.Int.Bits.{bit_and, bit_or}
-use Rattle.std.proofs.lemmas.Nat.{or_lt}
 use lib.Count.{count_trailing_zeros}
 use Rattle.shop_lanes.specs.SetBits.{set_bits}
 use Rattle.shop_lanes.proofs.MarkLemmas.{set_bits-lowest, set_bits-zero}

@@ -1,11 +1,10 @@
 -- The positions at which something waits with a head below a limit, and the marks of these.
-use Rattle.std.proofs.Common.{◌≡◌, ℕ, zero, suc, ◌+◌, ◌*◌, ◌-◌, ◌≤◌, ◌<◌, inl, inr, Bool, true}
-use Rattle.std.proofs.Common.{List, [], ◌∷◌, length, get_or, take, drop, refl, ◌∙◌, ap, subst, arith, ltb}
+use Rattle.std.proofs.Common.{◌≡◌, ℕ, zero, suc, ◌+◌, ◌*◌, ◌-◌, ◌≤◌, ◌<◌, inl, inr, Bool, true, List, [], ◌∷◌, length}
+use Rattle.std.proofs.Common.{get_or, take, drop, refl, ◌∙◌, ap, subst, arith, ltb}
 use Rattle.std.proofs.lemmas.Bool.{cases_Bool, and_from, and_parts, lt-ltb, ltb-true}
 use Rattle.std.proofs.lemmas.List.{get_or-take, get_or-drop, length-take-le, length-drop}
 use Rattle.shop_lanes.specs.Marks.{marked, waits_below, positions_among}
-use Rattle.shop_states.specs.inner.RisingLists.{IsIn, Rises}
-use Rattle.shop_states.specs.inner.Raises.{IsInBlocks}
+use Rattle.shop_states.specs.inner.{RisingLists.{IsIn, Rises}, Raises.IsInBlocks}
 
 module _ (p : ℕ → Bool) where
   pub marked_in : (at : ℕ) (xs : List ℕ) (i : ℕ) → i < length xs → p (get_or xs i 0) ≡ true

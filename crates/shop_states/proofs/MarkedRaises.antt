@@ -2,17 +2,11 @@
 use Rattle.std.proofs.Common.{◌≡◌, ℕ, ◌+◌, ◌*◌, ◌≤◌, ◌<◌, min, List, length, get_or, refl, ◌∙◌, arith}
 use Rattle.shop_lanes.specs.{Marks.positions_among, Rows.Rows}
 use Rattle.shop_layout.specs.Positions.{AreEven, LayoutState}
-use Rattle.shop_states.specs.declared.dispatches.Dispatch.{Dispatch}
-use Rattle.shop_states.specs.inner.Dispatches.{marked_up_to}
-use Rattle.shop_states.specs.inner.HeadRaises.{Raise}
-use Rattle.shop_states.specs.inner.MachineRaises.{AreListed}
-use Rattle.shop_states.specs.inner.RaiseCalls.{CanDelay, CanRaise, HasRaised}
-use Rattle.shop_states.specs.inner.Raises.{AreWaiting, IsInBlocks, IsOnMachine, IsRaisable, Raises}
-use Rattle.shop_states.specs.inner.RisingLists.{IsIn}
-use Rattle.shop_states.specs.inner.Watchers.{Sees}
+use Rattle.shop_states.specs.{declared.dispatches.Dispatch.Dispatch, inner.{Dispatches.marked_up_to, HeadRaises.Raise}}
+use Rattle.shop_states.specs.inner.{MachineRaises.AreListed, RaiseCalls.{CanDelay, CanRaise, HasRaised}, Watchers.Sees}
+use Rattle.shop_states.specs.inner.{Raises.{AreWaiting, IsInBlocks, IsOnMachine, IsRaisable, Raises}, RisingLists.IsIn}
 use Rattle.shop_states.proofs.RaiseLoops.{all_blocks, blocks_raisable, marks_in, marks_raisable, marks_raised}
-use Rattle.shop_states.proofs.RaiseLoops.{marks_waiting, more_blocks, no_blocks}
-use Rattle.shop_states.proofs.Watching.{sees_both, sees_none}
+use Rattle.shop_states.proofs.{RaiseLoops.{marks_waiting, more_blocks, no_blocks}, Watching.{sees_both, sees_none}}
 
 -- a machine of a few blocks is marked to its end
 pub all_marked : (l : LayoutState) (m each : ℕ) → AreEven l.blocks each → 0 < each → each ≤ 8

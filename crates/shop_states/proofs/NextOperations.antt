@@ -1,12 +1,10 @@
 -- The next operations of a placing, where they stand in lanes.
-use Rattle.std.proofs.Common.{rules, ◌≡◌, ℕ, ◌+◌, ◌≤◌, ◌<◌, List, length, get_or, sym, ◌∙◌, ap, arith}
+use Rattle.std.proofs.Common.{rules, ◌≡◌, ℕ, ◌+◌, ◌<◌, List, length, get_or, sym, ◌∙◌, ap, arith}
 use Rattle.std.proofs.lemmas.Bool.{cases_lt}
 use Rattle.shop_lanes.specs.Rows.{Rows}
-use Rattle.shop_model.specs.Shop.{Shop, IsOperation, route_of, time_of}
-use Rattle.shop_model.specs.Word.{Placing}
+use Rattle.shop_model.specs.{Shop.{Shop, IsOperation, time_of}, Word.Placing}
 use Rattle.shop_model.proofs.Ends.{IsOperation-job}
-use Rattle.shop_bound.specs.Conflicts.{next_end, next_head}
-use Rattle.shop_bound.specs.Heads.{head_of}
+use Rattle.shop_bound.specs.{Conflicts.{next_end, next_head}, Heads.head_of}
 use Rattle.shop_layout.specs.Positions.{LayoutState, first_position, place}
 use Rattle.shop_layout.proofs.LaidPlaces.{place_of}
 use Rattle.shop_states.specs.inner.LaneChoices.{AreNextPlaced, AreNextsAt}
@@ -27,10 +25,6 @@ module _ {shop : Shop} {p : Placing} {l : LayoutState} {nexts : List ℕ} {rows 
 
   pub next_within : (j : ℕ) → IsOperation shop j (p.steps j) → get_or nexts j 0 < length rows.heads
   next_within j op = search (rules, next_there, place_of)
-
-  pub next_past : (j : ℕ) → j < length shop.jobs → length (route_of shop j) ≤ p.steps j
-      → length rows.heads ≤ get_or nexts j 0
-  next_past j known past = grind arith
 
   pub next_is : (j : ℕ) → j < length shop.jobs → get_or nexts j 0 < length rows.heads → IsOperation shop j (p.steps j)
   next_is j known below = grind (arith, cases_lt)

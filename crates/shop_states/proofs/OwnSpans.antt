@@ -1,37 +1,24 @@
 -- Own spans tell the bound after each candidate of a word.
 use Rattle.std.proofs.Common.{rules, ◌≡◌, ℕ, zero, suc, ◌+◌, ◌-◌, ◌*◌, ◌≤◌, ◌<◌, max, inl, inr, true, List, [], ◌∷◌}
 use Rattle.std.proofs.Common.{◌++◌, length, get_or, drop, refl, sym, ◌∙◌, ap, subst, arith}
-use Rattle.std.specs.List.{All}
-use Rattle.std.proofs.lemmas.Bool.{and_parts, cases_Bool, cases_lt, eqb-true}
-use Rattle.std.proofs.lemmas.Grind.{same_number_lists}
+use Rattle.std.proofs.lemmas.{Bool.{and_parts, cases_Bool, cases_lt, eqb-true}, Grind.same_number_lists}
 use Rattle.std.proofs.lemmas.List.Elements.{All-drop, All-take}
+use Rattle.std.specs.List.{All}
 use Rattle.shop_lanes.specs.Rows.{AreBlocks, Lane, Rows, lanes, lanes_between, lanes_of, blocks}
-use Rattle.shop_lanes.proofs.Columns.{All-by_columns}
-use Rattle.shop_lanes.proofs.LaneLists.{length-blocks, length-lanes}
 use Rattle.shop_lanes.specs.Spans.{AreOwnSpans, FitOwnSpans}
-use Rattle.shop_model.specs.Limits.{IsWithinLimits}
-use Rattle.shop_model.specs.Shop.{Shop, machine_of}
-use Rattle.shop_model.specs.Word.{Placing, IsWord, placing}
-use Rattle.shop_bound.specs.Bound.{lb}
-use Rattle.shop_bound.specs.Conflicts.{conflict, conflict_among, conflicts_with, next_machine}
-use Rattle.shop_states.specs.inner.Advances.{IsAdvancing, foreseen}
-use Rattle.shop_states.specs.States.{ListsBelow, none, listed, closed}
-use Rattle.shop_states.specs.inner.Candidates.{AreCandidatesOf, IsCandidateOf, IsTold, ListsOwn, own_at}
-use Rattle.shop_states.specs.inner.Candidates.{empty, left_out, taken, told_at}
-use Rattle.shop_layout.specs.HeadLimits.{latest_end}
-use Rattle.shop_layout.specs.Lanes.{lanes_on, rows_of}
-use Rattle.shop_states.specs.inner.LaneHeads.{AreHeadsAt}
-use Rattle.shop_states.specs.inner.LaneStates.{IsKeptInLanes}
+use Rattle.shop_lanes.proofs.{Columns.All-by_columns, LaneLists.{length-blocks, length-lanes}}
+use Rattle.shop_model.specs.{Limits.IsWithinLimits, Shop.{Shop, machine_of}, Word.{Placing, IsWord, placing}}
+use Rattle.shop_bound.specs.{Bound.lb, Conflicts.{conflict, conflict_among, conflicts_with, next_machine}}
+use Rattle.shop_states.specs.{inner.Advances.{IsAdvancing, foreseen}, States.{ListsBelow, none, listed, closed}}
+use Rattle.shop_states.specs.inner.Candidates.{AreCandidatesOf, IsCandidateOf, IsTold, ListsOwn, own_at, empty}
+use Rattle.shop_states.specs.inner.{Candidates.{left_out, taken, told_at}, LaneHeads.AreHeadsAt, RisingLists.IsIn}
+use Rattle.shop_states.specs.{inner.LaneStates.IsKeptInLanes, declared.dispatching.Candidate.Candidate}
+use Rattle.shop_layout.specs.{HeadLimits.latest_end, Lanes.{lanes_on, rows_of}}
 use Rattle.shop_layout.specs.Positions.{IsLaidOut, LayoutState, first_position, place}
-use Rattle.shop_states.specs.inner.RisingLists.{IsIn}
-use Rattle.shop_states.specs.declared.dispatching.Candidate.{Candidate}
-use Rattle.shop_states.proofs.Candidates.{advancing, candidate_fits, foreseen_least}
-use Rattle.shop_states.proofs.ChildRaises.{heads_small}
-use Rattle.shop_states.proofs.ChildReads.{head_here, is_operation, machine_here}
+use Rattle.shop_states.proofs.{Candidates.{advancing, candidate_fits, foreseen_least}, ChildRaises.heads_small}
+use Rattle.shop_states.proofs.{ChildReads.{head_here, is_operation, machine_here}, LaneConflicts.in_filter}
+use Rattle.shop_states.proofs.{LaneFits.{AreSpansFit, spans_fit}, StateSteps.{next_at, next_known}}
 use Rattle.shop_layout.proofs.LaidPlaces.{each_position, place_of}
-use Rattle.shop_states.proofs.LaneConflicts.{in_filter}
-use Rattle.shop_states.proofs.LaneFits.{AreSpansFit, spans_fit}
-use Rattle.shop_states.proofs.StateSteps.{next_at, next_known}
 
 -- heads of one placing are one list
 module _ {shop : Shop} (limits : IsWithinLimits shop) {l : LayoutState} (laid : IsLaidOut shop l) (p : Placing)

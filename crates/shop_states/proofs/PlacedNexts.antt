@@ -1,23 +1,16 @@
 -- Next legs, and when jobs are ready and machines free, while a word is placed.
 use Rattle.std.proofs.Common.{rules, ◌≡◌, ℕ, ◌+◌, ◌-◌, ◌≤◌, ◌<◌, ◌^◌, max, List, [], length, map, take, get_or, set}
-use Rattle.std.proofs.Common.{subst, sym, arith}
-use Rattle.std.proofs.lemmas.Bool.{cases_eq}
-use Rattle.std.proofs.lemmas.Grind.{get_or-set_at}
+use Rattle.std.proofs.{Common.{subst, sym, arith}, lemmas.{Bool.cases_eq, Grind.get_or-set_at}}
 use Rattle.std.proofs.lemmas.List.{get_or-set_other, length-set, take_more}
 use Rattle.std.proofs.lemmas.List.FromFn.{get_or-map-range_with_len, length-map-range_with_len}
 use Rattle.std.specs.List.{range_with_len}
-use Rattle.shop_model.specs.Limits.{IsWithinLimits}
-use Rattle.shop_model.specs.Placements.{IsPlacement, PlacementState}
+use Rattle.shop_model.specs.{Limits.IsWithinLimits, Placements.{IsPlacement, PlacementState}}
 use Rattle.shop_model.specs.Shop.{Shop, IsOperation, machine_of, release_of, route_of, time_of}
 use Rattle.shop_model.specs.Word.{Placing, IsWord, none_placed, place_next, placing}
-use Rattle.shop_model.proofs.Ends.{IsOperation-job}
-use Rattle.shop_model.proofs.PlacementLemmas.{IsWord-take, placing-take}
-use Rattle.shop_model.proofs.Placings.{place_next-is}
-use Rattle.shop_model.proofs.Unders.{after_word, next_operation}
-use Rattle.shop_model.proofs.WordLengths.{ready_word, word_length}
+use Rattle.shop_model.proofs.{Ends.IsOperation-job, PlacementLemmas.{IsWord-take, placing-take}, Placings.place_next-is}
+use Rattle.shop_model.proofs.{Unders.{after_word, next_operation}, WordLengths.{ready_word, word_length}}
 use Rattle.shop_bound.specs.inner.PlacedWords.{IsOfWord}
-use Rattle.shop_layout.specs.declared.legs.Leg.{Leg}
-use Rattle.shop_layout.specs.Legs.{all_legs, end_of, leg_index}
+use Rattle.shop_layout.specs.{declared.legs.Leg.Leg, Legs.{all_legs, end_of, leg_index}}
 use Rattle.shop_layout.specs.Positions.{IsLaidOut, LayoutState}
 use Rattle.shop_states.specs.inner.PlacedNexts.{IsPlacedAt, IsWordAt}
 use Rattle.shop_states.proofs.JobLegs.{IsLegOf, first_small, index_there, leg_is, leg_small, next_first}
@@ -46,13 +39,6 @@ pub none_at : (shop : Shop) (l : LayoutState) → (legs ready free old : List �
     → ((m : ℕ) → m < length old → get_or free m 0 ≡ 0) → length old ≡ shop.machines
     → IsPlacedAt shop (none_placed shop) l legs ready free
 none_at shop l legs ready free old begun same none long = grind arith
-
--- one more job is at its first leg
-pub begun_more : {shop : Shop} {l : LayoutState} {n : ℕ} → n < length shop.jobs → {legs ready : List ℕ}
-    → AreBegun shop l n legs ready → {i t : ℕ} → i ≡ leg_index l n 0 → t ≡ release_of shop n
-    → AreBegun shop l (n + 1) (set legs n i) (set ready n t)
-begun_more {shop} {l} {n} known {legs} {ready} begun {i} {t} first release =
-    grind (arith, length-set, cases_eq, get_or-set_at, get_or-set_other)
 
 -- where the legs of the next job begin, which is a small number
 pub begins_behind : {shop : Shop} → IsWithinLimits shop → {l : LayoutState} → IsLaidOut shop l → {n : ℕ}

@@ -1,15 +1,12 @@
 -- Raises one after another.
 use Rattle.std.proofs.Common.{rules, ◌≡◌, ℕ, ◌*◌, ◌≤◌, ◌<◌, ◌⊎◌, inl, inr, List, [], ◌∷◌, length, get_or, refl, sym}
-use Rattle.std.proofs.Common.{◌∙◌, subst, arith}
-use Rattle.std.proofs.lemmas.Bool.{cases_eq, cases_lt}
-use Rattle.std.proofs.lemmas.List.{get_or_past}
-use Rattle.shop_lanes.specs.Rows.{Rows}
-use Rattle.shop_lanes.specs.Marks.{positions_among}
+use Rattle.std.proofs.{Common.{◌∙◌, subst, arith}, lemmas.{Bool.{cases_eq, cases_lt}, List.get_or_past}}
+use Rattle.shop_lanes.specs.{Rows.Rows, Marks.positions_among}
 use Rattle.shop_layout.specs.Positions.{LayoutState}
 use Rattle.shop_states.specs.inner.RisingLists.{IsIn, Rises}
+use Rattle.shop_states.specs.inner.Raises.{at_in, AreInRouteOrder, IsRaised, IsLeastRaise, IsRaisable, AreWaiting}
+use Rattle.shop_states.specs.inner.Raises.{Raises, IsFollowed, IsIndexed, IsPosition, IsInBlocks}
 use Rattle.shop_states.proofs.MarkedPositions.{IsBelow, below_is_in, below_rises, in_is_below}
-use Rattle.shop_states.specs.inner.Raises.{at_in, AreInRouteOrder, IsRaised, IsLeastRaise, IsRaisable}
-use Rattle.shop_states.specs.inner.Raises.{AreWaiting, Raises, IsFollowed, IsIndexed, IsPosition, IsInBlocks}
 
 weaker : (l : LayoutState) (A B : ℕ → Type 0) (e : ℕ) (old new : ℕ → ℕ) → ((q : ℕ) → B q → A q)
     → IsRaised l A e old new → IsRaised l B e old new

@@ -1,16 +1,12 @@
 -- A raise over rows, head by head.
 use Rattle.std.proofs.Common.{◌≡◌, ℕ, ◌+◌, ◌≤◌, ◌<◌, List, [], length, get_or, set, refl, sym, ◌∙◌, ap, arith}
-use Rattle.std.proofs.lemmas.Bool.{cases_lt}
-use Rattle.std.proofs.lemmas.List.{get_or_default, get_or_past}
+use Rattle.std.proofs.lemmas.{Bool.cases_lt, List.{get_or_default, get_or_past}}
 use Rattle.shop_lanes.specs.Rows.{Rows, with_head}
-use Rattle.shop_layout.specs.declared.legs.Leg.{Leg}
-use Rattle.shop_layout.specs.Legs.{all_legs, end_of, leg_index, leg_of}
+use Rattle.shop_layout.specs.{declared.legs.Leg.Leg, Legs.{all_legs, end_of, leg_index, leg_of}, Lanes.rows_of}
 use Rattle.shop_layout.specs.Positions.{place_or, LayoutState, place}
-use Rattle.shop_layout.specs.Lanes.{rows_of}
 use Rattle.shop_states.specs.inner.Raises.{steps_of, IsPosition, IsRaisable, Raises}
 use Rattle.shop_layout.proofs.RouteLegs.{index_known, leg_behind, leg_here}
-use Rattle.shop_states.proofs.Followed.{place_there}
-use Rattle.shop_states.proofs.RaiseWalks.{IsRaisedUpTo, walk_begins, next_least, walk_on}
+use Rattle.shop_states.proofs.{Followed.place_there, RaiseWalks.{IsRaisedUpTo, walk_begins, next_least, walk_on}}
 
 -- one head of a state was replaced
 pub put_is : (l : LayoutState) (hs : List ℕ) {es hs' es' : List ℕ} (q v : ℕ) → hs' ≡ set hs q v → es' ≡ es

@@ -1,11 +1,8 @@
 -- Heads are raised along a route while they are too small.
 use Rattle.std.proofs.Common.{◌≡◌, ℕ, ◌+◌, ◌≤◌, ◌<◌, inl, inr, List, length, get_or, set, refl, sym, ◌∙◌, ap, arith}
-use Rattle.std.proofs.lemmas.Bool.{cases_eq}
-use Rattle.std.proofs.lemmas.Grind.{get_or-set_at}
-use Rattle.std.proofs.lemmas.List.{get_or-set_other, length-set}
+use Rattle.std.proofs.lemmas.{Bool.cases_eq, Grind.get_or-set_at, List.{get_or-set_other, length-set}}
 use Rattle.shop_layout.specs.Positions.{LayoutState, place}
-use Rattle.shop_states.specs.inner.Raises.{steps_of, at_in, IsIndexed, IsPlace, AreInRouteOrder}
-use Rattle.shop_states.specs.inner.Raises.{IsRaised, IsLeastRaise, IsPosition}
+use Rattle.shop_states.specs.inner.Raises.{steps_of, at_in, IsIndexed, IsPlace, AreInRouteOrder, IsRaised, IsPosition}
 
 -- OperationId p was raised to e, and the route of job i from it on up to the step before t, which ends at `ready`.
 pub record IsRaisedUpTo (l : LayoutState) (p e i t ready : ℕ) (old new : List ℕ) : Type 0 where
@@ -87,8 +84,3 @@ module _ {l : LayoutState} {n : ℕ} (ix : IsIndexed l n) where
                   in omega arith)
             ];
           }
-
-      -- the next head is late enough, or there is none
-      pub walk_ends : (t < steps_of l i → ready ≤ get_or new (place l i t) 0)
-          → IsLeastRaise l (IsPosition p) e old new
-      walk_ends enough = grind (arith, cases_eq)

@@ -1,13 +1,10 @@
 -- The ends of next operations, once what stands at a position is raised.
-use Rattle.std.proofs.Common.{◌≡◌, ℕ, ◌+◌, ◌≤◌, ◌<◌, inl, inr, List, [], length, get_or, refl, sym}
-use Rattle.std.proofs.Common.{◌∙◌, ap, arith, cond, eqb}
-use Rattle.std.proofs.lemmas.Bool.{cases_eq, cases_lt, eq-eqb, le-ltb, lt-ltb}
-use Rattle.std.proofs.lemmas.List.{get_or_past}
+use Rattle.std.proofs.Common.{◌≡◌, ℕ, ◌+◌, ◌≤◌, ◌<◌, inl, inr, List, [], length, get_or, refl, sym, ◌∙◌, ap, arith}
+use Rattle.std.proofs.{Common.{cond, eqb}, lemmas.{Bool.{cases_eq, cases_lt, eq-eqb, le-ltb, lt-ltb}, List.get_or_past}}
 use Rattle.shop_lanes.specs.Rows.{Rows}
-use Rattle.shop_states.specs.inner.LaneEnds.{IsEndOf}
+use Rattle.shop_states.specs.inner.{Raises.SetsEndAt, LaneEnds.IsEndOf}
+use Rattle.shop_states.specs.inner.Raises.{steps_of, at_in, IsPosition, IsRaised, IsLeastRaise, IsRaisable, Raises}
 use Rattle.shop_layout.specs.Positions.{LayoutState, place}
-use Rattle.shop_states.specs.inner.Raises.{steps_of, at_in, IsPosition, IsRaised, IsLeastRaise}
-use Rattle.shop_states.specs.inner.Raises.{IsRaisable, Raises, SetsEndAt}
 
 -- a head that is the first of its route is raised at its own position alone
 module _ {l : LayoutState} {p e : ℕ} {old new : List ℕ} (least : IsLeastRaise l (IsPosition p) e old new) (q : ℕ)
@@ -39,9 +36,6 @@ module _ {greatest : ℕ} {l : LayoutState} {nexts : List ℕ} {p e : ℕ} {old 
     (can : IsRaisable greatest l nexts old (IsPosition p) e) (some : 0 < get_or old.heads p 0) where
   pub raised_within : p < length old.heads
   raised_within = grind (arith, cases_lt, get_or_past)
-
-  pub raised_fits : e + get_or old.times p 0 ≤ greatest
-  raised_fits = grind arith
 
 module _ {greatest : ℕ} {l : LayoutState} {nexts : List ℕ} {p e : ℕ} {old mid : Rows}
     (can : IsRaisable greatest l nexts old (IsPosition p) e) (set : SetsEndAt l nexts p e old mid) where

@@ -1,22 +1,17 @@
 -- The least raise of the heads by position, once an operation is placed, has the heads of what is left.
 use Rattle.std.proofs.Common.{rules, ◌≡◌, ℕ, zero, suc, ◌+◌, ◌-◌, ◌≤◌, ◌<◌, ◌^◌, inl, inr, List, length, get_or, set}
-use Rattle.std.proofs.Common.{refl, sym, ◌∙◌, ap, subst, arith, cond, ltb}
-use Rattle.std.proofs.lemmas.Bool.{cases_eq, cases_lt, lt-ltb, le-ltb}
-use Rattle.std.proofs.lemmas.Grind.{get_or-set_at}
-use Rattle.std.proofs.lemmas.List.{get_or-set_other, length-set}
-use Rattle.shop_model.specs.Limits.{IsWithinLimits}
-use Rattle.shop_model.specs.Shop.{Shop, IsOperation, route_of, machine_of, time_of}
+use Rattle.std.proofs.{Common.{refl, sym, ◌∙◌, ap, subst, arith, cond, ltb}, lemmas.Grind.get_or-set_at}
+use Rattle.std.proofs.lemmas.{Bool.{cases_eq, cases_lt, lt-ltb, le-ltb}, List.{get_or-set_other, length-set}}
+use Rattle.shop_model.specs.{Limits.IsWithinLimits, Shop.{Shop, IsOperation, route_of, machine_of, time_of}}
 use Rattle.shop_model.specs.Word.{Placing}
-use Rattle.shop_model.proofs.Ends.{IsOperation-job}
-use Rattle.shop_model.proofs.Placings.{IsNext}
+use Rattle.shop_model.proofs.{Ends.IsOperation-job, Placings.IsNext}
 use Rattle.shop_lanes.specs.Rows.{Rows}
 use Rattle.shop_bound.specs.Heads.{head_of, ready_after}
 use Rattle.shop_states.specs.inner.LaneHeads.{AreHeadsAt, AreStored}
-use Rattle.shop_layout.specs.Positions.{place_or, LayoutState, place, first_position, IsLaidOut}
 use Rattle.shop_states.specs.inner.Raises.{steps_of, at_in, AreFirst, IsFollowed, IsIndexed, IsPlace, AreInRouteOrder}
 use Rattle.shop_states.specs.inner.Raises.{IsRaised, IsLeastRaise, IsRaisable, IsOnMachine, HasBlocks}
-use Rattle.shop_bound.proofs.HeadsRise.{heads_up}
-use Rattle.shop_bound.proofs.HeadsStay.{ready_first_same, steps_rise}
+use Rattle.shop_layout.specs.Positions.{place_or, LayoutState, place, first_position, IsLaidOut}
+use Rattle.shop_bound.proofs.{HeadsRise.heads_up, HeadsStay.{ready_first_same, steps_rise}}
 use Rattle.shop_bound.proofs.HeadTurns.{ready_first, ready_more}
 use Rattle.shop_layout.proofs.LaidPlaces.{IsOperationAt, machines_rise, place_of, each_position, on_machine}
 

@@ -1,19 +1,13 @@
 -- Machines with a raise are listed: one more, and one less.
-use Rattle.std.proofs.Common.{◌≡◌, ℕ, ◌≤◌, ◌<◌, ◌⊎◌, inl, inr, List, [], ◌∷◌, length, get_or, set}
-use Rattle.std.proofs.Common.{Bool, IsTrue, refl, sym, ◌∙◌, ap, subst, arith}
-use Rattle.std.proofs.lemmas.Bool.{cases_eq, cases_lt}
-use Rattle.std.proofs.lemmas.Grind.{get_or-set_at}
+use Rattle.std.proofs.Common.{◌≡◌, ℕ, ◌≤◌, ◌<◌, ◌⊎◌, inl, inr, List, [], ◌∷◌, length, get_or, set, Bool, IsTrue, refl}
+use Rattle.std.proofs.{Common.{sym, ◌∙◌, ap, subst, arith}, lemmas.{Bool.{cases_eq, cases_lt}, Grind.get_or-set_at}}
 use Rattle.std.proofs.lemmas.List.{get_or-map, get_or-set_same, get_or-set_other, length-map, length-set, map-set}
-use Rattle.shop_lanes.specs.Rows.{Lane}
-use Rattle.shop_lanes.specs.Spans.{spans_between}
-use Rattle.shop_states.specs.declared.head_raises.LaneRaise.{LaneRaise}
+use Rattle.shop_lanes.specs.{Rows.Lane, Spans.spans_between}
+use Rattle.shop_states.specs.{declared.head_raises.LaneRaise.LaneRaise, inner.{JobSets.HasPut, RaiseCalls.CanNote}}
 use Rattle.shop_states.specs.inner.HeadRaises.{Raise, no_raise, raise_in, raise_of, raises_in, widened}
-use Rattle.shop_states.specs.inner.MachineRaises.{AreEmpty, AreListed, IsSpanByRaise}
-use Rattle.shop_states.specs.inner.JobSets.{HasPut}
-use Rattle.shop_states.specs.inner.RaiseCalls.{CanNote}
-use Rattle.shop_states.specs.inner.RisingLists.{IsIn}
+use Rattle.shop_states.specs.inner.{MachineRaises.{AreEmpty, AreListed, IsSpanByRaise}, RisingLists.IsIn}
 use Rattle.shop_states.specs.inner.Watchers.{AreKnown}
-use Rattle.shop_states.proofs.LaneBoundTurns.{spans-none}
+use Rattle.shop_lanes.proofs.LeapTurns.{none_between}
 
 -- raises in lanes: one that is read, and one that is written
 module _ {N : Type 0} (value : N → ℕ) where
@@ -151,7 +145,7 @@ module _ {least limit : ℕ} {old : List Raise} {on : ℕ → List Lane} where
       → IsTakenSo least limit old on raises machines bound
       → AreEmpty raises × (bound < limit → (m : ℕ)
       → spans_between (raise_of old m).from (raise_of old m).to (on m) ≤ bound)
-  taken_all {raises} none so = grind (arith, all_empty, spans-none)
+  taken_all {raises} none so = grind (arith, all_empty, none_between)
 
 -- what begins within the raises before, but for those that are left, is no more than a number for each machine
 pub record IsFoundSo (least : ℕ) (old : List Raise) (on : ℕ → List Lane) (raises : List Raise)
@@ -201,4 +195,4 @@ module _ {least : ℕ} {old : List Raise} {on : ℕ → List Lane} where
       → IsFoundSo least old on raises machines cs greatest
       → AreEmpty raises × ((m : ℕ) → m < length cs
       → spans_between (raise_of old m).from (raise_of old m).to (on m) ≤ get_or cs m 0)
-  found_all {raises} none so = grind (arith, all_empty, spans-none)
+  found_all {raises} none so = grind (arith, all_empty, none_between)

@@ -1,10 +1,8 @@
 -- What is kept of a word, read from a layout and a list that are those of the state.
 use Rattle.std.proofs.Common.{◌≡◌, ℕ, List}
 use Rattle.shop_model.specs.Shop.{Shop}
-use Rattle.shop_layout.specs.Lanes.{rows_of}
-use Rattle.shop_layout.specs.Positions.{LayoutState}
-use Rattle.shop_states.specs.inner.Candidates.{IsCandidateOf}
-use Rattle.shop_states.specs.inner.LaneStates.{IsKeptInLanes}
+use Rattle.shop_layout.specs.{Lanes.rows_of, Positions.LayoutState}
+use Rattle.shop_states.specs.inner.{Candidates.IsCandidateOf, LaneStates.IsKeptInLanes}
 
 pub kept_read : {greatest : ℕ} {shop : Shop} {w : List ℕ} {l read : LayoutState} {heads ends nexts given : List ℕ}
     → read ≡ l → given ≡ nexts → IsKeptInLanes greatest shop w l (rows_of l heads ends) nexts

@@ -1,9 +1,7 @@
 -- Spans of lanes whose heads rose, against those from before.
-use Rattle.std.proofs.Common.{◌≡◌, ℕ, zero, suc, ◌+◌, ◌≤◌, ◌<◌, max, ◌⊎◌, inl, inr, List, [], ◌∷◌, length}
-use Rattle.std.proofs.Common.{get_or, refl, arith}
-use Rattle.std.proofs.lemmas.Bool.{cases_lt}
-use Rattle.shop_lanes.specs.Rows.{Lane, lanes}
-use Rattle.shop_lanes.specs.Spans.{span, spans_from, spans_between}
+use Rattle.std.proofs.Common.{◌≡◌, ℕ, zero, suc, ◌+◌, ◌≤◌, ◌<◌, max, ◌⊎◌, inl, inr, List, [], ◌∷◌, length, get_or, refl}
+use Rattle.std.proofs.{Common.arith, lemmas.Bool.cases_lt}
+use Rattle.shop_lanes.specs.{Rows.{Lane, lanes}, Spans.{span, spans_from, spans_between}}
 use Rattle.shop_states.proofs.SpanTurns.{span_left, spans_counted, spans_low, spans_high}
 
 -- lanes that are related one by one

@@ -1,10 +1,8 @@
 -- What one step of a walk along a route finds.
 use Rattle.std.proofs.Common.{◌≡◌, ℕ, ◌+◌, ◌-◌, ◌≤◌, ◌<◌, max, length, get_or, arith}
-use Rattle.shop_model.specs.Limits.{IsWithinLimits}
-use Rattle.shop_model.specs.Shop.{Shop, machine_of, time_of}
-use Rattle.shop_model.specs.Word.{Placing}
-use Rattle.shop_bound.specs.Heads.{ready_after, head_of}
+use Rattle.shop_model.specs.{Limits.IsWithinLimits, Shop.{Shop, machine_of, time_of}, Word.Placing}
 use Rattle.shop_model.specs.Placements.{PlacementState, IsPlacement}
+use Rattle.shop_bound.specs.Heads.{ready_after, head_of}
 use Rattle.shop_bound.proofs.HeadTurns.{ready_more}
 
 -- what one step of the walk along what is left of a route finds

@@ -1,33 +1,20 @@
 -- What was seen while heads were raised bounds what is left after one more operation.
 use Rattle.std.proofs.Common.{rules, ◌≡◌, ℕ, ◌+◌, ◌-◌, ◌*◌, ◌≤◌, ◌<◌, inl, inr, List, [], ◌∷◌, ◌++◌, length, get_or}
-use Rattle.std.proofs.Common.{refl, sym, ◌∙◌, ap, subst, arith}
-use Rattle.std.proofs.lemmas.Bool.{cases_eq, cases_lt, eq-eqb, ne_eqb}
-use Rattle.shop_lanes.specs.Rows.{Rows, Lane, lanes, lanes_of, blocks, by_columns, place_at_rank}
-use Rattle.shop_lanes.specs.Spans.{span}
+use Rattle.std.proofs.{Common.{refl, sym, ◌∙◌, ap, subst, arith}, lemmas.Bool.{cases_eq, cases_lt, eq-eqb, ne_eqb}}
+use Rattle.shop_lanes.specs.{Rows.{Rows, Lane, lanes, lanes_of, blocks, by_columns, place_at_rank}, Spans.span}
 use Rattle.shop_lanes.proofs.Columns.{by_columns-at, lanes-by_columns, length-by_columns, place_fits}
 use Rattle.shop_lanes.proofs.LaneLists.{length-blocks, lanes-blocks}
-use Rattle.shop_model.specs.Limits.{IsWithinLimits}
-use Rattle.shop_model.specs.Shop.{Shop}
-use Rattle.shop_model.specs.Word.{IsWord, placing, place_next}
-use Rattle.shop_model.proofs.Placings.{place_next-is}
-use Rattle.shop_model.proofs.WordLemmas.{IsWord-init}
-use Rattle.shop_bound.specs.Bound.{lb}
-use Rattle.shop_bound.specs.Heads.{head_of}
-use Rattle.shop_layout.specs.Lanes.{lanes_on}
-use Rattle.shop_states.specs.inner.LaneHeads.{AreHeadsAt, AreStored}
-use Rattle.shop_layout.specs.Positions.{AreMachinesOf, LayoutState, IsLaidOut, first_position}
-use Rattle.shop_states.specs.inner.Watchers.{IsSeenAt, floor_on}
-use Rattle.shop_states.specs.inner.HeadRaises.{Raise}
-use Rattle.shop_states.proofs.ChildBounds.{left-le-lb}
-use Rattle.shop_states.proofs.ChildRaises.{IsBounded, bounded_by_raise, covered_all}
-use Rattle.shop_bound.proofs.HeadsStay.{steps_rise}
-use Rattle.shop_layout.proofs.LaidPlaces.{each_position}
-use Rattle.shop_layout.proofs.MachineLoads.{block_at}
+use Rattle.shop_model.specs.{Limits.IsWithinLimits, Shop.Shop, Word.{IsWord, placing, place_next}}
+use Rattle.shop_model.proofs.{Placings.place_next-is, WordLemmas.IsWord-init}
+use Rattle.shop_bound.specs.{Bound.lb, Heads.head_of}
+use Rattle.shop_layout.specs.{Lanes.lanes_on, Positions.{AreMachinesOf, LayoutState, IsLaidOut, first_position}}
+use Rattle.shop_states.specs.inner.{LaneHeads.{AreHeadsAt, AreStored}, Watchers.{IsSeenAt, floor_on}, HeadRaises.Raise}
+use Rattle.shop_states.proofs.{ChildBounds.left-le-lb, ChildRaises.{IsBounded, bounded_by_raise, covered_all}}
 use Rattle.shop_states.proofs.RisenLanes.{AreBeside, AreUpTo, IsLaneBeside, IsRisen, IsRisenLane, IsServedBefore}
-use Rattle.shop_states.proofs.RisenLanes.{beside_as, lanes_beside, span_beside, spans_risen}
-use Rattle.shop_states.proofs.LaneSpans.{from_head_within}
-use Rattle.shop_states.proofs.MachineLanes.{left_matched}
-use Rattle.shop_states.proofs.LeftSlots.{left_falls}
+use Rattle.shop_states.proofs.{RisenLanes.{beside_as, lanes_beside, span_beside, spans_risen}, LeftSlots.left_falls}
+use Rattle.shop_states.proofs.{LaneSpans.from_head_within, MachineLanes.left_matched}
+use Rattle.shop_bound.proofs.HeadsStay.{steps_rise}
+use Rattle.shop_layout.proofs.{LaidPlaces.each_position, MachineLoads.block_at}
 
 -- lanes of the same blocks of rows whose heads are related there
 pub blocks_beside : (R : ℕ → ℕ → Type 0) (first end : ℕ) (hs hs' ts qs : List ℕ)

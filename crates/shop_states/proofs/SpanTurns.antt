@@ -1,8 +1,6 @@
 -- One lane more of a span.
-use Rattle.std.proofs.Common.{◌≡◌, ℕ, ◌+◌, ◌<◌, ◌≤◌, max, List, ◌∷◌, arith}
-use Rattle.std.proofs.lemmas.Bool.Decides.{nat_tests}
-use Rattle.shop_lanes.specs.Rows.{Lane}
-use Rattle.shop_lanes.specs.Spans.{span, spans_from}
+use Rattle.std.proofs.{Common.{◌≡◌, ℕ, ◌+◌, ◌<◌, ◌≤◌, max, List, ◌∷◌, arith}, lemmas.Bool.Decides.nat_tests}
+use Rattle.shop_lanes.specs.{Rows.Lane, Spans.{span, spans_from}}
 
 pub span_served : (least clock : ℕ) (x : Lane) (xs : List Lane) → least ≤ x.head
     → span least clock (x ∷ xs) ≡ max (clock + x.time + x.tail) (span least (clock + x.time) xs)

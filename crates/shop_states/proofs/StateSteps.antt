@@ -1,26 +1,16 @@
 -- What is kept of a word, with one operation more.
 use Rattle.std.proofs.Common.{rules, ◌≡◌, ℕ, ◌+◌, ◌<◌, inl, inr, List, [], ◌∷◌, ◌++◌, length, get_or, set, refl, sym}
-use Rattle.std.proofs.Common.{◌∙◌, ap, arith}
-use Rattle.std.proofs.lemmas.Bool.{cases_eq}
-use Rattle.std.proofs.lemmas.Grind.{get_or-set_at}
+use Rattle.std.proofs.{Common.{◌∙◌, ap, arith}, lemmas.{Bool.cases_eq, Grind.get_or-set_at}}
 use Rattle.std.proofs.lemmas.List.{get_or-set_other, length-set}
 use Rattle.shop_lanes.specs.Rows.{Rows, with_end}
-use Rattle.shop_model.specs.Shop.{Shop, IsOperation}
-use Rattle.shop_model.specs.Word.{Placing, IsWord, placing, place_next}
-use Rattle.shop_model.proofs.Placings.{place_next-is}
-use Rattle.shop_model.proofs.Unders.{placing-snoc}
-use Rattle.shop_states.specs.inner.LaneChoices.{AreNextsAt, AreNextsOf}
-use Rattle.shop_states.specs.inner.LaneEnds.{CanKeepEnds, IsEndOf, end_at}
-use Rattle.shop_states.specs.inner.LaneStates.{AreHeadsInLanes, IsKeptInLanes}
+use Rattle.shop_model.specs.{Shop.{Shop, IsOperation}, Word.{Placing, IsWord, placing, place_next}}
+use Rattle.shop_model.proofs.{Placings.place_next-is, Unders.placing-snoc}
+use Rattle.shop_states.specs.inner.{LaneChoices.{AreNextsAt, AreNextsOf}, LaneEnds.{CanKeepEnds, IsEndOf, end_at}}
+use Rattle.shop_states.specs.inner.{LaneStates.{AreHeadsInLanes, IsKeptInLanes}, Raises.AreFirst}
 use Rattle.shop_layout.specs.Positions.{place_or, LayoutState, first_position, place}
-use Rattle.shop_states.specs.inner.Raises.{AreFirst}
-use Rattle.shop_states.proofs.ChildReads.{is_operation}
-use Rattle.shop_states.proofs.ChildTurns.{its_job}
+use Rattle.shop_states.proofs.{ChildReads.is_operation, ChildTurns.its_job, NextOperations.{next_there, next_within}}
 use Rattle.shop_states.proofs.LaneEnds.{AreEndsOf, HasEnds, beside_more, can_keep, end_here, end_other, ends_at}
-use Rattle.shop_states.proofs.LaneEnds.{ends_of}
-use Rattle.shop_states.proofs.LaneEnds.{next_first, nexts_at, with_ends}
-use Rattle.shop_states.proofs.NextOperations.{next_there, next_within}
-use Rattle.shop_states.proofs.RaisedHeads.{followed}
+use Rattle.shop_states.proofs.{LaneEnds.{ends_of, next_first, nexts_at, with_ends}, RaisedHeads.followed}
 use Rattle.shop_states.proofs.SoleCandidates.{sole_keeps_bound}
 
 module _ {greatest : ℕ} {shop : Shop} {w : List ℕ} (j : ℕ) {l : LayoutState} {rows : Rows} {nexts : List ℕ}

@@ -1,18 +1,14 @@
 -- The one candidate of a word is dispatched: it is struck out, and no head rises.
 use Rattle.std.proofs.Common.{◌≡◌, ℕ, ◌<◌, List, [], ◌∷◌, ◌++◌, length, get_or, set, refl, sym, ◌∙◌, ap, arith}
-use Rattle.std.proofs.lemmas.Bool.{cases_lt, le-ltb, lt-ltb}
-use Rattle.std.proofs.lemmas.List.{get_or-set_other, length-set}
+use Rattle.std.proofs.lemmas.{Bool.{cases_lt, le-ltb, lt-ltb}, List.{get_or-set_other, length-set}}
 use Rattle.shop_lanes.specs.Rows.{Rows, with_end, with_head}
-use Rattle.shop_model.specs.Shop.{Shop}
-use Rattle.shop_model.specs.Word.{IsWord, placing, place_next}
+use Rattle.shop_model.specs.{Shop.Shop, Word.{IsWord, placing, place_next}}
 use Rattle.shop_model.proofs.Unders.{placing-snoc}
 use Rattle.shop_bound.specs.Conflicts.{conflict}
-use Rattle.shop_states.specs.inner.LaneEnds.{CanKeepEnds, IsEndOf, end_at}
-use Rattle.shop_states.specs.inner.LaneHeads.{AreHeadsAt}
+use Rattle.shop_states.specs.inner.{LaneEnds.{CanKeepEnds, IsEndOf, end_at}, LaneHeads.AreHeadsAt}
 use Rattle.shop_states.specs.inner.LaneStates.{AreHeadsInLanes, IsKeptInLanes}
 use Rattle.shop_layout.specs.Positions.{LayoutState, place}
-use Rattle.shop_states.proofs.ChildReads.{left_stored}
-use Rattle.shop_states.proofs.SoleCandidates.{sole_fits, sole_heads}
+use Rattle.shop_states.proofs.{ChildReads.left_stored, SoleCandidates.{sole_fits, sole_heads}}
 use Rattle.shop_states.proofs.StateSteps.{ends_more, kept_more, next_at, next_known, within}
 
 module _ {greatest : ℕ} {shop : Shop} {w : List ℕ} {l : LayoutState} {rows : Rows} {nexts : List ℕ} {j : ℕ}

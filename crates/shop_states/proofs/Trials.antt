@@ -1,37 +1,23 @@
 -- An operation is struck out and its end raises heads: what is known of the bound then, and what is kept.
-use Rattle.std.proofs.Common.{◌≡◌, ℕ, ◌+◌, ◌≤◌, ◌<◌, max, inl, inr, List, [], ◌∷◌, ◌++◌, length}
-use Rattle.std.proofs.Common.{get_or, set, refl, sym, ◌∙◌, subst, arith}
-use Rattle.std.proofs.lemmas.Bool.{cases_eq, cases_lt, eq-eqb, ne_eqb}
-use Rattle.std.proofs.lemmas.Grind.{get_or-set_at}
-use Rattle.std.proofs.lemmas.List.{get_or-set_other}
+use Rattle.std.proofs.Common.{◌≡◌, ℕ, ◌+◌, ◌≤◌, ◌<◌, max, inl, inr, List, [], ◌∷◌, ◌++◌, length, get_or, set, refl, sym}
+use Rattle.std.proofs.{Common.{◌∙◌, subst, arith}, lemmas.Bool.{cases_eq, cases_lt, eq-eqb, ne_eqb}}
+use Rattle.std.proofs.lemmas.{Grind.get_or-set_at, List.get_or-set_other}
 use Rattle.shop_lanes.specs.Rows.{Rows, with_end, with_head}
-use Rattle.shop_model.specs.Shop.{Shop, machine_of}
-use Rattle.shop_model.specs.Word.{IsWord, place_next, placing}
+use Rattle.shop_model.specs.{Shop.{Shop, machine_of}, Word.{IsWord, place_next, placing}}
 use Rattle.shop_bound.specs.Bound.{lb}
-use Rattle.shop_states.specs.declared.dispatches.Dispatch.{Dispatch}
-use Rattle.shop_states.specs.inner.Advances.{IsAdvancing, IsLeastAt}
-use Rattle.shop_states.specs.inner.Ceilings.{AreChildCeilings, AreUnder}
-use Rattle.shop_states.specs.inner.ChildBounds.{IsLeastAfter}
-use Rattle.shop_states.proofs.BoundsUpTo.{IsBoundUpTo}
-use Rattle.shop_layout.specs.HeadLimits.{latest_end}
-use Rattle.shop_states.specs.inner.Dispatches.{IsDispatchOf}
-use Rattle.shop_states.specs.inner.HeadRaises.{Raise, raise_of}
-use Rattle.shop_layout.specs.Lanes.{lanes_on, rows_of}
-use Rattle.shop_states.specs.inner.LaneEnds.{CanKeepEnds, IsEndOf, end_at}
-use Rattle.shop_states.specs.inner.LaneStates.{AreHeadsInLanes, IsKeptInLanes}
-use Rattle.shop_layout.specs.Positions.{IsLaidOut, LayoutState, place}
-use Rattle.shop_states.specs.inner.MachineRaises.{AreEmpty, AreRaisesFit, TakesSpans}
-use Rattle.shop_states.specs.inner.RaiseCalls.{CanDelay}
-use Rattle.shop_states.specs.inner.Raises.{HasBlocks, IsOnMachine, IsRaisable, Raises}
-use Rattle.shop_states.specs.inner.Watchers.{AreSeen, Sees, Watches, floor_on}
-use Rattle.shop_states.proofs.RaiseSteps.{put_is}
+use Rattle.shop_states.specs.{inner.Watchers.{AreSeen, Sees, Watches, floor_on}, declared.dispatches.Dispatch.Dispatch}
+use Rattle.shop_states.specs.inner.{LaneEnds.{CanKeepEnds, IsEndOf, end_at}, Advances.{IsAdvancing, IsLeastAt}}
+use Rattle.shop_states.specs.inner.{LaneStates.{AreHeadsInLanes, IsKeptInLanes}, Ceilings.{AreChildCeilings, AreUnder}}
+use Rattle.shop_states.specs.inner.{MachineRaises.{AreEmpty, AreRaisesFit, TakesSpans}, ChildBounds.IsLeastAfter}
+use Rattle.shop_states.specs.inner.{Dispatches.IsDispatchOf, RaiseCalls.CanDelay}
+use Rattle.shop_states.specs.inner.{Raises.{HasBlocks, IsOnMachine, IsRaisable, Raises}, HeadRaises.{Raise, raise_of}}
+use Rattle.shop_states.proofs.{BoundsUpTo.IsBoundUpTo, RaiseSteps.put_is, FittingSpans.{span_within, spans_each}}
 use Rattle.shop_states.proofs.AdvanceSteps.{advanced, advanced_long, advanced_others, end_small, lifted_blocks}
-use Rattle.shop_states.proofs.AdvanceSteps.{lifted_raisable, machine_here}
-use Rattle.shop_states.proofs.ChildTurns.{its_ahead, next_heads, next_small, raised_is}
-use Rattle.shop_states.proofs.FittingSpans.{span_within, spans_each}
-use Rattle.shop_states.proofs.LaneFits.{AreSpansFit, spans_fit}
-use Rattle.shop_states.proofs.RaisedHeads.{has_blocks}
+use Rattle.shop_states.proofs.{AdvanceSteps.{lifted_raisable, machine_here}, LaneFits.{AreSpansFit, spans_fit}}
+use Rattle.shop_states.proofs.{ChildTurns.{its_ahead, next_heads, next_small, raised_is}, RaisedHeads.has_blocks}
 use Rattle.shop_states.proofs.StateSteps.{ends_more, firsts, kept_more, next_at, next_known, within}
+use Rattle.shop_layout.specs.{HeadLimits.latest_end, Lanes.{lanes_on, rows_of}}
+use Rattle.shop_layout.specs.Positions.{IsLaidOut, LayoutState, place}
 
 -- instances with one layout have as many machines
 pub same_machines : {l : LayoutState} {shop other : Shop} → IsLaidOut shop l → IsLaidOut other l

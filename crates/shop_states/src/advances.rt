@@ -2,9 +2,8 @@
 ghost use Rattle.std.specs.Prelude.{◌≡◌, ◌<◌, ◌^◌, ◌++◌, ◌∷◌, [], List, ℕ, OnSome, length, slice_index, slice_set};
 ghost use Rattle.shop_model.specs.{Shop.Shop, Word.IsWord};
 ghost use Rattle.shop_bound.specs.{Bound.lb, Conflicts.conflict};
-ghost use Rattle.shop_states.specs.States.{TellsBoundBelow};
+ghost use Rattle.shop_states.specs.{States.TellsBoundBelow, inner.{Dispatches.IsDispatchOf, LaneEnds.CanKeepEnds}};
 ghost use Rattle.shop_states.specs.inner.Advances.{CanAdvance, CanGoOn, CanStrike, IsAdvancing, IsRaisedFor};
-ghost use Rattle.shop_states.specs.inner.{Dispatches.IsDispatchOf, LaneEnds.CanKeepEnds};
 ghost use Rattle.shop_states.specs.inner.{LaidLanes.{KeepsWord, rows_in}, LaneStates.GoesOn, MachineRaises.AreEmpty};
 ghost use Rattle.shop_states.specs.inner.StateCopies.{IsAsLong};
 
@@ -117,8 +116,7 @@ pub(crate) fn dispatch_in_copy<L: StateLanes>(
         (rows_in L.StateLanes grid.now from.now.lanes) from.now.next.items job range.least
         → TellsBoundBelow range.limit (lb shop (w ++ job ∷ [])) result }
     ensures state { (shop : Shop) (w : List ℕ) → KeepsWord L.StateLanes grid.now from.now shop w
-        → IsWord shop (w ++ job ∷ [])
-        → OnSome result (KeepsWord L.StateLanes grid.now to.new shop (w ++ job ∷ [])) }
+        → IsWord shop (w ++ job ∷ []) → OnSome result (KeepsWord L.StateLanes grid.now to.new shop (w ++ job ∷ [])) }
     ensures room { IsAsLong L.heads L.ends from.now to.new }
     ensures machines { length raises.new ≡ length raises.old }
     ensures rest { AreEmpty raises.new }

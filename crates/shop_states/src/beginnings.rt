@@ -78,12 +78,9 @@ impl Beginning {
         ensures is { IsBeginningOf laid_out.now.shop laid_out.now.layout self.new }
         ensures none { self.new.len ≡ 0 }
     {
-        place_none(
-            laid_out,
-            self.next_legs.as_mut_slice(),
-            self.ready.as_mut_slice(),
-            self.free.as_mut_slice(),
-        );
+        let next_legs = self.next_legs.as_mut_slice();
+        let ready = self.ready.as_mut_slice();
+        place_none(laid_out, next_legs, ready, self.free.as_mut_slice());
         self.len = 0;
     }
 
@@ -114,14 +111,10 @@ impl Beginning {
             return;
         }
         let ahead = &path[..to];
-        place_from(
-            laid_out,
-            self.next_legs.as_mut_slice(),
-            self.ready.as_mut_slice(),
-            self.free.as_mut_slice(),
-            ahead,
-            self.len,
-        );
+        let next_legs = self.next_legs.as_mut_slice();
+        let ready = self.ready.as_mut_slice();
+        let free = self.free.as_mut_slice();
+        place_from(laid_out, next_legs, ready, free, ahead, self.len);
         write_front(self.path.as_mut_slice(), ahead);
         self.len = to;
     }

@@ -37,8 +37,7 @@ fn list_marked<L: StateLanes>(
         → ListsOwn limit (told_at next.now first (map L.value owns.now)) js candidates.old.items n
         → ListsOwn limit (told_at next.now first (map L.value owns.now)) (js ++ jobs)
         candidates.new.items (n + result) }
-    ensures count { length candidates.new.items + result
-        ≡ length candidates.old.items + length jobs }
+    ensures count { length candidates.new.items + result ≡ length candidates.old.items + length jobs }
     ensures room { vec_capacity candidates.new ≡ vec_capacity candidates.old }
 {
     let mut others = 0;

@@ -8,7 +8,7 @@ use crate::dispatches::Dispatch;
 use crate::dispatching::{Candidate, Dispatching};
 use crate::fills::fill_state;
 use crate::machine_raises::MachineRaises;
-use crate::siblings::{Siblings, bound_children};
+use crate::siblings::bound_children;
 use crate::states::{Scratch, State};
 use shop_lanes::StateLanes;
 use shop_layout::LaidOut;
@@ -41,15 +41,13 @@ impl<'a, L: StateLanes> Dispatching<State<L>> for LaidOut<'a, L> {
 
     ghost shop = { λ d. d.asked };
 
-    ghost IsSlot = { λ d s. HasRoom d.shop d.layout (L.heads s.lanes) (L.ends s.lanes)
-        s.next.items };
+    ghost IsSlot = { λ d s. HasRoom d.shop d.layout (L.heads s.lanes) (L.ends s.lanes) s.next.items };
 
     ghost IsStateOf = { λ d w s. IsKeptFor L.GREATEST d w
         (rows_of d.layout (L.heads s.lanes) (L.ends s.lanes)) s.next.items };
 
     ghost IsScratch = { λ d s. IsScratchOf d.shop d.layout (length s.ready.items)
-        (length s.free.items) s.beginning s.raises (length s.owns.items)
-        (length s.ceilings.items) };
+        (length s.free.items) s.beginning s.raises (length s.owns.items) (length s.ceilings.items) };
 
     ghost IsCandidate = { λ d w c. IsCandidateOf d.shop w d.layout c.job c.own };
 
@@ -105,13 +103,8 @@ impl<'a, L: StateLanes> Dispatching<State<L>> for LaidOut<'a, L> {
         limit: u64,
         candidates: &mut Vec<Candidate>,
     ) -> usize {
-        list_candidates(
-            candidates,
-            scratch.owns.as_mut_slice(),
-            state,
-            self.grid(),
-            limit,
-        )
+        let owns = scratch.owns.as_mut_slice();
+        list_candidates(candidates, owns, state, self.grid(), limit)
     }
 
     #[inline(always)]
@@ -168,15 +161,11 @@ impl<'a, L: StateLanes> Dispatching<State<L>> for LaidOut<'a, L> {
             return None;
         }
         room.lanes.copy_from(&state.lanes);
-        let siblings = Siblings { candidates, bound };
-        Some(bound_children(
-            &mut room.lanes,
-            &mut scratch.raises,
-            scratch.ceilings.as_mut_slice(),
-            self.grid(),
-            state.next.as_slice(),
-            &siblings,
-        ))
+        let (lanes, raises) = (&mut room.lanes, &mut scratch.raises);
+        let ceilings = scratch.ceilings.as_mut_slice();
+        let grid = self.grid();
+        let next = state.next.as_slice();
+        Some(bound_children(lanes, raises, ceilings, grid, next, candidates, bound))
     }
 
     #[inline(never)]

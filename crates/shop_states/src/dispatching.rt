@@ -84,8 +84,7 @@ pub trait Dispatching<S: Drop> {
     fn strike(&self, state: &mut S, job: u16)
         requires { HasSoleCandidate (shop self.now) (λ w. IsStateOf self.now w state.old) job }
         ensures { (w : List ℕ) → IsStateOf self.now w state.old
-            → conflict (shop self.now) w ≡ job ∷ []
-            → IsStateOf self.now (w ++ job ∷ []) state.new };
+            → conflict (shop self.now) w ≡ job ∷ [] → IsStateOf self.now (w ++ job ∷ []) state.new };
 
     /// Dispatches the next operation of `candidate.job`. Answers the bound of the extended word if it is below `limit`;
     /// else answers `None`, and `state` is no word's state any more. `bound` is the bound of the former word.
@@ -99,13 +98,11 @@ pub trait Dispatching<S: Drop> {
     ) -> Option<u64>
         requires scratch { IsScratch self.now scratch.old }
         requires can { CanDispatch (shop self.now)
-            (λ w. IsStateOf self.now w state.old × IsCandidate self.now w candidate)
-            candidate.job bound }
+            (λ w. IsStateOf self.now w state.old × IsCandidate self.now w candidate) candidate.job bound }
         ensures told { (w : List ℕ) → IsStateOf self.now w state.old
             → IsCandidate self.now w candidate → bound ≡ lb (shop self.now) w
             → TellsBoundBelow limit (lb (shop self.now) (w ++ candidate.job ∷ [])) result }
-        ensures state { (w : List ℕ) → IsStateOf self.now w state.old
-            → IsCandidate self.now w candidate
+        ensures state { (w : List ℕ) → IsStateOf self.now w state.old → IsCandidate self.now w candidate
             → OnSome result (IsStateOf self.now (w ++ candidate.job ∷ []) state.new) }
         ensures slot { IsSlot self.now state.new }
         ensures scratch { IsScratch self.now scratch.new }
@@ -126,14 +123,12 @@ pub trait Dispatching<S: Drop> {
         requires scratch { IsScratch self.now scratch.old }
         requires to { IsSlot self.now to.old }
         requires can { CanDispatch (shop self.now)
-            (λ w. IsStateOf self.now w from.now × IsCandidate self.now w candidate)
-            candidate.job bound }
+            (λ w. IsStateOf self.now w from.now × IsCandidate self.now w candidate) candidate.job bound }
         ensures told { (w : List ℕ) → IsStateOf self.now w from.now
             → IsCandidate self.now w candidate → bound ≡ lb (shop self.now) w
             → TellsBoundBelow limit (lb (shop self.now) (w ++ candidate.job ∷ [])) result }
         ensures state { (w : List ℕ) → IsStateOf self.now w from.now
-            → IsCandidate self.now w candidate
-            → OnSome result (IsStateOf self.now (w ++ candidate.job ∷ []) to.new) }
+            → IsCandidate self.now w candidate → OnSome result (IsStateOf self.now (w ++ candidate.job ∷ []) to.new) }
         ensures slot { IsSlot self.now to.new }
         ensures scratch { IsScratch self.now scratch.new }
         ensures kept { (w : List ℕ) (j : ℕ) → KnowsChild self.now scratch.old w j
@@ -188,16 +183,13 @@ pub trait Dispatching<S: Drop> {
     ) -> Option<u64>
         requires scratch { IsScratch self.now scratch.old }
         requires to { IsSlot self.now to.old }
-        requires can { CanDispatch (shop self.now)
-            (λ w. IsStateOf self.now w from.now × IsCandidate self.now w candidate
-            × KnowsChild self.now scratch.old w candidate.job)
-            candidate.job bound }
+        requires can { CanDispatch (shop self.now) (λ w. IsStateOf self.now w from.now
+            × IsCandidate self.now w candidate × KnowsChild self.now scratch.old w candidate.job) candidate.job bound }
         ensures told { (w : List ℕ) → IsStateOf self.now w from.now
             → IsCandidate self.now w candidate → bound ≡ lb (shop self.now) w
             → TellsBoundBelow limit (lb (shop self.now) (w ++ candidate.job ∷ [])) result }
         ensures state { (w : List ℕ) → IsStateOf self.now w from.now
-            → IsCandidate self.now w candidate
-            → OnSome result (IsStateOf self.now (w ++ candidate.job ∷ []) to.new) }
+            → IsCandidate self.now w candidate → OnSome result (IsStateOf self.now (w ++ candidate.job ∷ []) to.new) }
         ensures slot { IsSlot self.now to.new }
         ensures scratch { IsScratch self.now scratch.new }
         ensures kept { (w : List ℕ) (j : ℕ) → KnowsChild self.now scratch.old w j
@@ -218,13 +210,10 @@ pub trait Dispatching<S: Drop> {
         limit: u64,
     ) -> bool
         requires scratch { IsScratch self.now scratch.old }
-        requires can { CanDispatch (shop self.now)
-            (λ w. IsStateOf self.now w state.old × IsCandidate self.now w candidate
-            × KnowsChild self.now scratch.old w candidate.job)
-            candidate.job bound }
+        requires can { CanDispatch (shop self.now) (λ w. IsStateOf self.now w state.old
+            × IsCandidate self.now w candidate × KnowsChild self.now scratch.old w candidate.job) candidate.job bound }
         ensures state { IsTrue result → (w : List ℕ) → IsStateOf self.now w state.old
-            → IsCandidate self.now w candidate
-            → IsStateOf self.now (w ++ candidate.job ∷ []) state.new }
+            → IsCandidate self.now w candidate → IsStateOf self.now (w ++ candidate.job ∷ []) state.new }
         ensures slot { IsSlot self.now state.new }
         ensures scratch { IsScratch self.now scratch.new }
         ensures kept { (w : List ℕ) (j : ℕ) → KnowsChild self.now scratch.old w j
@@ -235,18 +224,14 @@ pub trait Dispatching<S: Drop> {
     }
 
     /// Law: the state of a word also has room for any other state.
-    ghost state_is_slot: { (d : Self) (w : List ℕ) (s : S) → IsStateOf d w s
-        → IsSlot d s };
+    ghost state_is_slot: { (d : Self) (w : List ℕ) (s : S) → IsStateOf d w s → IsSlot d s };
 
     /// Law: the word of a state is a word of the instance.
-    ghost state_is_of_word: { (d : Self) (w : List ℕ) (s : S) → IsStateOf d w s
-        → IsWord (shop d) w };
+    ghost state_is_of_word: { (d : Self) (w : List ℕ) (s : S) → IsStateOf d w s → IsWord (shop d) w };
 
     /// Law: if a word has a state, its instance is within the limits.
-    ghost state_is_within_limits: { (d : Self) (w : List ℕ) (s : S) → IsStateOf d w s
-        → IsWithinLimits (shop d) };
+    ghost state_is_within_limits: { (d : Self) (w : List ℕ) (s : S) → IsStateOf d w s → IsWithinLimits (shop d) };
 
     /// Law: dispatching the only job of a conflict set keeps the word's bound.
-    ghost sole_keeps_bound: { (d : Self) (w : List ℕ) (s : S) → IsStateOf d w s
-        → SoleCandidateKeepsBound (shop d) w };
+    ghost sole_keeps_bound: { (d : Self) (w : List ℕ) (s : S) → IsStateOf d w s → SoleCandidateKeepsBound (shop d) w };
 }

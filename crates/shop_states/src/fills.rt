@@ -62,15 +62,12 @@ fn fill_job<L: StateLanes>(
         (rows_in L.StateLanes laid_out.now.layout lanes.old) }
     requires ends { length (L.ends lanes.old) ≡ length laid_out.now.shop.jobs }
     requires of { IsAtSomeLeg laid_out.now.shop laid_out.now.layout job index ready free.now }
-    ensures heads { (s : PlacementState)
-        → IsAtLeg laid_out.now.shop laid_out.now.layout s job index ready free.now
+    ensures heads { (s : PlacementState) → IsAtLeg laid_out.now.shop laid_out.now.layout s job index ready free.now
         → HasFilledJob laid_out.now.shop laid_out.now.layout s job
         (rows_in L.StateLanes laid_out.now.layout lanes.old) (rows_in L.StateLanes laid_out.now.layout lanes.new) }
-    ensures next { (s : PlacementState)
-        → IsAtLeg laid_out.now.shop laid_out.now.layout s job index ready free.now
+    ensures next { (s : PlacementState) → IsAtLeg laid_out.now.shop laid_out.now.layout s job index ready free.now
         → (p : Placing) → IsPlacement laid_out.now.shop p s
-        → IsNextSet laid_out.now.shop laid_out.now.layout p job result (L.ends lanes.old)
-        (L.ends lanes.new) }
+        → IsNextSet laid_out.now.shop laid_out.now.layout p job result (L.ends lanes.old) (L.ends lanes.new) }
 {
     let grid = laid_out.grid();
     let leg = grid.routes().leg(index);
@@ -92,12 +89,10 @@ pub(crate) fn fill_state<L: StateLanes>(
     ready: &[u64],
     free: &[u64],
 )
-    requires room { HasRoom laid_out.now.shop laid_out.now.layout (L.heads lanes.old)
-        (L.ends lanes.old) next.old }
+    requires room { HasRoom laid_out.now.shop laid_out.now.layout (L.heads lanes.old) (L.ends lanes.old) next.old }
     requires of { IsWordAt laid_out.now.shop laid_out.now.layout next.old ready.now free.now }
     ensures { (w : List ℕ) → IsWord laid_out.now.shop w
-        → IsPlacedAt laid_out.now.shop (placing laid_out.now.shop w) laid_out.now.layout
-        next.old ready.now free.now
+        → IsPlacedAt laid_out.now.shop (placing laid_out.now.shop w) laid_out.now.layout next.old ready.now free.now
         → IsKeptInLanes L.GREATEST laid_out.now.shop w laid_out.now.layout
         (rows_in L.StateLanes laid_out.now.layout lanes.new) next.new }
 {

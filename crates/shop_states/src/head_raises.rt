@@ -65,8 +65,7 @@ pub(crate) fn see<L: StateLanes, const FEW: bool>(
     requires known { machine < length raises.old }
     requires rises { before ≤ after }
     requires fits { after ≤ L.GREATEST }
-    ensures raises { raises_in L.value raises.new
-        ≡ slice_set (raises_in L.value raises.old) machine
+    ensures raises { raises_in L.value raises.new ≡ slice_set (raises_in L.value raises.old) machine
         (widened (raise_of (raises_in L.value raises.old) machine) before after) }
     ensures listed { AreListed (raises_in L.value raises.new) raised.new }
 {

@@ -30,8 +30,7 @@ pub(crate) fn span_of_rows<L: StateLanes>(
     limit: u64,
 ) -> u64
     requires { CanBoundRows L.value L.GREATEST each rows.now raise }
-    ensures { IsSpanByRaise (raise_in L.value raise) (lanes_in L.value rows.now)
-        limit least result }
+    ensures { IsSpanByRaise (raise_in L.value raise) (lanes_in L.value rows.now) limit least result }
 {
     if limit <= least {
         return least;
@@ -46,8 +45,7 @@ pub(crate) fn span_of_rows<L: StateLanes>(
 /// Tells whether the ceiling of `machine`, if it has one, is at most `most`.
 #[inline(always)]
 fn is_under(ceilings: &[u64], machine: usize, most: u64) -> bool
-    ensures { IsTrue result
-        → (machine < length ceilings.now) × (slice_index ceilings.now machine ≤ most) }
+    ensures { IsTrue result → (machine < length ceilings.now) × (slice_index ceilings.now machine ≤ most) }
 {
     machine < ceilings.len() && ceilings[machine] <= most
 }
@@ -86,24 +84,6 @@ pub(crate) fn take_spans_of<L: StateLanes>(
     most
 }
 
-/// Calls `take_spans_of` for a number of blocks that is a literal.
-#[inline(always)]
-fn take_spans_by<L: StateLanes, const EACH: usize>(
-    raises: &mut [LaneRaise<L::Number>],
-    raised: MachineSet,
-    ceilings: &[u64],
-    laid: &LaidLanes<L>,
-    least: u64,
-    limit: u64,
-) -> u64
-    requires even { AreEven laid.now.grid.now.blocks EACH }
-    requires can { CanTakeSpansIn L.StateLanes laid.now ceilings.now (raises_in L.value raises.old) raised least }
-    ensures { TakesSpansIn L.StateLanes laid.now (raises_in L.value raises.old) (raises_in L.value raises.new) least
-        limit result }
-{
-    take_spans_of(EACH, raises, raised, ceilings, laid, least, limit)
-}
-
 /// Calls `take_spans_of` in lanes for any number of blocks a machine: with code for each number up to eight, in lanes
 /// of 64 bits with one loop. Stays out of line, so that a walk has this code once.
 #[inline(never)]
@@ -120,18 +100,18 @@ pub(crate) fn take_any_spans<L: StateLanes>(
         limit result }
 {
     if are_wide(L::GREATEST) {
-        return take_spans_by::<L, 0>(raises, raised, ceilings, laid, least, limit);
+        return take_spans_of(0, raises, raised, ceilings, laid, least, limit);
     }
     match laid.grid.blocks_each() {
-        1 => take_spans_by::<L, 1>(raises, raised, ceilings, laid, least, limit),
-        2 => take_spans_by::<L, 2>(raises, raised, ceilings, laid, least, limit),
-        3 => take_spans_by::<L, 3>(raises, raised, ceilings, laid, least, limit),
-        4 => take_spans_by::<L, 4>(raises, raised, ceilings, laid, least, limit),
-        5 => take_spans_by::<L, 5>(raises, raised, ceilings, laid, least, limit),
-        6 => take_spans_by::<L, 6>(raises, raised, ceilings, laid, least, limit),
-        7 => take_spans_by::<L, 7>(raises, raised, ceilings, laid, least, limit),
-        8 => take_spans_by::<L, 8>(raises, raised, ceilings, laid, least, limit),
-        _ => take_spans_by::<L, 0>(raises, raised, ceilings, laid, least, limit),
+        1 => take_spans_of(1, raises, raised, ceilings, laid, least, limit),
+        2 => take_spans_of(2, raises, raised, ceilings, laid, least, limit),
+        3 => take_spans_of(3, raises, raised, ceilings, laid, least, limit),
+        4 => take_spans_of(4, raises, raised, ceilings, laid, least, limit),
+        5 => take_spans_of(5, raises, raised, ceilings, laid, least, limit),
+        6 => take_spans_of(6, raises, raised, ceilings, laid, least, limit),
+        7 => take_spans_of(7, raises, raised, ceilings, laid, least, limit),
+        8 => take_spans_of(8, raises, raised, ceilings, laid, least, limit),
+        _ => take_spans_of(0, raises, raised, ceilings, laid, least, limit),
     }
 }
 

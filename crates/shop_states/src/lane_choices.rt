@@ -38,34 +38,6 @@ fn gather_marked<const WORDS: usize, L: StateLanes>(
     }
 }
 
-/// Puts into `jobs` the job of each waiting operation in blocks `first` up to `behind` (excluded) with a head below
-/// `limit`.
-#[inline(always)]
-fn gather_in_blocks<const WORDS: usize, L: StateLanes>(
-    jobs: &mut JobSet<WORDS>,
-    lanes: &L,
-    grid: &Grid<L>,
-    first: usize,
-    behind: usize,
-    limit: u64,
-)
-    requires ordered { first ≤ behind }
-    requires within { 8 * behind ≤ length (L.heads lanes.now) }
-    requires fits { limit ≤ L.GREATEST }
-    requires jobs { HaveJobs grid.now (length (L.heads lanes.now)) (64 * WORDS) }
-    ensures { HasGathered
-        (IsJobBelow grid.now (L.heads lanes.now) (IsInBlocks first behind) limit)
-        jobs.old jobs.new }
-{
-    let mut from = first;
-    while from < behind {
-        let to = from + (behind - from).min(MOST_MARKED);
-        let below = lanes.below(from, to, limit);
-        gather_marked(jobs, below, grid);
-        from = to;
-    }
-}
-
 /// Answers true only if no operation but the one at `position` waits in blocks `first` up to `behind` (excluded) with a
 /// head below `limit`; may answer false all the same. Stays out of line: most machines have at most `MOST_MARKED`
 /// blocks, and none of theirs is left to look at.
@@ -98,8 +70,7 @@ fn is_alone_in<L: StateLanes>(
 #[inline(always)]
 pub(crate) fn is_alone<L: StateLanes>(blocks: &ConflictBlocks, lanes: &L, position: usize) -> bool
     requires { AreConflictBlocks L.GREATEST (L.heads lanes.now) blocks.now }
-    ensures { IsTrue result
-        → IsAlone (L.heads lanes.now) blocks.now.from blocks.now.behind blocks.now.end position }
+    ensures { IsTrue result → IsAlone (L.heads lanes.now) blocks.now.from blocks.now.behind blocks.now.end position }
 {
     if !blocks.below.has_no_other(position) {
         return false;
@@ -125,13 +96,18 @@ pub(crate) fn conflict_set<const WORDS: usize, L: StateLanes>(
     ensures { IsGatheredWith blocks.chosen (IsJobBelow grid.now (L.heads lanes.now)
         (IsInBlocks blocks.from blocks.behind) blocks.end) result }
 {
-    let to = blocks.to;
     let behind = blocks.behind;
     let end = blocks.end;
+    let mut from = blocks.to;
     let mut jobs = JobSet::new();
     jobs.put(blocks.chosen);
     gather_marked(&mut jobs, blocks.below, grid);
-    gather_in_blocks(&mut jobs, lanes, grid, to, behind, end);
+    while from < behind {
+        let to = from + (behind - from).min(MOST_MARKED);
+        let below = lanes.below(from, to, end);
+        gather_marked(&mut jobs, below, grid);
+        from = to;
+    }
     jobs.rises();
     jobs
 }

@@ -2,9 +2,8 @@
 ghost use Rattle.std.specs.Prelude.{◌≡◌, ◌+◌, ◌≤◌, ◌<◌, ◌^◌, IfOk, length};
 ghost use Rattle.shop_states.specs.inner.LaidLanes.{CanTakeSpansIn, HasRaisedIn, TakesSpansIn, laid_rows, rows_in};
 ghost use Rattle.shop_states.specs.inner.{MachineRaises.{AreEmpty, CanTakeSpans}, RaiseCalls.CanDelay};
-ghost use Rattle.shop_states.specs.inner.Raises.{IsOnMachine};
+ghost use Rattle.shop_states.specs.inner.{Raises.IsOnMachine, Watchers.AreKnown};
 ghost use Rattle.shop_states.specs.inner.Siblings.{BoundsRaises, CanRaiseLate, HasRaisedBehind, IsLateOn};
-ghost use Rattle.shop_states.specs.inner.Watchers.{AreKnown};
 
 use crate::dispatches::{Dispatch, MOST_MARKED};
 use crate::head_raises::{LaneRaise, no_raise, take_raise};
@@ -33,8 +32,7 @@ impl<L: StateLanes> Model for MachineRaises<L> {
 
     ghost view = { λ r. raises_in L.value r.raises.items };
 
-    ghost invariant = { λ r. (length r.raises.items ≤ 128)
-        × (0 < L.EACH → length r.raises.items ≤ 64) };
+    ghost invariant = { λ r. (length r.raises.items ≤ 128) × (0 < L.EACH → length r.raises.items ≤ 64) };
 }
 
 impl<L: StateLanes> MachineRaises<L> {
@@ -84,14 +82,8 @@ impl<L: StateLanes> MachineRaises<L> {
         let routes = grid.routes();
         let ahead = OpenRoutes { routes, next };
         // lanes with code for one number of blocks have at most 64 machines
-        raise_marked::<L, true>(
-            lanes,
-            raises,
-            &mut raised,
-            &ahead,
-            dispatch.delayed,
-            dispatch.end,
-        );
+        let end = dispatch.end;
+        raise_marked::<L, true>(lanes, raises, &mut raised, &ahead, dispatch.delayed, end);
         raised
     }
 
@@ -160,8 +152,7 @@ impl<L: StateLanes> MachineRaises<L> {
         limit: u64,
     ) -> u64
         requires least { least < 2 ^ 63 }
-        requires can { CanTakeSpans L.GREATEST self.old raised laid.now.grid.now
-            (laid_rows L.heads L.ends laid.now) }
+        requires can { CanTakeSpans L.GREATEST self.old raised laid.now.grid.now (laid_rows L.heads L.ends laid.now) }
         requires room { length ceilings.old ≡ length self.old }
         requires computable { L.GREATEST < 2 ^ 64 }
         ensures bounds { BoundsRaises laid.now.grid.now (laid_rows L.heads L.ends laid.now) self.old self.new

@@ -53,8 +53,7 @@ fn latest_of<L: StateLanes>(
     requires some { 0 < length candidates.now }
     requires can { (i : ℕ) → i < length candidates.now
         → CanEnd L.GREATEST routes.now (L.heads lanes.now) next.now (job_at candidates.now i) }
-    ensures { AreLatest (end_by (L.heads lanes.now) routes.now.times next.now)
-        candidates.now result }
+    ensures { AreLatest (end_by (L.heads lanes.now) routes.now.times next.now) candidates.now result }
 {
     let job = candidates[0].job as usize;
     let end = end_of(lanes, routes, next, job);
@@ -153,13 +152,6 @@ pub(crate) fn raise_late<L: StateLanes, const FEW: bool>(
     }
 }
 
-/// The candidates of a word, and the bound of the word itself.
-#[derive(Drop)]
-pub(crate) struct Siblings<'c> {
-    pub candidates: &'c [Candidate],
-    pub bound: u64,
-}
-
 /// Answers the greatest of `bound` and the `own` of each candidate.
 fn greatest_own(candidates: &[Candidate], bound: u64) -> u64 {
     candidates
@@ -178,25 +170,23 @@ pub(crate) fn bound_children<L: StateLanes>(
     ceilings: &mut [u64],
     grid: &Grid<L>,
     next: &[u32],
-    siblings: &Siblings,
+    candidates: &[Candidate],
+    bound: u64,
 ) -> u64
     requires at_rest { AreEmpty raises.old }
     requires room { length ceilings.old ≡ length raises.old }
-    requires some { 0 < length siblings.now.candidates.now }
+    requires some { 0 < length candidates.now }
     requires can { CanBoundChildren L.GREATEST grid.now (rows_in L.StateLanes grid.now lanes.old) next.now
-        siblings.now.candidates.now siblings.now.bound (length raises.old) }
+        candidates.now bound (length raises.old) }
     ensures known { (shop : Shop) (w : List ℕ)
         → IsKeptInLanes L.GREATEST shop w grid.now (rows_in L.StateLanes grid.now lanes.old) next.now
-        → AreSiblings shop w siblings.now.candidates.now → siblings.now.bound ≡ lb shop w
-        → (i : ℕ) → i < length siblings.now.candidates.now
-        → AreChildCeilings shop w grid.now (job_at siblings.now.candidates.now i) ceilings.new }
+        → AreSiblings shop w candidates.now → bound ≡ lb shop w → (i : ℕ)
+        → i < length candidates.now → AreChildCeilings shop w grid.now (job_at candidates.now i) ceilings.new }
     ensures settled { (shop : Shop) (w : List ℕ)
         → IsKeptInLanes L.GREATEST shop w grid.now (rows_in L.StateLanes grid.now lanes.old) next.now
-        → AreSiblings shop w siblings.now.candidates.now → siblings.now.bound ≡ lb shop w
-        → (i least : ℕ) → i < length siblings.now.candidates.now
+        → AreSiblings shop w candidates.now → bound ≡ lb shop w → (i least : ℕ) → i < length candidates.now
         → IsAdvancing L.GREATEST shop w grid.now (rows_in L.StateLanes grid.now lanes.old) next.now
-        (job_at siblings.now.candidates.now i) least
-        → result ≤ least → lb shop (w ++ job_at siblings.now.candidates.now i ∷ []) ≡ least }
+        (job_at candidates.now i) least → result ≤ least → lb shop (w ++ job_at candidates.now i ∷ []) ≡ least }
     ensures long { length ceilings.new ≡ length ceilings.old }
     ensures positions { length (L.heads lanes.new) ≡ length (L.heads lanes.old) }
     ensures ends { L.ends lanes.new ≡ L.ends lanes.old }
@@ -204,7 +194,7 @@ pub(crate) fn bound_children<L: StateLanes>(
     ensures rest { AreEmpty raises.new }
 {
     let routes = grid.routes();
-    let latest = latest_of(siblings.candidates, lanes, &routes, next);
+    let latest = latest_of(candidates, lanes, &routes, next);
     let last = next[latest.job] as usize;
     let machine = routes.machine(last) as usize;
     let (from, behind) = grid.blocks_of(grid.fixed_blocks_each(), machine);
@@ -215,12 +205,7 @@ pub(crate) fn bound_children<L: StateLanes>(
         latest,
     };
     let raised = raises.raise_late(lanes, &routes, late);
-    let limit = greatest_own(siblings.candidates, siblings.bound).saturating_add(2);
-    raises.take_ceilings(
-        raised,
-        ceilings,
-        &LaidLanes { lanes, grid },
-        siblings.bound,
-        limit,
-    )
+    let limit = greatest_own(candidates, bound).saturating_add(2);
+    let laid = LaidLanes { lanes, grid };
+    raises.take_ceilings(raised, ceilings, &laid, bound, limit)
 }

@@ -1,13 +1,12 @@
 -- Children put on a stack: open ones, and before them, if there are others, their number.
 use Rattle.std.proofs.Common.{rules, ◌≡◌, ℕ, zero, suc, ◌+◌, ◌-◌, ◌≤◌, ◌<◌, List, [], ◌∷◌, ◌++◌, length, map, take}
 use Rattle.std.proofs.{Common.{reverse, refl, ◌∙◌, ap, arith, append_assoc, append-nil}, Math.Seq.take-length}
-use Rattle.std.proofs.lemmas.List.{length-map, length-reverse, length-append, drop_at}
+use Rattle.std.proofs.lemmas.List.{length-map, length-reverse, length-append, drop_at, nil_from_length}
 use Rattle.shop_model.specs.{Shop.{Shop, operation_count}, Word.IsWord}
 use Rattle.shop_bound.specs.Bound.{lb}
 use Rattle.shop_nodes.specs.{Branching.{branch, conflict, sort_by}, Halts.{last_of, IsClosed, IsWaiting}}
-use Rattle.shop_nodes.specs.{declared.halts.Open.Open, declared.halts.Waiting.Waiting}
-use Rattle.shop_nodes.specs.declared.halts.Waiting.TheVariants.{Child, Rest}
-use Rattle.shop_tree.specs.{inner.Opens.{open_words, IsAt, AreChildren}, inner.Searching.Adds}
+use Rattle.shop_nodes.specs.declared.halts.{Open.Open, Waiting.{Waiting, TheVariants.{Child, Rest}}}
+use Rattle.shop_tree.specs.inner.{Opens.{open_words, IsAt, AreChildren}, Searching.Adds}
 use Rattle.shop_tree.proofs.{Pushing.{with_opens, with_rest}, OpenLemmas.{opens-words, all-opens}}
 use Rattle.shop_nodes.proofs.WalkSteps.{branch_few, length-insert_by}
 
@@ -33,17 +32,12 @@ module _ {shop : Shop} {limit : ℕ} {word : List ℕ} {opens : List Open} {n : 
   all_words : reverse (open_words word opens) ++ last_of n (branch shop (take (length word) word)) ≡ branch shop word
   all_words = grind (arith, take-length, last_are)
 
--- where there are no others
-none_others : {A : Type 0} (ws : List A) → 0 ≡ length ws → ws ≡ []
-none_others [] e = refl
-none_others (w ∷ ws) e = absurd (omega arith)
-
 -- what lies on top then
 pub adds-children : (shop : Shop) (best : ℕ) (word : List ℕ) (opens : List Open) (n : ℕ) (old : List Waiting)
     → IsWord shop word → length word < operation_count shop → AreChildren shop best word opens n
     → Adds shop best word old (with_opens (with_rest old (length word) n) opens)
 adds-children shop best word opens zero old is short kids =
-    grind (arith, opens-words, append-nil, none_others, all-opens)
+    grind (arith, opens-words, append-nil, nil_from_length, all-opens)
 adds-children shop best word opens (suc n) old is short kids = record {
   added = Rest (length word) (suc n) ∷ map (λ o. Child o) opens;
   stack = append_assoc old (Rest (length word) (suc n) ∷ []) (map (λ o. Child o) opens);

@@ -6,16 +6,14 @@ use Rattle.std.specs.{Prelude.take, List.fold}
 use Rattle.shop_model.specs.{Shop.{Shop, operation_count}, Word.IsWord}
 use Rattle.shop_bound.specs.{Bound.lb, Conflicts.SoleCandidateKeepsBound}
 use Rattle.shop_nodes.specs.{Branching.{branch, conflict, sort_by}, Walking.{Walk, walk}, Halts.{word_at, IsWaiting}}
-use Rattle.shop_nodes.specs.{declared.halts.Open.Open, declared.halts.Waiting.Waiting}
-use Rattle.shop_nodes.specs.declared.halts.Waiting.TheVariants.{Child}
-use Rattle.shop_tree.specs.{inner.Opens.AreChildren, inner.Walkers.spent_one}
-use Rattle.shop_tree.specs.inner.Walkers.{Stage, HasFollowed, HasBranched, HasExpanded, IsInOrder, gone_on, on_top}
-use Rattle.shop_tree.specs.inner.Searching.{walk_stack, Adds, entered}
-use Rattle.shop_tree.proofs.{Pushing.{with_opens, with_rest}, ListLemmas.all_weaker}
-use Rattle.shop_tree.proofs.OpenLemmas.{IsUpTo, adds-waits, all-same, all-lower, deep, words-same}
+use Rattle.shop_nodes.specs.declared.halts.{Open.Open, Waiting.{Waiting, TheVariants.Child}}
+use Rattle.shop_tree.specs.inner.{Walkers.on_top, Searching.{walk_stack, Adds, entered}, Opens.AreChildren}
+use Rattle.shop_tree.specs.inner.Walkers.{spent_one, Stage, HasFollowed, HasBranched, HasExpanded, IsInOrder, gone_on}
+use Rattle.shop_tree.proofs.{Entering.{entered-children, entered-full, walk-entered}, Pushing.{with_opens, with_rest}}
+use Rattle.shop_bound.proofs.Lists.{all_map}
 use Rattle.shop_tree.proofs.TurnLemmas.{below_waits, child_walks, children_walk}
+use Rattle.shop_tree.proofs.OpenLemmas.{IsUpTo, adds-waits, all-same, all-lower, deep, words-same}
 use Rattle.shop_tree.proofs.AddLemmas.{adds-children, few-children, long_rest}
-use Rattle.shop_tree.proofs.Entering.{entered-children, entered-full, walk-entered}
 use Rattle.shop_nodes.proofs.WalkSteps.{walk-cut}
 
 some_budget : (shop : Shop) (t : Walk) (w : List ℕ) → 0 < t.budget
@@ -57,7 +55,7 @@ follows_one s j short alone keeps some below ordered =
     in let bound : lb shop child ≡ lb shop w = keeps j alone
     in let longer = length_push w j
     in let alike : take n child ≡ take n w = take-append_seam w (j ∷ []) ∙ sym (take-length w)
-    in let low = all_weaker (IsWaiting shop s.walk.best w) (IsUpTo n) (deep shop s.walk.best w) s.stack ordered.each
+    in let low = all_map (IsWaiting shop s.walk.best w) (IsUpTo n) (deep shop s.walk.best w) s.stack ordered.each
     in let children : branch shop w ≡ child ∷ [] =
     ap (λ (js : List ℕ). sort_by (lb shop) (map (λ i. w ++ i ∷ []) js)) alone
     in record {

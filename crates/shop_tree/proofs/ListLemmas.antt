@@ -2,15 +2,12 @@
 use Rattle.std.proofs.Common.{arith, ◌≡◌, List, [], ◌∷◌, ◌++◌, reverse, Result, Ok, Err, OnOk}
 use Rattle.std.proofs.lemmas.List.{reverse-append}
 use Rattle.std.specs.List.{AllByRecursion}
+use Rattle.shop_bound.proofs.Lists.{all_append}
 
 pub reverse-cons : {A : Type 0} (x : A) (xs : List A) → reverse (x ∷ xs) ≡ reverse xs ++ x ∷ []
 reverse-cons x xs = reverse-append (x ∷ []) xs
 
 module _ {A : Type 0} (P : A → Type 0) where
-  pub all_append : (xs ys : List A) → AllByRecursion P xs → AllByRecursion P ys → AllByRecursion P (xs ++ ys)
-  all_append [] ys a b = b
-  all_append (x ∷ xs) ys a b = (a.0, all_append xs ys a.1 b)
-
   pub all_front : (xs ys : List A) → AllByRecursion P (xs ++ ys) → AllByRecursion P xs
   all_front [] ys a = tt
   all_front (x ∷ xs) ys a = (a.0, all_front xs ys a.1)
@@ -22,10 +19,6 @@ module _ {A : Type 0} (P : A → Type 0) where
   pub all_reverse : (xs : List A) → AllByRecursion P xs → AllByRecursion P (reverse xs)
   all_reverse [] a = tt
   all_reverse (x ∷ xs) a = grind (arith, reverse-cons, all_append, all_reverse xs a.1)
-
-  pub all_weaker : (Q : A → Type 0) → ((x : A) → P x → Q x) → (xs : List A) → AllByRecursion P xs → AllByRecursion Q xs
-  all_weaker Q f [] a = tt
-  all_weaker Q f (x ∷ xs) a = (f x a.0, all_weaker Q f xs a.1)
 
 -- what holds where a call succeeds
 pub on_ok : {T E : Type 0} (P Q : Type 0) → (P → Q) → (r : Result T E) → OnOk r P → OnOk r Q

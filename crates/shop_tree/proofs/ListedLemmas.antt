@@ -11,11 +11,6 @@ use Rattle.shop_tree.specs.inner.Opens.{AreChildren, IsPlaceAbove}
 use Rattle.shop_tree.proofs.AddLemmas.{conflict_few}
 use Rattle.shop_tree.proofs.PushLemmas.{IsGathered, gathered_none, gathered_open, gathered_other, all_gathered}
 
--- none, and one alone
-pub no_items : (cs : List Candidate) → length cs ≡ 0 → cs ≡ []
-no_items [] long = refl
-no_items (c ∷ cs) long = absurd (omega arith)
-
 pub one_listed : (cs : List Candidate) (c d : Candidate) → length cs ≡ 1 → c ≡ get_or cs 0 d → cs ≡ c ∷ []
 one_listed [] c d long is = absurd (omega arith)
 one_listed (x ∷ []) c d long is = ap (λ (y : Candidate). y ∷ []) (sym is)

@@ -5,11 +5,11 @@ use Rattle.std.proofs.lemmas.List.{take-append-le, length-take-le, take-take, le
 use Rattle.std.specs.List.{AllByRecursion, fold}
 use Rattle.shop_model.specs.Shop.{Shop}
 use Rattle.shop_nodes.specs.{Halts.{word_at, waiting_words, stack_words, IsWaiting}, Walking.{Walk, walk}}
-use Rattle.shop_nodes.specs.{declared.halts.Open.Open, declared.halts.Waiting.Waiting}
-use Rattle.shop_nodes.specs.declared.halts.Waiting.TheVariants.{Child, Rest}
+use Rattle.shop_nodes.specs.declared.halts.{Open.Open, Waiting.{Waiting, TheVariants.{Child, Rest}}}
 use Rattle.shop_tree.specs.inner.Opens.{open_words, depth_of, IsFrom, IsAt, IsRising, AreWaiting}
 use Rattle.shop_tree.specs.inner.Searching.{walk_stack, Adds}
-use Rattle.shop_tree.proofs.ListLemmas.{reverse-cons, all_append, all_front, all_back, all_weaker}
+use Rattle.shop_bound.proofs.Lists.{all_append, all_map}
+use Rattle.shop_tree.proofs.ListLemmas.{reverse-cons, all_front, all_back}
 
 -- an entry that begins with at most n entries of the word
 abbrev pub IsUpTo : ℕ → Waiting → Type 0
@@ -86,7 +86,7 @@ from-at n k le x h = omega arith
 rising-level : (added : List Waiting) (n : ℕ) → AllByRecursion (IsAt n) added → IsRising added
 rising-level [] n e = tt
 rising-level (x ∷ added) n e = (
-  all_weaker (IsAt n) (IsFrom (depth_of x)) (from-at n (depth_of x) (let a = e.0 in omega arith)) added e.1,
+  all_map (IsAt n) (IsFrom (depth_of x)) (from-at n (depth_of x) (let a = e.0 in omega arith)) added e.1,
   rising-level added n e.1,
 )
 
@@ -95,7 +95,7 @@ rising-append : (rest added : List Waiting) (n : ℕ) → IsRising rest → AllB
 rising-append [] added n r low e = rising-level added n e
 rising-append (x ∷ rest) added n r low e = (
   all_append (IsFrom (depth_of x)) rest added r.0
-      (all_weaker (IsAt n) (IsFrom (depth_of x)) (from-at n (depth_of x) low.0) added e),
+      (all_map (IsAt n) (IsFrom (depth_of x)) (from-at n (depth_of x) low.0) added e),
   rising-append rest added n r.1 low.1 e,
 )
 
@@ -125,12 +125,12 @@ pub adds-waits : (shop : Shop) (best : ℕ) (word : List ℕ) (old new : List Wa
 adds-waits shop best word old new all more = subst (AreWaiting shop best word) (sym more.stack) (record {
   each = all_append (IsWaiting shop best word) old more.added all.each more.each;
   rising = rising-append old more.added (length word) all.rising
-      (all_weaker (IsWaiting shop best word) (IsUpTo (length word)) (deep shop best word) old all.each) more.depth;
+      (all_map (IsWaiting shop best word) (IsUpTo (length word)) (deep shop best word) old all.each) more.depth;
 })
 
 pub all-lower : (shop : Shop) (best lower : ℕ) (word : List ℕ) (stack : List Waiting) → lower ≤ best
     → AreWaiting shop best word stack → AreWaiting shop lower word stack
-all-lower shop best lower word stack le all = grind (arith, all_weaker)
+all-lower shop best lower word stack le all = grind (arith, all_map)
 
 -- the entry on top is walked first
 pub walk-top : (shop : Shop) (s : Walk) (word : List ℕ) (rest : List Waiting) (x : Waiting)

@@ -5,15 +5,14 @@ use Rattle.std.proofs.{Math.Seq.{map-set_same, take-length}, lemmas.List.Element
 use Rattle.std.proofs.lemmas.List.{get_or-map, length-map, map-set, set-append_right}
 use Rattle.shop_model.specs.{Shop.Shop, Word.IsWord}
 use Rattle.shop_bound.specs.Bound.{lb}
-use Rattle.shop_states.specs.{States.{CanDispatch, ListsBelow, Settles}, States.ListsBelow.{none, listed, closed}}
-use Rattle.shop_states.specs.{declared.dispatching.Candidate.Candidate, declared.dispatching.Dispatching.Ghosts}
-use Rattle.shop_nodes.specs.{Branching.conflict, Halts.word_at, declared.halts.Open.Open}
-use Rattle.shop_nodes.specs.{declared.halts.Waiting.Waiting, declared.halts.Waiting.TheVariants.{Child, Rest}}
+use Rattle.shop_states.specs.States.{CanDispatch, ListsBelow, Settles, ListsBelow.{none, listed, closed}}
+use Rattle.shop_states.specs.declared.dispatching.{Candidate.Candidate, Dispatching.Ghosts}
+use Rattle.shop_nodes.specs.{Branching.conflict, Halts.word_at, declared.halts.{Open.Open, Waiting.Waiting}}
+use Rattle.shop_nodes.specs.declared.halts.Waiting.TheVariants.{Child, Rest}
 use Rattle.shop_nodes.proofs.ChildrenLemmas.{child-word}
-use Rattle.shop_tree.specs.{declared.walk_states.Branching.Branching, declared.held.Held.Held, inner.Opens.AreChildren}
-use Rattle.shop_tree.specs.{declared.walk_states.WalkStates.WalkStates, inner.Tried.{HasGiven, HasPutChildren}}
-use Rattle.shop_tree.specs.inner.Held.{IsHeldOf, IsKept, Kept, held, opens_in}
-use Rattle.shop_tree.specs.inner.Slots.{AreBounded, IsBranchingOf, IsStateIn, Lists}
+use Rattle.shop_tree.specs.{declared.walk_states.{WalkStates.WalkStates, Branching.Branching}, inner.Opens.AreChildren}
+use Rattle.shop_tree.specs.{inner.Held.{IsHeldOf, IsKept, Kept, held, opens_in}, declared.held.Held.Held}
+use Rattle.shop_tree.specs.inner.{Slots.{AreBounded, IsBranchingOf, IsStateIn, Lists}, Tried.{HasGiven, HasPutChildren}}
 use Rattle.shop_tree.proofs.{StripLemmas.{at_kid, many}, TrialLemmas.IsChildBelow}
 
 -- the bound of a settled child

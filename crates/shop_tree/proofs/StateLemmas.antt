@@ -1,15 +1,14 @@
 -- States that wait, as a walk goes on to another word.
 use Rattle.std.proofs.Common.{rules, arith, ◌≡◌, ℕ, Option, None, List, [], ◌∷◌, ◌++◌, length, take, get_or, set, refl}
-use Rattle.std.proofs.{Common.{sym, ◌∙◌, ap, subst}, Math.Seq.{map-set_same, take-append_seam, take-length}}
+use Rattle.std.proofs.{Common.{sym, ◌∙◌, ap}, Math.Seq.{map-set_same, take-append_seam, take-length}}
 use Rattle.std.proofs.{lemmas.List.map-append, lemmas.List.Elements.{All-from_recursion, recursion_from_All}}
 use Rattle.std.specs.{Global.Box, List.AllByRecursion}
 use Rattle.shop_model.specs.Shop.{Shop}
-use Rattle.shop_states.specs.declared.dispatching.Dispatching.{Ghosts}
 use Rattle.shop_tree.specs.{declared.held.Held.Held, inner.Held.{IsHeld, IsHeldAs, waiting_in}, inner.Opens.AreWaiting}
 use Rattle.shop_tree.specs.inner.StateWalkers.{AreHeld}
 use Rattle.shop_nodes.specs.{declared.halts.Open.Open, declared.halts.Waiting.Waiting, Halts.{word_at, IsWaiting}}
 use Rattle.shop_nodes.specs.declared.halts.Waiting.TheVariants.{Child, Rest}
-use Rattle.shop_tree.proofs.ListLemmas.{all_weaker}
+use Rattle.shop_bound.proofs.Lists.{all_map}
 use Rattle.shop_tree.proofs.OpenLemmas.{IsUpTo, begins_alike, begins-child, deep, popped, rising-below}
 
 module _ {S : Type 0} (is : List ℕ → S → Type 0) where
@@ -42,7 +41,7 @@ module _ {S : Type 0} (is : List ℕ → S → Type 0) where
       → AreWaiting shop best word (waiting_in hs) → AreHeld is word hs → AreHeld is (word ++ j ∷ []) hs
   held_on shop best word j hs ordered all =
       held_same (word ++ j ∷ []) word (length word) (take-append_seam word (j ∷ []) ∙ sym (take-length word)) hs
-      (all_weaker (IsWaiting shop best word) (IsUpTo (length word)) (deep shop best word) (waiting_in hs) ordered.each)
+      (all_map (IsWaiting shop best word) (IsUpTo (length word)) (deep shop best word) (waiting_in hs) ordered.each)
       all
 
   -- an entry that lost its state
@@ -58,12 +57,6 @@ module _ {S : Type 0} (is : List ℕ → S → Type 0) where
 pub waiting_pushed : {S : Type 0} (hs new : List (Held S)) (h : Held S) → new ≡ hs ++ h ∷ []
     → waiting_in new ≡ waiting_in hs ++ h.waiting ∷ []
 waiting_pushed hs new h put = ap waiting_in put ∙ map-append (λ x. x.waiting) hs (h ∷ [])
-
--- the same state at hand once more
-module _ {D S C : Type 0} (g : Ghosts D S C) (d e : D) (word : List ℕ) (now new : S) (same : e ≡ d) (copy : new ≡ now)
-    (state : g.IsStateOf d word now) where
-  pub same_state : g.IsStateOf e word new
-  same_state = subst (λ x. g.IsStateOf x word new) (sym same) (subst (λ x. g.IsStateOf d word x) (sym copy) state)
 
 -- what waits, without states, once an entry lost its own
 pub waiting_stripped : {S : Type 0} (hs : List (Held S)) (i : ℕ) (d h : Held S) (state : Option (Box S))

@@ -1,10 +1,9 @@
 // Expands a walk's current word: follows sole candidates, then branches.
 ghost use Rattle.std.specs.Prelude.{◌≡◌, ◌≤◌, ◌<◌, ◌+◌, length, [], ◌∷◌, ◌++◌, OnOk, IfOk};
 ghost use Rattle.shop_model.specs.{Limits.IsWithinLimits, Word.IsWord};
-ghost use Rattle.shop_tree.specs.{inner.Opens.AreChildren, inner.Slots.{HoldSlots, IsStateIn}};
+ghost use Rattle.shop_tree.specs.inner.{Opens.AreChildren, Slots.{HoldSlots, IsStateIn}};
 ghost use Rattle.shop_tree.specs.inner.StateWalkers.{stage_of, AreHeld, HasGoneOn, HasStates, IsListedAt, StandsAs};
-ghost use Rattle.shop_tree.specs.inner.StateWalkers.{StandsAt};
-ghost use Rattle.shop_tree.specs.inner.Walkers.{gone_on, HasBranched, HasExpanded, IsInOrder};
+ghost use Rattle.shop_tree.specs.inner.{StateWalkers.StandsAt, Walkers.{gone_on, HasBranched, HasExpanded, IsInOrder}};
 
 use crate::held::{put_rest, set_rest_below};
 use crate::walk_states::Branching;

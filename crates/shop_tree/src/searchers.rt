@@ -126,8 +126,7 @@ impl<'l, 'a> Model for Searcher<'l, 'a> {
 
     ghost view = { λ s. s.instance.now };
 
-    ghost invariant = { λ s. (s.layout.now ≡ s.instance.now)
-        × IfSome s.walker (λ b. IsWalkOf s.instance.now b.value) };
+    ghost invariant = { λ s. (s.layout.now ≡ s.instance.now) × IfSome s.walker (λ b. IsWalkOf s.instance.now b.value) };
 }
 
 impl<'l, 'a> Searcher<'l, 'a> {

@@ -44,9 +44,8 @@ pub(crate) struct Walker<'l, 'a, D: Dispatching<S>, S: Drop> {
 impl<'l, 'a, D: Dispatching<S>, S: Drop> Walker<'l, 'a, D, S> {
     ghost use Rattle.shop_nodes.specs.declared.halts.Waiting.TheVariants.{Child, Rest};
     ghost use Rattle.shop_nodes.specs.Halts.{halted_words, AreHalted, stack_words, word_at};
-    ghost use Rattle.shop_tree.specs.{inner.Held.IsHeldOf, inner.StateWalkers.{stage_of, HasStates}};
+    ghost use Rattle.shop_tree.specs.inner.{Walkers.IsTurn, StateWalkers.{stage_of, HasStates}, Held.IsHeldOf};
     ghost use Rattle.shop_tree.specs.inner.Walkers.{on_top, stack_walk, node_walk, IsInOrder, HasWalked, HasWalkedUpTo};
-    ghost use Rattle.shop_tree.specs.inner.Walkers.{IsTurn};
 
     /// Makes a walk for pieces of the dispatcher's instance, with at most `most` states for waiting children. Fails
     /// with `NoMemory` if memory runs out.

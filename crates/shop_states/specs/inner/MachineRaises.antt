@@ -11,15 +11,11 @@
 --     TakesSpans ..                  the greatest of a number and of these spans; the raises are empty
 --                                    afterwards
 use Rattle.std.specs.Prelude.{◌≡◌, ℕ, ◌+◌, ◌*◌, ◌%◌, ◌≤◌, ◌<◌, List, length, slice_index}
-use Rattle.shop_lanes.specs.Rows.{Rows, Lane, AreBlocks, lanes_in}
-use Rattle.shop_lanes.specs.Spans.{spans_between, FitsSpan}
+use Rattle.shop_lanes.specs.{Rows.{Rows, Lane, AreBlocks, lanes_in}, Spans.{spans_between, FitsSpan}}
 use Rattle.shop_lanes.specs.declared.lane_rows.LaneRows.{LaneRows}
-use Rattle.shop_states.specs.declared.head_raises.LaneRaise.{LaneRaise}
-use Rattle.shop_states.specs.inner.Ceilings.{AreUnder}
+use Rattle.shop_states.specs.{declared.head_raises.LaneRaise.LaneRaise, inner.{Ceilings.AreUnder, RisingLists.IsIn}}
 use Rattle.shop_states.specs.inner.HeadRaises.{Raise, raise_of}
-use Rattle.shop_states.specs.inner.RisingLists.{IsIn}
-use Rattle.shop_layout.specs.Lanes.{lanes_on}
-use Rattle.shop_layout.specs.Positions.{LayoutState}
+use Rattle.shop_layout.specs.{Lanes.lanes_on, Positions.LayoutState}
 
 abbrev pub AreEmpty : List Raise → Type 0
 AreEmpty raises = (m : ℕ) → (raise_of raises m).to ≡ 0
@@ -30,18 +26,14 @@ pub record AreListed (raises : List Raise) (machines : List ℕ) : Type 0 where
   pub known : (m : ℕ) → IsIn machines m → m < length raises
   pub listed : (m : ℕ) → 0 < (raise_of raises m).to → IsIn machines m
 
-pub record AreRaisesFit (greatest : ℕ) (raises : List Raise) (l : LayoutState)
-    (rows : Rows) : Type 0 where
+pub record AreRaisesFit (greatest : ℕ) (raises : List Raise) (l : LayoutState) (rows : Rows) : Type 0 where
   pub known : length l.blocks ≡ length raises + 1
-  pub blocks : (m : ℕ) → m < length raises
-      → AreBlocks rows (slice_index l.blocks m) (slice_index l.blocks (m + 1))
+  pub blocks : (m : ℕ) → m < length raises → AreBlocks rows (slice_index l.blocks m) (slice_index l.blocks (m + 1))
   pub below : (m : ℕ) → m < length raises → (raise_of raises m).to < greatest
-  pub fits : (m : ℕ) → m < length raises
-      → FitsSpan greatest (raise_of raises m).to (lanes_on rows l m)
+  pub fits : (m : ℕ) → m < length raises → FitsSpan greatest (raise_of raises m).to (lanes_on rows l m)
 
 pub record CanBoundRows {N : Type 0} (value : N → ℕ) (greatest each : ℕ) (rows : LaneRows N)
-    (raise : LaneRaise N)
-    : Type 0 where
+    (raise : LaneRaise N) : Type 0 where
   pub whole_blocks : length rows.heads.now % 8 ≡ 0
   pub count : 0 < each → length rows.heads.now ≡ 8 * each
   pub below : value raise.to < greatest
@@ -52,8 +44,7 @@ pub record CanBoundRows {N : Type 0} (value : N → ℕ) (greatest each : ℕ) (
 pub record IsSpanByRaise (raise : Raise) (xs : List Lane) (limit least r : ℕ) : Type 0 where
   pub low : least ≤ r
   pub covers : r < limit → spans_between raise.from raise.to xs ≤ r
-  pub within : (c : ℕ) → least ≤ c → ((above upto : ℕ) → spans_between above upto xs ≤ c)
-      → r ≤ c
+  pub within : (c : ℕ) → least ≤ c → ((above upto : ℕ) → spans_between above upto xs ≤ c) → r ≤ c
 
 pub record CanTakeSpans (greatest : ℕ) (raises : List Raise) (raised : List ℕ) (l : LayoutState)
     (rows : Rows) : Type 0 where
@@ -69,12 +60,10 @@ pub record CanTakeSpansUnder (greatest : ℕ) (ceilings : List ℕ) (raises : Li
 
 -- b is at least `least`, and no more than that and the spans of these machines; if it is below the
 -- limit, no span that begins within a raise is more
-pub record TakesSpans (l : LayoutState) (rows : Rows) (old new : List Raise) (least limit b : ℕ)
-    : Type 0 where
+pub record TakesSpans (l : LayoutState) (rows : Rows) (old new : List Raise) (least limit b : ℕ) : Type 0 where
   pub empty : AreEmpty new
   pub long : length new ≡ length old
   pub low : least ≤ b
-  pub covers : b < limit → (m : ℕ)
-      → spans_between (raise_of old m).from (raise_of old m).to (lanes_on rows l m) ≤ b
+  pub covers : b < limit → (m : ℕ) → spans_between (raise_of old m).from (raise_of old m).to (lanes_on rows l m) ≤ b
   pub within : (c : ℕ) → least ≤ c → ((m above upto : ℕ) → m < length old
       → spans_between above upto (lanes_on rows l m) ≤ c) → b ≤ c

@@ -11,10 +11,8 @@ use Rattle.std.specs.Prelude.{◌≡◌, ℕ, ◌≤◌, Bool, IsTrue, List, len
 use Rattle.shop_lanes.specs.Rows.{Rows}
 use Rattle.shop_layout.specs.Positions.{LayoutState}
 use Rattle.shop_states.specs.declared.{dispatches.Dispatch.Dispatch, head_raises.LaneRaise.LaneRaise}
-use Rattle.shop_states.specs.{inner.Dispatches.AreDelayedOn, inner.HeadRaises.{Raise, raises_in}}
-use Rattle.shop_states.specs.inner.MachineRaises.{AreListed}
-use Rattle.shop_states.specs.inner.Raises.{HasBlocks, IsOnMachine, IsRaisable, Raises}
-use Rattle.shop_states.specs.inner.Watchers.{AreKnown, Sees}
+use Rattle.shop_states.specs.inner.{Dispatches.AreDelayedOn, HeadRaises.{Raise, raises_in}, MachineRaises.AreListed}
+use Rattle.shop_states.specs.inner.{Raises.{HasBlocks, IsOnMachine, IsRaisable, Raises}, Watchers.{AreKnown, Sees}}
 
 pub record CanNote {N : Type 0} (value : N → ℕ) (few : Bool) (ms : List ℕ) (raises : List (LaneRaise N))
     (raised : List ℕ) : Type 0 where

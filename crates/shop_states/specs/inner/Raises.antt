@@ -7,12 +7,10 @@
 --     IsRaisable greatest l nexts .. some raised heads fit into lanes
 --     AreWaiting heads marks         marked positions, in order, at each of which something waits
 --     Raises greatest l nexts ..     heads are raised least, and the ends of next operations kept up
-use Rattle.std.specs.Prelude.{◌≡◌, ℕ, ◌+◌, ◌*◌, ◌≤◌, ◌<◌, ◌^◌, List, [], length, slice_index}
-use Rattle.std.specs.Prelude.{slice_index_or}
+use Rattle.std.specs.Prelude.{◌≡◌, ℕ, ◌+◌, ◌*◌, ◌≤◌, ◌<◌, ◌^◌, List, [], length, slice_index, slice_index_or}
 use Rattle.shop_lanes.specs.Rows.{Rows}
 use Rattle.shop_layout.specs.Positions.{place_or, LayoutState, place}
-use Rattle.shop_states.specs.inner.LaneEnds.{IsEndOf}
-use Rattle.shop_states.specs.inner.RisingLists.{IsIn, Rises}
+use Rattle.shop_states.specs.inner.{LaneEnds.IsEndOf, RisingLists.{IsIn, Rises}}
 
 abbrev pub steps_of : LayoutState → ℕ → ℕ
 steps_of l j = length (slice_index_or l.places j [])
@@ -36,8 +34,7 @@ pub record IsIndexed (l : LayoutState) (n : ℕ) : Type 0 where
 -- of the n positions, that of the step behind each step
 pub record IsFollowed (l : LayoutState) (n : ℕ) : Type 0 where
   pub following : length l.following ≡ n
-  pub follows : (j k : ℕ) → k < steps_of l j
-      → slice_index l.following (place l j k) ≡ place_or n l.places j (k + 1)
+  pub follows : (j k : ℕ) → k < steps_of l j → slice_index l.following (place l j k) ≡ place_or n l.places j (k + 1)
 
 -- a step stands at position q
 pub record IsPlace (l : LayoutState) (q : ℕ) : Type 0 where
@@ -55,12 +52,10 @@ pub record IsRaised (l : LayoutState) (among : ℕ → Type 0) (e : ℕ) (old ne
   pub order : AreInRouteOrder l new
   pub reach : (q : ℕ) → among q → 0 < old q → e ≤ new q
 
-pub record IsLeastRaise (l : LayoutState) (among : ℕ → Type 0) (e : ℕ)
-    (old new : List ℕ) : Type 0 where
+pub record IsLeastRaise (l : LayoutState) (among : ℕ → Type 0) (e : ℕ) (old new : List ℕ) : Type 0 where
   pub positions : length new ≡ length old
   pub raised : IsRaised l among e (at_in old) (at_in new)
-  pub least : (other : ℕ → ℕ) → IsRaised l among e (at_in old) other → (q : ℕ)
-      → slice_index new q ≤ other q
+  pub least : (other : ℕ → ℕ) → IsRaised l among e (at_in old) other → (q : ℕ) → slice_index new q ≤ other q
 
 -- next operations are the first of their routes that wait
 pub record AreFirst (l : LayoutState) (nexts heads : List ℕ) : Type 0 where
@@ -71,8 +66,7 @@ pub record AreFirst (l : LayoutState) (nexts heads : List ℕ) : Type 0 where
 
 -- some raise fits into lanes, and so do the ends of next operations
 pub record IsRaisable (greatest : ℕ) (l : LayoutState) (nexts : List ℕ) (rows : Rows)
-    (among : ℕ → Type 0)
-    (e : ℕ) : Type 0 where
+    (among : ℕ → Type 0) (e : ℕ) : Type 0 where
   pub firsts : AreFirst l nexts rows.heads
   pub ends : length nexts ≤ length rows.ends
   pub indexed : IsIndexed l (length rows.heads)
@@ -91,8 +85,7 @@ pub record IsRaisable (greatest : ℕ) (l : LayoutState) (nexts : List ℕ) (row
 pub record KeepsEnds (greatest : ℕ) (nexts : List ℕ) (old new : Rows) : Type 0 where
   pub long : length new.ends ≡ length old.ends
   pub none : nexts ≡ [] → new.ends ≡ old.ends
-  pub each : (j : ℕ) → j < length nexts → IsEndOf greatest nexts old j
-      → IsEndOf greatest nexts new j
+  pub each : (j : ℕ) → j < length nexts → IsEndOf greatest nexts old j → IsEndOf greatest nexts new j
 
 pub record Raises (greatest : ℕ) (l : LayoutState) (nexts : List ℕ) (among : ℕ → Type 0) (e : ℕ)
     (old new : Rows) : Type 0 where
@@ -124,15 +117,13 @@ pub record HasBlocks (l : LayoutState) (n m : ℕ) : Type 0 where
   pub within : 8 * slice_index l.blocks (m + 1) ≤ n
 
 -- the end of what stands at a position was set, if it is one of these next operations
-pub record SetsEndAt (l : LayoutState) (nexts : List ℕ) (position begin : ℕ)
-    (old new : Rows) : Type 0 where
+pub record SetsEndAt (l : LayoutState) (nexts : List ℕ) (position begin : ℕ) (old new : Rows) : Type 0 where
   pub heads : new.heads ≡ old.heads
   pub times : new.times ≡ old.times
   pub tails : new.tails ≡ old.tails
   pub long : length new.ends ≡ length old.ends
   pub none : nexts ≡ [] → new.ends ≡ old.ends
-  pub here : slice_index l.jobs position < length nexts
-      → slice_index nexts (slice_index l.jobs position) ≡ position
+  pub here : slice_index l.jobs position < length nexts → slice_index nexts (slice_index l.jobs position) ≡ position
       → slice_index new.ends (slice_index l.jobs position) ≡ begin + slice_index old.times position
   pub others : (j : ℕ) → j < length nexts → (slice_index nexts j ≡ position → ⊥)
       → slice_index new.ends j ≡ slice_index old.ends j

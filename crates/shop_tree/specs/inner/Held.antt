@@ -11,8 +11,7 @@
 --     AreStates slot is_scratch ..    what the states of a walk hold is room for states, and what a dispatch needs
 use Rattle.std.specs.Prelude.{◌≡◌, ℕ, zero, suc, [], ◌∷◌, ◌++◌, Option, Some, None, List, length, map, All}
 use Rattle.std.specs.Global.{Box}
-use Rattle.shop_nodes.specs.{declared.halts.Open.Open, declared.halts.Waiting.Waiting}
-use Rattle.shop_nodes.specs.{declared.halts.Waiting.TheVariants.{Child, Rest}, Halts.word_at}
+use Rattle.shop_nodes.specs.{declared.halts.{Open.Open, Waiting.{Waiting, TheVariants.{Child, Rest}}}, Halts.word_at}
 use Rattle.shop_tree.specs.declared.held.Held.{Held}
 
 pub record Kept (S : Type 0) : Type 0 where

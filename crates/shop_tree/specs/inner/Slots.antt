@@ -48,8 +48,7 @@ module _ {D S C : Type 0} (g : Ghosts D S C) (s : WalkStates D S C) where
   pub record HasTaken (c : Candidate) (bound limit : ℕ) (answer : Option ℕ) (child : S) : Type 0 where
     pub told : (w : List ℕ) → IsStateIn w → g.IsCandidate d w c → bound ≡ lb (g.shop d) w
         → TellsBoundBelow limit (lb (g.shop d) (w ++ c.job ∷ [])) answer
-    pub state : (w : List ℕ) → IsStateIn w → g.IsCandidate d w c
-        → OnSome answer (g.IsStateOf d (w ++ c.job ∷ []) child)
+    pub state : (w : List ℕ) → IsStateIn w → g.IsCandidate d w c → OnSome answer (g.IsStateOf d (w ++ c.job ∷ []) child)
 
   pub record IsBranchingOf (b : Branching) : Type 0 where
     pub state : IsStateIn b.word.now

@@ -16,10 +16,9 @@ use Rattle.std.specs.Prelude.{◌≡◌, ℕ, ◌<◌, Option, Some, None, List,
 use Rattle.shop_bound.specs.Bound.{lb}
 use Rattle.shop_nodes.specs.Walking.{Walk}
 use Rattle.shop_states.specs.declared.dispatching.Dispatching.{Ghosts}
-use Rattle.shop_tree.specs.{declared.held.Held.Held, declared.walk_states.WalkStates.WalkStates}
-use Rattle.shop_tree.specs.{declared.walkers.Walker.Walker, inner.Held.{IsHeld, waiting_in}}
-use Rattle.shop_tree.specs.inner.{Slots.{HoldSlots, IsStateIn, Lists}, Walkers.{Stage, HasExpanded, HasFollowed}}
-use Rattle.shop_tree.specs.inner.Walkers.{IsInOrder}
+use Rattle.shop_tree.specs.declared.{held.Held.Held, walk_states.WalkStates.WalkStates, walkers.Walker.Walker}
+use Rattle.shop_tree.specs.inner.{Held.{IsHeld, waiting_in}, Slots.{HoldSlots, IsStateIn, Lists}}
+use Rattle.shop_tree.specs.inner.Walkers.{Stage, HasExpanded, HasFollowed, IsInOrder}
 
 abbrev pub AreHeld : {S : Type 0} → (List ℕ → S → Type 0) → List ℕ → List (Held S) → Type 0
 AreHeld is word hs = All (IsHeld is word) hs

@@ -16,9 +16,8 @@
 --     HasWalked s t whole  all that is left of this walk waits: nothing, unless the budget has ended
 use Rattle.std.specs.Prelude.{◌≡◌, ℕ, ◌+◌, ◌-◌, ◌*◌, ◌≤◌, ◌<◌, List, [], ◌∷◌, ◌++◌, length, drop, fold}
 use Rattle.shop_model.specs.Shop.{Shop}
-use Rattle.shop_tree.specs.{inner.Opens.AreWaiting, inner.Searching.{walk_stack, Adds, entered}}
-use Rattle.shop_nodes.specs.{Walking.{Walk, walk}, Nodes.words_of, declared.nodes.Node.Node}
-use Rattle.shop_nodes.specs.declared.halts.Waiting.{Waiting}
+use Rattle.shop_tree.specs.inner.{Opens.AreWaiting, Searching.{walk_stack, Adds, entered}}
+use Rattle.shop_nodes.specs.{Walking.{Walk, walk}, Nodes.words_of, declared.{nodes.Node.Node, halts.Waiting.Waiting}}
 
 pub record Stage : Type 0 where
   pub shop : Shop

@@ -1,9 +1,9 @@
-// Trials of a word's children: each in a copy of the state of the word, or in this state itself. Once most children are
-// bounded together, settled ones go on the stack without a trial.
+// Trials of a word's children: each in a copy of the state of the word, or in this state itself. Where children are
+// bounded together first, settled ones go on the stack without a trial.
 ghost use Rattle.std.specs.Prelude.{◌≡◌, ℕ, ◌≤◌, false, IsTrue, List, [], ◌∷◌, ◌++◌, All, IfOk, IfSome, OnOk, length};
-ghost use Rattle.shop_tree.specs.inner.Slots.{AreBounded, CanTake, CanTakeKnown, HasPutAll, HasTaken, HaveStayed};
+ghost use Rattle.shop_tree.specs.inner.Slots.{AreBounded, CanTake, CanTakeKnown, HasPutAll, HasTaken};
 ghost use Rattle.shop_tree.specs.inner.Slots.{HoldSlots, IsBranchingOf, IsStateIn, KeepSlots};
-ghost use Rattle.shop_tree.specs.inner.Tried.{AreSlotsFrom, HasGiven, HasMadeRoom, HasPutTried};
+ghost use Rattle.shop_tree.specs.inner.Tried.{AreSlotsFrom, HasGiven, HasPutTried};
 
 use super::{Branching, WalkStates};
 use crate::held::{Held, bare_top, put, strip_top};
@@ -66,8 +66,7 @@ impl<'l, D: Dispatching<S>, S: Drop> WalkStates<'l, D, S> {
         requires can { CanTakeKnown D.Dispatching self.old candidate bound }
         ensures sound { KeepSlots D.Dispatching self.old self.new }
         ensures taken { HasTaken D.Dispatching self.old candidate bound limit result self.new.trial.value }
-        ensures kept { (w : List ℕ) (j : ℕ)
-            → D.KnowsChild self.old.dispatcher.now self.old.scratch w j
+        ensures kept { (w : List ℕ) (j : ℕ) → D.KnowsChild self.old.dispatcher.now self.old.scratch w j
             → D.KnowsChild self.old.dispatcher.now self.new.scratch w j }
         ensures current { self.new.current.value ≡ self.old.current.value }
     {
@@ -103,32 +102,10 @@ impl<'l, D: Dispatching<S>, S: Drop> WalkStates<'l, D, S> {
         false
     }
 
-    /// If no state is spare and none may be allocated, takes the state of the topmost sibling, for a child of the bound
-    /// `bound` that goes above that sibling. So at least the child that is walked next keeps a state. Siblings lie from
-    /// index `from` of the stack on. Fails with `NoMemory` if memory runs out.
-    #[inline(always)]
-    fn make_room(
-        &mut self,
-        stack: &mut Vec<Held<S>>,
-        from: usize,
-        bound: u64,
-    ) -> Result<(), NoMemory>
-        requires sound { HoldSlots D.Dispatching self.old }
-        requires slots { AreSlotsFrom (D.IsSlot self.old.dispatcher.now) from stack.old.items }
-        ensures sound { KeepSlots D.Dispatching self.old self.new }
-        ensures stripped { HasMadeRoom from stack.old.items stack.new.items }
-        ensures stayed { OnOk result (HaveStayed self.old self.new) }
-    {
-        if self.free() > 0 {
-            return Ok(());
-        }
-        let state = strip_top(stack, from, bound);
-        self.give_back(state)
-    }
-
-    /// Puts `child`, whose state is the trial's, among its siblings on the stack, which lie from index `from` on. The
-    /// child stays without a state if no other one can take the trial's place. Fails with `NoMemory` if memory runs
-    /// out.
+    /// Puts `child`, whose state is the trial's, among its siblings on the stack, which lie from index `from` on. If no
+    /// state is spare and none may be allocated, first gives back that of the topmost sibling, if it has one and the
+    /// child goes above it, so that it can take the trial's place: what is walked next then keeps a state. If no state
+    /// can take that place, the child goes without one. Fails with `NoMemory` if memory runs out.
     #[inline(always)]
     pub(crate) fn put_tried(
         &mut self,
@@ -145,7 +122,10 @@ impl<'l, D: Dispatching<S>, S: Drop> WalkStates<'l, D, S> {
         ensures current { OnOk result (self.new.current.value ≡ self.old.current.value) }
         ensures scratch { OnOk result (self.new.scratch ≡ self.old.scratch) }
     {
-        self.make_room(stack, from, child.bound)?;
+        if self.free() == 0 {
+            let state = strip_top(stack, from, child.bound);
+            self.give_back(state)?;
+        }
         let state = self.take_trial(alloc)?;
         put(stack, from, child, state)
     }

@@ -1,5 +1,4 @@
-use Rattle.std.proofs.Common.{rules, ℕ, List, ◌∙◌, ap, refl, arith, length}
-use Rattle.std.proofs.lemmas.List.{length-set}
+use Rattle.std.proofs.{Common.{rules, ℕ, List, ◌∙◌, ap, refl, arith, length}, lemmas.List.length-set}
 use Rattle.shop_layout.proofs.Written.{written_vec}
 use Rattle.shop_states.proofs.Trials.{can_delay, its_job, its_position, trial_keep, trial_kept}
 use Rattle.shop_states.proofs.advances.advance.Goals as goal

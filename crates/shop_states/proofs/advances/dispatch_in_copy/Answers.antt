@@ -1,5 +1,4 @@
-use Rattle.std.proofs.Common.{ℕ, List, ◌∙◌, ap, arith, length}
-use Rattle.std.proofs.lemmas.List.{length-set}
+use Rattle.std.proofs.{Common.{ℕ, List, ◌∙◌, ap, arith, length}, lemmas.List.length-set}
 use Rattle.shop_layout.proofs.Written.{written_vec}
 use Rattle.shop_states.proofs.Trials.{its_job}
 use Rattle.shop_states.proofs.advances.dispatch_in_copy.Goals as goal

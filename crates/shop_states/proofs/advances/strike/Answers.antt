@@ -1,5 +1,4 @@
-use Rattle.std.proofs.Common.{ℕ, List, ◌∙◌, ap, get_or, length, refl, arith}
-use Rattle.std.proofs.lemmas.List.{length-set}
+use Rattle.std.proofs.{Common.{ℕ, List, ◌∙◌, ap, get_or, length, refl, arith}, lemmas.List.length-set}
 use Rattle.shop_layout.proofs.Written.{written_vec}
 use Rattle.shop_states.proofs.RaiseSteps.{put_is}
 use Rattle.shop_states.proofs.Strikes.{its_job, its_position, lists_long, struck_keep, struck_kept, struck_times}

@@ -1,7 +1,6 @@
 use Rattle.std.proofs.Common.{◌≡◌, ◌*◌, List, [], ◌∷◌, ℕ, ap, get_or, length, map, refl, subst, sym, arith}
 use Rattle.shop_states.specs.inner.LaneChoices.{IsAlone}
-use Rattle.shop_states.proofs.ConflictSets.{all_told, can_list, sole, tells}
-use Rattle.shop_states.proofs.OwnSpans.{nobody}
+use Rattle.shop_states.proofs.{ConflictSets.{all_told, can_list, sole, tells}, OwnSpans.nobody}
 use Rattle.shop_states.proofs.candidate_lists.list_candidates.Goals as goal
 
 pub returns-in_default-clause-are : goal.returns-in_default-clause-are

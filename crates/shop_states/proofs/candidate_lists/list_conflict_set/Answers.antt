@@ -1,8 +1,6 @@
 use Rattle.std.proofs.Common.{◌*◌, ◌++◌, ℕ, List, [], length, map, refl, sym, ap, subst, arith}
 use Rattle.std.proofs.lemmas.List.{length-append}
-use Rattle.shop_states.specs.inner.Candidates.{IsTold, ListsOwn, empty, told_at}
-use Rattle.shop_states.specs.inner.JobSets.{members}
-use Rattle.shop_states.specs.inner.RisingLists.{IsIn}
+use Rattle.shop_states.specs.inner.{Candidates.{IsTold, ListsOwn, empty, told_at}, JobSets.members, RisingLists.IsIn}
 use Rattle.shop_states.proofs.JobSets.{all_words, in_word, room_for_word, word_more}
 use Rattle.shop_states.proofs.candidate_lists.list_conflict_set.Goals as goal
 

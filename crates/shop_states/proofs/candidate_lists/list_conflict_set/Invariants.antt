@@ -1,6 +1,5 @@
 use Rattle.std.proofs.Common.{◌≡◌, ℕ, List, ◌+◌, ◌*◌, ◌++◌, drop, length, map, vec_capacity}
-use Rattle.shop_states.specs.inner.Candidates.{ListsOwn, told_at}
-use Rattle.shop_states.specs.inner.JobSets.{members}
+use Rattle.shop_states.specs.inner.{Candidates.{ListsOwn, told_at}, JobSets.members}
 use Rattle.shop_states.proofs.candidate_lists.list_conflict_set.Given as goal
 
 abbrev pub invariant-loop-word : goal.invariant-loop-word

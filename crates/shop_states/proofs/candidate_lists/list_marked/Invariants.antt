@@ -1,6 +1,5 @@
 use Rattle.std.proofs.Common.{◌≡◌, ℕ, List, ◌+◌, ◌++◌, length, map, vec_capacity}
-use Rattle.shop_states.specs.inner.Candidates.{IsTold, ListsOwn, told_at}
-use Rattle.shop_states.specs.inner.RisingLists.{IsIn}
+use Rattle.shop_states.specs.inner.{Candidates.{IsTold, ListsOwn, told_at}, RisingLists.IsIn}
 use Rattle.shop_states.proofs.candidate_lists.list_marked.Given as goal
 
 abbrev pub invariant-loop-job : goal.invariant-loop-job

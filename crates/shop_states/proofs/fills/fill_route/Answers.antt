@@ -1,8 +1,7 @@
 use Rattle.std.proofs.Common.{◌+◌, ◌∙◌, arith, refl}
 use Rattle.shop_layout.specs.Lanes.{rows_of}
 use Rattle.shop_states.proofs.FillTurns.{filling_begins, filling_on, job_filled, leg_few, leg_fits, leg_machine_within}
-use Rattle.shop_states.proofs.FillTurns.{leg_there}
-use Rattle.shop_states.proofs.RaiseSteps.{put_is}
+use Rattle.shop_states.proofs.{FillTurns.leg_there, RaiseSteps.put_is}
 use Rattle.shop_states.proofs.fills.fill_route.Goals as goal
 
 pub loop-routes-init : goal.loop-routes-init

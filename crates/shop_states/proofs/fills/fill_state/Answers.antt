@@ -1,8 +1,6 @@
 use Rattle.std.proofs.Common.{◌∙◌, arith}
-use Rattle.shop_states.proofs.FilledJobs.{as_many_ends, at_leg, nexts_all, nexts_more}
-use Rattle.shop_states.proofs.FilledStates.{as_many, can_fill, filled_kept}
-use Rattle.shop_states.proofs.FillTurns.{jobs_all, jobs_more}
-use Rattle.shop_states.proofs.PlacedNexts.{placement_at}
+use Rattle.shop_states.proofs.{FilledJobs.{as_many_ends, at_leg, nexts_all, nexts_more}, PlacedNexts.placement_at}
+use Rattle.shop_states.proofs.{FilledStates.{as_many, can_fill, filled_kept}, FillTurns.{jobs_all, jobs_more}}
 use Rattle.shop_states.proofs.fills.fill_state.Goals as goal
 
 pub fill_job-requires-clause-fill : goal.fill_job-requires-clause-fill

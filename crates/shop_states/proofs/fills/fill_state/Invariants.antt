@@ -1,9 +1,6 @@
-use Rattle.shop_model.specs.Placements.{IsPlacement}
-use Rattle.shop_model.specs.Word.{Placing}
+use Rattle.shop_model.specs.{Placements.IsPlacement, Word.Placing}
 use Rattle.shop_states.specs.inner.LaidLanes.{rows_in}
-use Rattle.shop_states.proofs.FilledJobs.{AreNextsSet}
-use Rattle.shop_states.proofs.FillTurns.{AreFilledUpTo}
-use Rattle.shop_states.proofs.PlacedNexts.{placement_at}
+use Rattle.shop_states.proofs.{FilledJobs.AreNextsSet, FillTurns.AreFilledUpTo, PlacedNexts.placement_at}
 use Rattle.shop_states.proofs.fills.fill_state.Given as goal
 
 abbrev pub invariant-loop-job : goal.invariant-loop-job

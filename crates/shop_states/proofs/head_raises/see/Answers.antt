@@ -1,7 +1,5 @@
-use Rattle.std.proofs.Common.{List, sym, subst, arith}
-use Rattle.std.proofs.lemmas.List.{length-map}
-use Rattle.shop_states.specs.inner.HeadRaises.{Raise, raise_in, raises_in}
-use Rattle.shop_states.specs.inner.MachineRaises.{AreListed}
+use Rattle.std.proofs.{Common.{List, sym, subst, arith}, lemmas.List.length-map}
+use Rattle.shop_states.specs.inner.{HeadRaises.{Raise, raise_in, raises_in}, MachineRaises.AreListed}
 use Rattle.shop_states.proofs.RaisedMachines.{listed_more, widened_in}
 use Rattle.shop_states.proofs.head_raises.see.Goals as goal
 

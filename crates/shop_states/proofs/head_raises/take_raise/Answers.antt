@@ -1,5 +1,4 @@
-use Rattle.std.proofs.Common.{arith}
-use Rattle.std.proofs.lemmas.List.{get_or-map, map-set}
+use Rattle.std.proofs.{Common.arith, lemmas.List.{get_or-map, map-set}}
 use Rattle.shop_states.proofs.head_raises.take_raise.Goals as goal
 
 pub returns-clause-raise : goal.returns-clause-raise

@@ -1,10 +1,8 @@
-use Rattle.std.proofs.Common.{List, subst, sym, refl, arith}
-use Rattle.std.proofs.lemmas.List.{length-map}
+use Rattle.std.proofs.{Common.{List, subst, sym, refl, arith}, lemmas.List.length-map}
 use Rattle.shop_layout.specs.Lanes.{lanes_on}
-use Rattle.shop_states.specs.inner.HeadRaises.{Raise, nothing_raised, raise_in, raises_in}
-use Rattle.shop_states.specs.inner.LaidLanes.{laid_rows}
-use Rattle.shop_states.proofs.LookedUpRows.{can_bound, cut_ordered, cut_span, cut_within, its_blocks}
-use Rattle.shop_states.proofs.LookedUpRows.{its_known, its_small}
+use Rattle.shop_states.specs.inner.{HeadRaises.{Raise, nothing_raised, raise_in, raises_in}, LaidLanes.laid_rows}
+use Rattle.shop_states.proofs.LookedUpRows.{can_bound, cut_ordered, cut_span, cut_within, its_blocks, its_known}
+use Rattle.shop_states.proofs.LookedUpRows.{its_small}
 use Rattle.shop_states.proofs.RaisedMachines.{IsTakenSo, first_known, taken_all, taken_more, taken_passed}
 use Rattle.shop_states.proofs.lane_bounds.take_spans_of.Goals as goal
 

@@ -1,7 +1,5 @@
-use Rattle.std.proofs.Common.{ℕ, List, rules, subst, arith}
-use Rattle.shop_states.specs.inner.JobSets.{HasPut}
-use Rattle.shop_states.specs.inner.LaneChoices.{IsJobBelow}
-use Rattle.shop_states.specs.inner.Raises.{IsInBlocks}
+use Rattle.std.proofs.Common.{ℕ, ◌+◌, ◌≡◌, List, rules, subst, arith}
+use Rattle.shop_states.specs.inner.{JobSets.HasPut, LaneChoices.IsJobBelow, Raises.IsInBlocks, RisingLists.HasGathered}
 use Rattle.shop_states.proofs.LaneChoices.{gathered_below, gathered_with, have_all, marked_within, more_gathered}
 use Rattle.shop_states.proofs.lane_choices.conflict_set.Goals as goal
 
@@ -13,16 +11,56 @@ gather_marked-requires g c =
     are.marks
     in (search rules, (λ q h. let here = within q h in omega arith, have_all c.requires.jobs))
 
+pub loop-from-init : goal.loop-from-init
+loop-from-init g c =
+    let blocks = c.args.blocks in let are = c.requires.blocks in let last = are.last in let high = are.within
+    in (
+      c.put.new.self,
+      record {
+        put = subst (λ (old : List ℕ). HasPut blocks.chosen old c.put.new.self) c.new-jobs.ensures c.put.ensures;
+        ordered = are.ordered;
+        within = are.last;
+        gathered = gathered_below (g.L.StateLanes.heads c.args.lanes.now) blocks.from blocks.to blocks.end are.ordered
+            (omega arith) are.marks c.gather_marked.ensures;
+      },
+    )
+
+pub gather_marked-requires-in-loop-from : goal.gather_marked-requires-in-loop-from
+gather_marked-requires-in-loop-from g c =
+    let a = c.min.ensures in let d = c.loop-from-test.true in let many = c.requires.jobs.many
+    in let high = c.requires.blocks.within in let heads = g.L.StateLanes.heads c.args.lanes.now
+    in let within = marked_within heads c.loop-from.from (c.loop-from.from + c.min.result) c.args.blocks.end
+    (omega arith) (omega arith) c.below-below.ensures
+    in (search rules, (λ q h. let here = within q h in omega arith, have_all c.requires.jobs))
+
+pub loop-from-preserved : goal.loop-from-preserved
+loop-from-preserved g c =
+    let a = c.min.ensures in let d = c.loop-from-test.true in let high = c.requires.blocks.within
+    in let now = c.loop-from.invariant.1
+    in let low = now.ordered
+    in let heads = g.L.StateLanes.heads c.args.lanes.now
+    in (
+      c.loop-from.invariant.0,
+      record {
+        put = now.put;
+        ordered = omega arith;
+        within = omega arith;
+        gathered = more_gathered c.args.grid.now heads c.args.blocks.end c.args.blocks.from c.loop-from.from
+            (c.loop-from.from + c.min.result) c.loop-from.invariant.0 c.loop-from.jobs
+            c.gather_marked-in-loop-from.new.jobs low (omega arith) now.gathered (gathered_below heads c.loop-from.from
+            (c.loop-from.from + c.min.result) c.args.blocks.end (omega arith) (omega arith) c.below-below.ensures
+            c.gather_marked-in-loop-from.ensures);
+      },
+    )
+
 pub returns : goal.returns
 returns g c =
-    let l = c.args.grid.now
-    in let heads = g.L.StateLanes.heads c.args.lanes.now
-    in let blocks = c.args.blocks
-    in let are = c.requires.blocks in let last = are.last in let high = are.within
-    in let one = c.put.new.self
-    in let js = c.gather_in_blocks.new.jobs
-    in gathered_with blocks.chosen (IsJobBelow l heads (IsInBlocks blocks.from blocks.behind) blocks.end) one js
-    (subst (λ (old : List ℕ). HasPut blocks.chosen old one) c.new-jobs.ensures c.put.ensures)
-    (more_gathered l heads blocks.end blocks.from blocks.to blocks.behind one c.gather_marked.new.jobs js are.ordered
-    are.last (gathered_below heads blocks.from blocks.to blocks.end are.ordered (omega arith) are.marks
-    c.gather_marked.ensures) c.gather_in_blocks.ensures) c.rises.ensures
+    let blocks = c.args.blocks
+    in let so = c.loop-from.invariant.1
+    in let within = so.within in let past = c.loop-from-test.false
+    in let end : c.loop-from.from ≡ blocks.behind = omega arith
+    in let below = λ (to : ℕ). IsJobBelow c.args.grid.now (g.L.StateLanes.heads c.args.lanes.now)
+    (IsInBlocks blocks.from to) blocks.end
+    in gathered_with blocks.chosen (below blocks.behind) c.loop-from.invariant.0 c.loop-from.jobs so.put
+    (subst (λ (to : ℕ). HasGathered (below to) c.loop-from.invariant.0 c.loop-from.jobs) end so.gathered)
+    c.rises.ensures

@@ -1,6 +1,5 @@
 use Rattle.std.proofs.Common.{rules, arith}
-use Rattle.shop_states.proofs.JobLegs.{first_small}
-use Rattle.shop_states.proofs.PlacedNexts.{begins_behind, none_at}
+use Rattle.shop_states.proofs.{JobLegs.first_small, PlacedNexts.{begins_behind, none_at}}
 use Rattle.shop_states.proofs.placing.place_none.Goals as goal
 
 pub overflow_cast-next_legs : goal.overflow_cast-next_legs

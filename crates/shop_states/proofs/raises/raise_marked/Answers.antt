@@ -1,10 +1,8 @@
 use Rattle.std.proofs.Common.{◌≤◌, ◌∙◌, ℕ, arith, get_or, subst, sym}
 use Rattle.shop_states.specs.inner.{Raises.IsPosition, RisingLists.IsIn}
-use Rattle.shop_states.proofs.RaisedEnds.{mid_raisable, raised_with_ends, raised_within}
-use Rattle.shop_states.proofs.RaisedMachines.{lengths_in}
-use Rattle.shop_states.proofs.RaiseLoops.{marks_begin, popped_here, popped_within, popped_waits}
-use Rattle.shop_states.proofs.RaiseLoops.{popped_raisable, marks_on, marks_past, marks_end}
-use Rattle.shop_states.proofs.Watching.{sees_both, sees_long, sees_none}
+use Rattle.shop_states.proofs.{RaisedEnds.{mid_raisable, raised_with_ends, raised_within}, RaisedMachines.lengths_in}
+use Rattle.shop_states.proofs.RaiseLoops.{marks_begin, popped_here, popped_within, popped_waits, popped_raisable}
+use Rattle.shop_states.proofs.{RaiseLoops.{marks_on, marks_past, marks_end}, Watching.{sees_both, sees_long, sees_none}}
 use Rattle.shop_states.proofs.raises.raise_marked.Goals as goal
 
 pub loop-position-init : goal.loop-position-init

@@ -1,8 +1,5 @@
 use Rattle.std.proofs.Common.{◌≡◌, length}
-use Rattle.shop_states.specs.inner.LaidLanes.{rows_in}
-use Rattle.shop_states.specs.inner.HeadRaises.{raises_in}
-use Rattle.shop_states.specs.inner.MachineRaises.{AreListed}
-use Rattle.shop_states.specs.inner.RisingLists.{IsIn}
+use Rattle.shop_states.specs.inner.{LaidLanes.rows_in, HeadRaises.raises_in, MachineRaises.AreListed, RisingLists.IsIn}
 use Rattle.shop_states.specs.inner.Watchers.{Sees}
 use Rattle.shop_states.proofs.RaiseLoops.{AreMarksRaised}
 use Rattle.shop_states.proofs.raises.raise_marked.Given as goal

@@ -1,10 +1,8 @@
-use Rattle.std.proofs.Common.{rules, refl, arith}
-use Rattle.std.proofs.lemmas.List.{length-map}
+use Rattle.std.proofs.{Common.{rules, refl, arith}, lemmas.List.length-map}
 use Rattle.shop_states.specs.inner.HeadRaises.{raise_in}
-use Rattle.shop_states.proofs.RaisedMachines.{lengths_in}
+use Rattle.shop_states.proofs.{RaisedMachines.lengths_in, RaisedEnds.raised_within}
 use Rattle.shop_states.proofs.RaiseSteps.{begun_following, ended_at, followed, is_there, leg_fits, leg_known}
 use Rattle.shop_states.proofs.RaiseSteps.{leg_machine, position_up_to, put_is, read_there}
-use Rattle.shop_states.proofs.RaisedEnds.{raised_within}
 use Rattle.shop_states.proofs.Watching.{notes_first, notes_next, sees_first, sees_long, sees_next}
 use Rattle.shop_states.proofs.raises.raise_route.Goals as goal
 

@@ -1,7 +1,6 @@
 use Rattle.std.proofs.Common.{◌∙◌, refl, arith}
 use Rattle.shop_states.proofs.ChildrenBounds.{bound_small, children_can, children_known, children_settled}
-use Rattle.shop_states.proofs.ChildrenBounds.{late_raises_fit, machine_blocks}
-use Rattle.shop_states.proofs.LateHeads.{can_end}
+use Rattle.shop_states.proofs.{ChildrenBounds.{late_raises_fit, machine_blocks}, LateHeads.can_end}
 use Rattle.shop_states.proofs.Trials.{same_machines}
 use Rattle.shop_states.proofs.siblings.bound_children.Goals as goal
 

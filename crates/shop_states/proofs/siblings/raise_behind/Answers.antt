@@ -1,10 +1,8 @@
-use Rattle.std.proofs.Common.{refl, arith}
-use Rattle.std.proofs.lemmas.List.{length-map}
-use Rattle.shop_states.specs.inner.HeadRaises.{raise_in}
+use Rattle.std.proofs.{Common.{refl, arith}, lemmas.List.length-map}
+use Rattle.shop_states.specs.inner.{HeadRaises.raise_in, Watchers.no_floor}
 use Rattle.shop_states.proofs.BehindRaises.{its_leg, its_place, late_enough, leg_up_to, next_machine, next_raisable}
 use Rattle.shop_states.proofs.BehindRaises.{next_read, next_there, next_waits, raised_behind}
 use Rattle.shop_states.proofs.Watching.{noted_behind, watch_none}
-use Rattle.shop_states.specs.inner.Watchers.{no_floor}
 use Rattle.shop_states.proofs.siblings.raise_behind.Goals as goal
 
 pub time-requires : goal.time-requires

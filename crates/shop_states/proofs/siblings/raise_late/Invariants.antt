@@ -1,10 +1,6 @@
 use Rattle.std.proofs.Common.{◌≤◌, ◌-◌, length}
-use Rattle.shop_states.specs.inner.HeadRaises.{raises_in}
-use Rattle.shop_states.specs.inner.LaidLanes.{rows_in}
-use Rattle.shop_states.specs.inner.MachineRaises.{AreListed}
-use Rattle.shop_states.specs.inner.Raises.{IsInBlocks}
-use Rattle.shop_states.specs.inner.Siblings.{HasRaisedBehind, IsLateAt}
-use Rattle.shop_states.specs.inner.Watchers.{Watches, no_floor}
+use Rattle.shop_states.specs.inner.{HeadRaises.raises_in, LaidLanes.rows_in, MachineRaises.AreListed, Raises.IsInBlocks}
+use Rattle.shop_states.specs.inner.{Siblings.{HasRaisedBehind, IsLateAt}, Watchers.{Watches, no_floor}}
 use Rattle.shop_states.proofs.BehindRaises.{AreLateUpTo}
 use Rattle.shop_states.proofs.siblings.raise_late.Given as goal
 

@@ -1,5 +1,4 @@
-use Rattle.std.proofs.Common.{◌≡◌, ℕ, ◌∙◌, ap, length, take, arith, subst}
-use Rattle.std.proofs.lemmas.List.{length-take, length-take-le}
+use Rattle.std.proofs.{Common.{◌≡◌, ℕ, ◌∙◌, ap, length, take, arith, subst}, lemmas.List.{length-take, length-take-le}}
 use Rattle.shop_bound.proofs.WordLengths.{word_within}
 use Rattle.shop_states.proofs.LongerBeginnings.{gone_on}
 use Rattle.shop_states.proofs.beginnings.Beginning.go_on.Goals as goal
@@ -16,5 +15,5 @@ returns-clause-is g c =
     subst (λ (n : ℕ). take n c.write_front.new.row ≡ take to c.args.path.now)
     (length-take-le to c.args.path.now (omega arith)) c.write_front.ensures.front
     in gone_on c.args.laid_out.now.shop c.args.laid_out.now.layout c.args.self.now c.requires.is c.args.path.now
-    c.write_front.new.row to (omega arith) (c.write_front.ensures.long ∙ ap length c.as_mut_slice-4.ensures.value) same
+    c.write_front.new.row to (omega arith) (c.write_front.ensures.long ∙ ap length c.as_mut_slice.ensures.value) same
     c.place_from.new.next_legs c.place_from.new.ready c.place_from.new.free c.place_from.ensures

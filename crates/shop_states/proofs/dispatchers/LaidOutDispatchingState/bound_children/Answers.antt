@@ -1,16 +1,12 @@
 use Rattle.std.proofs.Common.{◌≡◌, ◌∙◌, ℕ, ◌++◌, ◌∷◌, [], List, ap, get_or, max, refl, sym, subst, arith}
 use Rattle.std.proofs.lemmas.List.{get_or_default}
 use Rattle.shop_bound.specs.Bound.{lb}
-use Rattle.shop_layout.specs.Lanes.{rows_of}
-use Rattle.shop_layout.specs.Positions.{LayoutState}
+use Rattle.shop_layout.specs.{Lanes.rows_of, Positions.LayoutState}
 use Rattle.shop_layout.proofs.Written.{written_vec}
-use Rattle.shop_states.specs.declared.dispatching.Candidate.{Candidate}
-use Rattle.shop_states.specs.inner.Advances.{IsAdvancing}
+use Rattle.shop_states.specs.{declared.dispatching.Candidate.Candidate, inner.Advances.IsAdvancing}
 use Rattle.shop_states.specs.inner.Ceilings.{AreChildCeilings}
-use Rattle.shop_states.proofs.AskedStates.{bound_behind, bound_there, listed_here}
-use Rattle.shop_states.proofs.ListedCandidates.{are_siblings, listed_at}
-use Rattle.shop_states.proofs.OwnSpans.{candidate_advancing}
-use Rattle.shop_states.proofs.ReadStates.{candidate_read, kept_copied}
+use Rattle.shop_states.proofs.{AskedStates.{bound_behind, bound_there, listed_here}, OwnSpans.candidate_advancing}
+use Rattle.shop_states.proofs.{ListedCandidates.{are_siblings, listed_at}, ReadStates.{candidate_read, kept_copied}}
 use Rattle.shop_states.proofs.dispatchers.LaidOutDispatchingState.bound_children.Goals as goal
 
 pub bound_children-requires-clause-can : goal.bound_children-requires-clause-can
@@ -31,15 +27,15 @@ returns-clause-settled g c = λ w limit others of bound_is lists k d here enough
     in let none : Candidate = record { job = 0; own = 0 }
     in let own = get_or cs k d
     in let same : (get_or cs k none).job ≡ own.job = ap (λ (x : Candidate). x.job) (get_or_default cs k none d here)
-    in let copied = kept_copied c.grid.ensures.grid c.copy_from.ensures.heads c.copy_from.ensures.ends
-    c.as_slice.ensures.value of.kept
+    in let copied = kept_copied c.grid-grid.ensures.grid c.copy_from.ensures.heads c.copy_from.ensures.ends
+    c.as_slice-next.ensures.value of.kept
     in let candidate = (listed_at lists k d here).1
     in let advancing = candidate_advancing copied own.job candidate.fits own.own
-    (candidate_read c.grid.ensures.grid candidate) c.as_slice.result.now refl c.args.bound (bound_there of bound_is)
-    (max c.args.bound own.own) refl
-    in let its = subst (λ (j : ℕ). IsAdvancing g.L.StateLanes.GREATEST shop w c.grid.result.now
-    (rows_of c.grid.result.now (g.L.StateLanes.heads c.copy_from.new.self) (g.L.StateLanes.ends c.copy_from.new.self))
-    c.as_slice.result.now j (max c.args.bound own.own)) (sym same) advancing
+    (candidate_read c.grid-grid.ensures.grid candidate) c.as_slice-next.result.now refl c.args.bound
+    (bound_there of bound_is) (max c.args.bound own.own) refl
+    in let its = subst (λ (j : ℕ). IsAdvancing g.L.StateLanes.GREATEST shop w c.grid-grid.result.now
+    (rows_of c.grid-grid.result.now (g.L.StateLanes.heads c.copy_from.new.self) (g.L.StateLanes.ends
+    c.copy_from.new.self)) c.as_slice-next.result.now j (max c.args.bound own.own)) (sym same) advancing
     in sym (bound_behind of own.job candidate.fits)
     ∙ subst (λ (j : ℕ). lb shop (w ++ j ∷ []) ≡ max c.args.bound own.own) same
     (c.bound_children.ensures.settled shop w copied (are_siblings of.kept.kept.word (listed_here of lists))
@@ -52,16 +48,16 @@ returns-clause-known g c = λ w limit others of bound_is lists k d here.
     in let none : Candidate = record { job = 0; own = 0 }
     in let same : (get_or cs k none).job ≡ (get_or cs k d).job =
     ap (λ (x : Candidate). x.job) (get_or_default cs k none d here)
-    in let copied = kept_copied c.grid.ensures.grid c.copy_from.ensures.heads c.copy_from.ensures.ends
-    c.as_slice.ensures.value of.kept
+    in let copied = kept_copied c.grid-grid.ensures.grid c.copy_from.ensures.heads c.copy_from.ensures.ends
+    c.as_slice-next.ensures.value of.kept
     in let known = c.bound_children.ensures.known shop w copied
     (are_siblings of.kept.kept.word (listed_here of lists)) (bound_there of bound_is) k here
-    in let whole = written_vec c.args.scratch.now.ceilings c.as_mut_slice.result.now c.bound_children.new.ceilings
-    c.as_mut_slice.ensures.value c.bound_children.ensures.long
+    in let whole = written_vec c.args.scratch.now.ceilings c.as_mut_slice-ceilings.result.now
+    c.bound_children.new.ceilings c.as_mut_slice-ceilings.ensures.value c.bound_children.ensures.long
     in subst (λ (xs : List ℕ). AreChildCeilings shop w c.args.self.now.layout (get_or cs k d).job xs) (sym whole)
     (subst (λ (l : LayoutState). AreChildCeilings shop w l (get_or cs k d).job c.bound_children.new.ceilings)
-    c.grid.ensures.grid
-    (subst (λ (j : ℕ). AreChildCeilings shop w c.grid.result.now j c.bound_children.new.ceilings) same known))
+    c.grid-grid.ensures.grid
+    (subst (λ (j : ℕ). AreChildCeilings shop w c.grid-grid.result.now j c.bound_children.new.ceilings) same known))
 
 pub returns-clause-room : goal.returns-clause-room
 returns-clause-room g c = grind arith

@@ -1,11 +1,8 @@
-use Rattle.std.proofs.Common.{rules, ℕ, List, ◌∙◌, ap, arith, length}
-use Rattle.std.proofs.lemmas.List.{length-set}
+use Rattle.std.proofs.{Common.{rules, ℕ, List, ◌∙◌, ap, arith, length}, lemmas.List.length-set}
 use Rattle.shop_layout.specs.Positions.{LayoutState}
 use Rattle.shop_layout.proofs.Written.{written_vec}
-use Rattle.shop_states.proofs.CandidateDispatches.{candidate_can, candidate_told}
-use Rattle.shop_states.proofs.AskedStates.{bound_there, kept_on, told_behind}
-use Rattle.shop_states.proofs.ReadStates.{kept_read}
-use Rattle.shop_states.proofs.Trials.{its_job, its_position}
+use Rattle.shop_states.proofs.{CandidateDispatches.{candidate_can, candidate_told}, ReadStates.kept_read}
+use Rattle.shop_states.proofs.{AskedStates.{bound_there, kept_on, told_behind}, Trials.{its_job, its_position}}
 use Rattle.shop_states.proofs.dispatchers.LaidOutDispatchingState.dispatch_below.Goals as goal
 
 pub of-dispatch-requires : goal.of-dispatch-requires

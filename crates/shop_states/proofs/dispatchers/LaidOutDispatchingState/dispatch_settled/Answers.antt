@@ -1,6 +1,5 @@
 use Rattle.std.proofs.Common.{rules, refl}
-use Rattle.shop_states.proofs.AskedStates.{kept_on}
-use Rattle.shop_states.proofs.ReadStates.{kept_read}
+use Rattle.shop_states.proofs.{AskedStates.kept_on, ReadStates.kept_read}
 use Rattle.shop_states.proofs.dispatchers.LaidOutDispatchingState.dispatch_settled.Goals as goal
 
 pub of-dispatch-requires : goal.of-dispatch-requires

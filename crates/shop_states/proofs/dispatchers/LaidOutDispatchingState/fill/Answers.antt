@@ -1,8 +1,7 @@
 use Rattle.std.proofs.Common.{arith, ◌∙◌, ap, length, refl, sym}
 use Rattle.shop_layout.proofs.Written.{written_vec}
 use Rattle.shop_bound.proofs.Renumbered.{numbers_alike}
-use Rattle.shop_states.proofs.AskedStates.{kept_for}
-use Rattle.shop_states.proofs.ReadStates.{kept_read}
+use Rattle.shop_states.proofs.{AskedStates.kept_for, ReadStates.kept_read}
 use Rattle.shop_states.proofs.dispatchers.LaidOutDispatchingState.fill.Goals as goal
 
 pub place_word-requires-clause-word : goal.place_word-requires-clause-word

@@ -1,12 +1,9 @@
 use Rattle.std.proofs.Common.{arith, ◌≡◌, ℕ, List, refl, subst}
 use Rattle.shop_model.specs.Shop.{Shop}
-use Rattle.shop_layout.specs.Lanes.{rows_of}
-use Rattle.shop_layout.specs.Positions.{LayoutState}
-use Rattle.shop_states.specs.declared.dispatching.Candidate.{Candidate}
-use Rattle.shop_states.specs.inner.Candidates.{AreCandidatesOf}
+use Rattle.shop_layout.specs.{Lanes.rows_of, Positions.LayoutState}
+use Rattle.shop_states.specs.{declared.dispatching.Candidate.Candidate, inner.Candidates.AreCandidatesOf}
 use Rattle.shop_states.specs.inner.LaneStates.{IsKeptInLanes}
-use Rattle.shop_states.proofs.AskedStates.{listed_there}
-use Rattle.shop_states.proofs.ReadStates.{kept_read}
+use Rattle.shop_states.proofs.{AskedStates.listed_there, ReadStates.kept_read}
 use Rattle.shop_states.proofs.dispatchers.LaidOutDispatchingState.list_candidates.Goals as goal
 
 gathered : (greatest : ℕ) (shop : Shop) (l read : LayoutState) → read ≡ l → (heads ends nexts : List ℕ)

@@ -1,6 +1,5 @@
 use Rattle.std.proofs.Common.{arith, ◌∙◌, refl, sym}
-use Rattle.shop_states.proofs.AskedStates.{kept_on, set_there}
-use Rattle.shop_states.proofs.ReadStates.{kept_read}
+use Rattle.shop_states.proofs.{AskedStates.{kept_on, set_there}, ReadStates.kept_read}
 use Rattle.shop_states.proofs.dispatchers.LaidOutDispatchingState.strike.Goals as goal
 
 pub strike-requires : goal.strike-requires

@@ -1,8 +1,7 @@
 use Rattle.std.proofs.Common.{arith}
 use Rattle.shop_layout.proofs.Written.{written_vec}
 use Rattle.shop_states.proofs.MarkedRaises.{all_marked, blocks_begin, marks_can_raise, marks_wait, raised_begins}
-use Rattle.shop_states.proofs.MarkedRaises.{raised_ends, raised_on}
-use Rattle.shop_states.proofs.RaisedMachines.{can_note, lengths_in}
+use Rattle.shop_states.proofs.{MarkedRaises.{raised_ends, raised_on}, RaisedMachines.{can_note, lengths_in}}
 use Rattle.shop_states.proofs.machine_raises.MachineRaises.raise.Goals as goal
 
 pub raise_any-requires-clause-note : goal.raise_any-requires-clause-note

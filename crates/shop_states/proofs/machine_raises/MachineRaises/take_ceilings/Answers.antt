@@ -4,9 +4,8 @@ use Rattle.shop_layout.proofs.Written.{written_vec}
 use Rattle.shop_layout.specs.Lanes.{lanes_on}
 use Rattle.shop_states.specs.inner.HeadRaises.{Raise, nothing_raised, raise_in, raise_of, raises_in}
 use Rattle.shop_states.specs.inner.LaidLanes.{laid_rows}
-use Rattle.shop_states.proofs.FittingSpans.{spans_within}
-use Rattle.shop_states.proofs.LookedUpRows.{can_bound, cut_ordered, cut_span, cut_within, its_blocks}
-use Rattle.shop_states.proofs.LookedUpRows.{its_known, its_small}
+use Rattle.shop_states.proofs.{LookedUpRows.its_small, FittingSpans.spans_within}
+use Rattle.shop_states.proofs.LookedUpRows.{can_bound, cut_ordered, cut_span, cut_within, its_blocks, its_known}
 use Rattle.shop_states.proofs.RaisedMachines.{IsFoundSo, first_known, found_all, found_more, lengths_in}
 use Rattle.shop_states.proofs.machine_raises.MachineRaises.take_ceilings.Goals as goal
 

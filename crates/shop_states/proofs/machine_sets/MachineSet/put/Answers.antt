@@ -1,5 +1,4 @@
-use Rattle.std.proofs.Common.{ℕ, ◌*◌, ◌-◌, ◌^◌, ◌%◌, ◌<◌, List, bit_or, subst, arith}
-use Rattle.std.proofs.lemmas.Nat.{one_shl}
+use Rattle.std.proofs.{Common.{ℕ, ◌*◌, ◌-◌, ◌^◌, ◌%◌, ◌<◌, List, bit_or, subst, arith}, lemmas.Nat.one_shl}
 use Rattle.shop_states.specs.inner.JobSets.{HasPut}
 use Rattle.shop_states.proofs.MachineSets.{machines_of, put_high, put_low, put_small}
 use Rattle.shop_states.proofs.machine_sets.MachineSet.put.Goals.{then-are_few-via-then-are_few}

@@ -2,8 +2,7 @@ use Rattle.std.proofs.{Common.{◌≡◌, ◌∙◌, refl, sym, ap, subst, arith
 use Rattle.shop_model.specs.Shop.{Shop}
 use Rattle.shop_nodes.specs.{Left.Leaving, Laws.{AreWords, KeepsPiece}, Nodes.{words_of, AreNodes}, Walking.Walk}
 use Rattle.shop_nodes.specs.Halts.{halted_words}
-use Rattle.shop_tree.specs.{inner.Held.waiting_in, inner.Searching.opening_walk, inner.StateWalkers.stage_of}
-use Rattle.shop_tree.specs.inner.Walkers.{Stage}
+use Rattle.shop_tree.specs.inner.{Held.waiting_in, Searching.opening_walk, StateWalkers.stage_of, Walkers.Stage}
 use Rattle.shop_nodes.proofs.{NodeLemmas.are_words, Found.searches_keep}
 use Rattle.shop_tree.proofs.WalkerLemmas.{sheet_told}
 use Rattle.shop_tree.proofs.walkers.Walker.search.Goals as goal

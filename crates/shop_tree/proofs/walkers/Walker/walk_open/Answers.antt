@@ -3,8 +3,7 @@ use Rattle.std.specs.Prelude.{take}
 use Rattle.shop_model.specs.{Shop.Shop, Word.IsWord}
 use Rattle.shop_bound.specs.Bound.{lb}
 use Rattle.shop_bound.proofs.WordLengths.{room_left}
-use Rattle.shop_tree.specs.{inner.Held.waiting_in, inner.Slots.IsStateIn}
-use Rattle.shop_tree.specs.inner.StateWalkers.{stage_of, walked, AreHeld}
+use Rattle.shop_tree.specs.inner.{Held.waiting_in, Slots.IsStateIn, StateWalkers.{stage_of, walked, AreHeld}}
 use Rattle.shop_tree.specs.inner.Walkers.{HasExpanded, IsInOrder, IsTurn, spent_one}
 use Rattle.shop_nodes.specs.{Halts.word_at, declared.halts.Waiting.TheVariants.Child}
 use Rattle.shop_tree.proofs.{OpenLemmas.popped, ListLemmas.on_ok, StateLemmas.held_below}
