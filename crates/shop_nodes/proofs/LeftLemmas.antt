@@ -1,7 +1,7 @@
 -- What is left, told entry by entry.
 use Rattle.std.proofs.Common.{arith}
 use Rattle.std.proofs.Common.{◌≡◌, ℕ, ◌+◌, ◌-◌, ◌≤◌, ◌<◌, List, [], ◌∷◌, ◌++◌, length, drop, get_or}
-use Rattle.std.proofs.Common.{sym, ◌∙◌, ap, subst, append-nil, Global, Vec, Result, Ok, Err, true, false, ltb, refl}
+use Rattle.std.proofs.Common.{sym, ◌∙◌, ap, subst, Global, Vec, Result, Ok, Err, true, false, ltb, refl}
 use Rattle.std.proofs.Common.{Option, Some, None, inl, inr}
 use Rattle.std.specs.Prelude.{IfOk}
 use Rattle.std.specs.Arc.{arc_slice_items}
@@ -96,11 +96,6 @@ within_halt shop c (Some h) own = within_stack shop c (arc_slice_items h.path) h
 pub can_be_shared : (shop : Shop) → IsWithinLimits shop → (ns : List Node) → AreNodes shop ns → AreSharable ns
 can_be_shared shop limits ns own = All-weaker (IsNode shop) (λ n. CanBeShared n.word)
     (λ n is. word_shared shop n.word limits is.0) ns own
-
--- closed children add no open node
-pub none_open : (shop : Shop) (c : ℕ) (path : List ℕ) (x : Waiting) (depth count : ℕ) (nodes : List Node)
-    → x ≡ Rest depth count → IsWaiting shop c path x → nodes ≡ nodes ++ open_nodes shop c (waiting_words shop path x)
-none_open shop c path x depth count nodes is own = grind (arith, append-nil, closed_all)
 
 -- the last ones of all children
 pub last_words : (words : List (List ℕ)) (all tail : List Node) (n : ℕ) → words_of all ≡ words

@@ -83,18 +83,6 @@ impl<'r> Left<'r> {
         (self.makespan, &self.halt, self.untaken)
     }
 
-    /// Adds the open nodes to `nodes`, in order: the nodes left with bounds below the makespan. Fails with `NoMemory`
-    /// if memory runs out. For library callers: a run puts them into a store of its own.
-    pub fn add_open(&self, alloc: Global, nodes: &mut Vec<Node>) -> Result<(), NoMemory>
-        ensures { OnOk result (nodes.new.items ≡ nodes.old.items
-            ++ open_nodes self.now.shop self.now.makespan self.now.words) }
-    {
-        if let Some(halt) = &self.halt {
-            add_open_waiting(self.instance, self.makespan, halt, nodes)?;
-        }
-        add_open_nodes(alloc, self.instance, self.makespan, self.untaken, nodes)
-    }
-
     /// Lists all nodes left, in order. Fails with `NoMemory` if memory runs out.
     pub fn nodes(&self, alloc: Global) -> Result<Vec<Node>, NoMemory>
         ensures words { IfOk result (λ v. words_of v.items ≡ self.now.words) }
@@ -107,70 +95,6 @@ impl<'r> Left<'r> {
         add_copies(alloc, self.untaken, &mut nodes)?;
         Ok(nodes)
     }
-}
-
-/// Adds the node of `waiting` to `nodes` if it is an open child with a bound below `makespan`. Adds nothing for closed
-/// children. Fails with `NoMemory` if memory runs out.
-fn add_if_open(
-    instance: &Instance,
-    makespan: u64,
-    path: &ArcSlice<u16, Global>,
-    waiting: Waiting,
-    nodes: &mut Vec<Node>,
-) -> Result<(), NoMemory>
-    requires { IsWaiting instance.now makespan (arc_slice_items path.now) waiting }
-    ensures { OnOk result (nodes.new.items ≡ nodes.old.items ++ open_nodes instance.now makespan
-        (waiting_words instance.now (arc_slice_items path.now) waiting)) }
-{
-    let Waiting::Child(child) = waiting else {
-        return Ok(());
-    };
-    if child.bound >= makespan {
-        return Ok(());
-    }
-    let word = Word::of_shared(SharedWord::along(path, child.depth, child.job)?);
-    let bound = child.bound;
-    nodes.push(Node { word, bound })?;
-    Ok(())
-}
-
-/// Adds a node for each child that waits at `halt` with a bound below `makespan`, from the last entry of `halt.waiting`
-/// to the first. Fails with `NoMemory` if memory runs out.
-fn add_open_waiting(
-    instance: &Instance,
-    makespan: u64,
-    halt: &Halt,
-    nodes: &mut Vec<Node>,
-) -> Result<(), NoMemory>
-    requires { IsHalt instance.now makespan halt.now }
-    ensures { OnOk result (nodes.new.items ≡ nodes.old.items ++ open_nodes instance.now makespan
-        (stack_words instance.now (arc_slice_items halt.now.path) halt.now.waiting.items)) }
-{
-    let waiting = halt.waiting.as_slice();
-    for index in (0..waiting.len()).rev() {
-        add_if_open(instance, makespan, &halt.path, waiting[index], nodes)?;
-    }
-    Ok(())
-}
-
-/// Adds copies of the nodes in `left` with bounds below `makespan`, in order. Fails with `NoMemory` if memory runs out.
-fn add_open_nodes(
-    alloc: Global,
-    instance: &Instance,
-    makespan: u64,
-    left: &[Node],
-    nodes: &mut Vec<Node>,
-) -> Result<(), NoMemory>
-    requires { AreNodes instance.now left.now }
-    ensures { OnOk result (nodes.new.items ≡ nodes.old.items
-        ++ open_nodes instance.now makespan (words_of left.now)) }
-{
-    for node in left {
-        if node.bound < makespan {
-            nodes.push(node.copied(alloc)?)?;
-        }
-    }
-    Ok(())
 }
 
 /// Makes the last `count` children of the word `path[..depth]`. Fails with `NoMemory` if memory runs out.

@@ -1,9 +1,10 @@
 -- Nodes that are put into a store or counted, one after the other from the last to the first.
 use Rattle.std.proofs.Common.{◌≡◌, ℕ, ◌+◌, min, List, [], ◌++◌, get_or, refl, sym, ◌∙◌, ap, subst}
-use Rattle.std.proofs.Common.{arith, ltb}
+use Rattle.std.proofs.Common.{arith, ltb, ◌∷◌, append-nil}
 use Rattle.std.proofs.lemmas.List.Elements.{filter-append}
 use Rattle.shop_nodes.specs.{declared.nodes.Node.Node, inner.HeldNodes.nodes_below}
 use Rattle.shop_runs.specs.declared.{distant_nodes.DistantNodes.DistantNodes, open_nodes.OpenNodes.OpenNodes}
+use Rattle.shop_runs.specs.declared.plans.Order.TheVariants.{Kept}
 use Rattle.shop_runs.specs.inner.Distant.{count_of, nodes_within, AreAdded, ArePutOrCounted}
 use Rattle.shop_runs.specs.inner.Stacks.{put_all_before}
 use Rattle.shop_runs.specs.inner.Stores.{open_list, order_of}
@@ -73,3 +74,23 @@ own_put c own nodes store after distant later put =
       counted = subst (λ ns. AreAdded ns distant.counts.items later.counts.items)
           (sym (within_both distant.horizon c own nodes)) put.counted;
     }
+
+put_kept : (ns nodes : List Node) → put_all_before Kept ns nodes ≡ ns ++ nodes
+put_kept [] nodes = refl
+put_kept (n ∷ ns) nodes = ap (λ ms. n ∷ ms) (put_kept ns nodes)
+
+-- where none is distant, what searches left and the rest are put into an empty store, one before the other
+pub all_gathered : (c : ℕ) (left rest : List Node) (empty some store : OpenNodes) (first second third : DistantNodes)
+    → open_list empty ≡ [] → order_of empty ≡ Kept → first.horizon ≡ c
+    → ArePutOrCounted c rest empty first some second → ArePutOrCounted c left some second store third
+    → open_list store ≡ nodes_below c (left ++ rest)
+all_gathered c left rest empty some store first second third none kept horizon put more =
+    let low : min c first.horizon ≡ c = omega arith
+    in let later = put.horizon
+    in let low' : min c second.horizon ≡ c = omega arith
+    in let own : open_list some ≡ nodes_below c rest =
+    put.put.1 ∙ ((λ i. put_all_before (kept i) (nodes_below (low i) rest) (none i))
+    ∙ (put_kept (nodes_below c rest) [] ∙ append-nil (nodes_below c rest)))
+    in more.put.1 ∙ ((λ i. put_all_before ((put.put.0 ∙ kept) i) (nodes_below (low' i) left) (own i))
+    ∙ (put_kept (nodes_below c left) (nodes_below c rest)
+    ∙ sym (filter-append (λ (n : Node). ltb n.bound c) left rest)))

@@ -149,8 +149,8 @@ pub(crate) struct BoundRow {
     first: usize,
     /// how many nodes are put before `retire` counts again
     wait: usize,
-    /// Stacks that `retire` took out. Their words lie all over the heap: if they were freed, each later request of
-    /// memory would take longer.
+    /// Stacks that `retire` took out, kept until `keep_below` cuts the row. Their words lie all over the heap: if they
+    /// were freed at once, each later request of memory would take longer.
     spent: Vec<Place>,
 }
 
@@ -206,10 +206,14 @@ impl BoundRow {
         Some(Node { word, bound })
     }
 
-    /// Drops the nodes whose bounds are at least `makespan`.
+    /// Drops the nodes whose bounds are at least `makespan`. If the row is as long as that, also frees the stacks that
+    /// `retire` took out: they were cut off behind the row, so their bounds are no less.
     pub(crate) fn keep_below(&mut self, makespan: u64)
         ensures { self.new ≡ nodes_below makespan self.old }
     {
+        if makespan as usize <= self.stacks.len() {
+            self.spent.clear();
+        }
         self.stacks.truncate(makespan as usize);
         self.first = self.first.min(self.stacks.len());
     }

@@ -1,12 +1,12 @@
 // Chooses the order in which a round's searches bound machines.
 ghost use Rattle.std.specs.Prelude.{◌≡◌, IfOk, IfSome, length, vec_len};
 ghost use Rattle.shop_model.specs.Word.{IsWord};
-ghost use Rattle.shop_nodes.specs.Nodes.{AreNodes};
+ghost use Rattle.shop_runs.specs.Nodes.{ArePieces};
 
 use shop_bound::machine_bounds;
 use shop_layout::Layout;
 use shop_model::{Instance, Word};
-use shop_nodes::Node;
+use shop_nodes::Piece;
 use std::alloc::{AllocError as NoMemory, Global};
 
 /// Instances of more operations keep the order of their machines. On longer machines most children are settled without
@@ -39,36 +39,43 @@ fn add_bounds(
     Ok(())
 }
 
-/// Answers for each machine the sum of its one-machine bounds after some words of `front`, taken evenly. Fails with
-/// `NoMemory` if memory runs out.
-fn machine_keys(alloc: Global, instance: &Instance, front: &[Node]) -> Result<Vec<u64>, NoMemory>
-    requires { AreNodes instance.now front.now }
+/// Answers for each machine the sum of its one-machine bounds after some words of `pieces`, taken evenly. None
+/// has to be right. Fails with `NoMemory` if memory runs out.
+fn machine_keys(alloc: Global, instance: &Instance, pieces: &[Piece]) -> Result<Vec<u64>, NoMemory>
+    requires { ArePieces instance.now pieces.now }
     ensures { IfOk result (λ v. vec_len v ≡ instance.now.machines) }
 {
     let mut keys = vec![in alloc; 0; instance.machines()]?;
-    let apart = front.len() / WORDS + 1;
-    for index in 0..front.len() {
-        if index % apart == 0 {
-            add_bounds(alloc, instance, &front[index].word, keys.as_mut_slice())?;
+    let mut count = 0_usize;
+    for piece in pieces {
+        count = count.saturating_add(piece.nodes.len());
+    }
+    let apart = count / WORDS + 1;
+    let mut index = 0_usize;
+    for piece in pieces {
+        for node in &piece.nodes {
+            if index % apart == 0 {
+                add_bounds(alloc, instance, &node.word, keys.as_mut_slice())?;
+            }
+            index = index.saturating_add(1);
         }
     }
     Ok(keys)
 }
 
-/// Answers the layout of a round with the open nodes `front`, before which `rounds` rounds were done: the one in
-/// `kept`, or a new one if there is none. A child is closed as soon as one machine's bound is too high, so the
-/// machines with the greatest bounds after words of `front` come first. The empty word, the only one of a run's first
-/// round, tells this less well than the words of the second, for which the layout is made anew. Fails with `NoMemory`
-/// if memory runs out.
+/// Answers the layout of a round with these `pieces`, before which `rounds` rounds were done: the one in `kept`, or a
+/// new one if there is none or one round was done. A child is closed as soon as one machine's bound is too high, so the
+/// machines with the greatest bounds after words of `pieces` come first. The empty word, the only one of a run's first
+/// round, tells this less well than the words of the second. Fails with `NoMemory` if memory runs out.
 pub(crate) fn layout_for<'r>(
     alloc: Global,
     instance: &'r Instance,
     kept: Option<Layout<'r>>,
     rounds: u64,
-    front: &[Node],
+    pieces: &[Piece],
 ) -> Result<Layout<'r>, NoMemory>
     requires kept { IfSome kept (λ l. l ≡ instance.now) }
-    requires front { AreNodes instance.now front.now }
+    requires pieces { ArePieces instance.now pieces.now }
     ensures { IfOk result (λ l. l ≡ instance.now) }
 {
     let is_ordered = instance.operations() <= MOST_OPERATIONS;
@@ -80,6 +87,6 @@ pub(crate) fn layout_for<'r>(
     if !is_ordered {
         return Layout::of(alloc, instance);
     }
-    let keys = machine_keys(alloc, instance, front)?;
+    let keys = machine_keys(alloc, instance, pieces)?;
     Layout::ordered(alloc, instance, keys.as_slice())
 }

@@ -22,6 +22,10 @@ const MOST_IN_ROW: u64 = 65_536;
 /// stacks in some instructions each, and through all operations for each piece in some dozens.
 const MOST_FOR_AN_OPERATION: u64 = 128;
 
+/// For how many nodes `take` makes room beforehand, at most: fewer may be open than are asked for. A longer list grows
+/// as nodes come.
+const FEW_NODES: usize = 16;
+
 /// Tells whether open nodes of bounds below `makespan` may stand in a row, for an instance of `operations` operations.
 fn fits_row(makespan: u64, operations: usize) -> bool {
     makespan <= MOST_IN_ROW && makespan / MOST_FOR_AN_OPERATION <= operations as u64
@@ -223,35 +227,31 @@ impl OpenNodes {
         }
     }
 
-    /// Answers for how many nodes `take` makes room at first: at most `most`. By bound, where nodes aren't counted,
-    /// that is at most `guess`.
-    fn room_for(&self, most: usize, guess: usize) -> usize
-        ensures { result ≤ most }
+    /// Takes the first `most` nodes, or all if fewer are open, into the empty list `taken`. Fails with `NoMemory` if
+    /// memory runs out.
+    pub(crate) fn take(&mut self, most: usize, taken: &mut Vec<Node>) -> Result<(), NoMemory>
+        requires { taken.old.items ≡ [] }
+        ensures { OnOk result (IsTaken most taken.new.items self.old self.new) }
     {
-        match self {
-            OpenNodes::AsKept(nodes) => most.min(nodes.len()),
-            OpenNodes::InRow(_) | OpenNodes::InMap(_) => most.min(guess),
-        }
-    }
-
-    /// Takes the first `most` nodes, or all if fewer are open. `guess` tells for how many to make room where nodes
-    /// aren't counted. Fails with `NoMemory` if memory runs out.
-    pub(crate) fn take(
-        &mut self,
-        alloc: Global,
-        most: usize,
-        guess: usize,
-    ) -> Result<Vec<Node>, NoMemory>
-        ensures { IfOk result (λ v. IsTaken most v.items self.old self.new) }
-    {
-        let mut taken = Vec::with_capacity(alloc, self.room_for(most, guess))?;
+        taken.reserve_exact(most.min(FEW_NODES))?;
         for _ in 0..most {
             let Some(node) = self.pop()? else {
                 break;
             };
             taken.push(node)?;
         }
-        Ok(taken)
+        Ok(())
+    }
+
+    /// Takes all nodes. Fails with `NoMemory` if memory runs out, or if they are 2^64 or more.
+    pub(crate) fn take_all(&mut self, alloc: Global) -> Result<Vec<Node>, NoMemory>
+        ensures taken { IfOk result (λ v. v.items ≡ open_list self.old) }
+        ensures none { OnOk result (open_list self.new ≡ []) }
+    {
+        let count = self.count()?;
+        let mut nodes = Vec::with_capacity(alloc, count)?;
+        self.take(count, &mut nodes)?;
+        Ok(nodes)
     }
 
     /// Drops the nodes whose bounds are at least `makespan`. As all bounds are below `opening`, does nothing unless

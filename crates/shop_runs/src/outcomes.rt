@@ -1,13 +1,16 @@
 // The result of a round, from the sheets of its pieces, and the standing after the round.
-ghost use Rattle.std.specs.Prelude.{◌≡◌, ◌+◌, ◌<◌, ◌^◌, ◌++◌, IfOk, OnOk};
-ghost use Rattle.shop_runs.specs.{Entries.told, Crews.OneForEach, inner.Outcomes.{IsOutcome, TakesIn, left_open}};
+ghost use Rattle.std.specs.Prelude.{◌≡◌, ◌+◌, ◌<◌, ◌^◌, IfOk, OnOk};
+ghost use Rattle.shop_runs.specs.{Entries.told, Crews.OneForEach, inner.Outcomes.{IsOutcome, TakesIn}};
 ghost use Rattle.shop_runs.specs.Standings.{IsGatheredOf, GatheredCovers, IsStandingOf};
 
+use crate::distant_nodes::DistantNodes;
 use crate::entries::{Entry, Kind};
+use crate::open_nodes::OpenNodes;
+use crate::plans::Order;
 use crate::rounds::Round;
 use crate::standings::Standing;
 use shop_model::Word;
-use shop_nodes::{Left, Node, Sheet};
+use shop_nodes::{Left, Sheet};
 use std::alloc::{AllocError as NoMemory, Global};
 
 /// The result of a round: the better word (`None` if no search found one), the makespan, what the searches left open,
@@ -78,23 +81,8 @@ pub fn outcome_of<'r>(
     Ok(outcome)
 }
 
-/// Lists the nodes that searches left open, in the order of `left`, and then copies of `rest`. Fails with `NoMemory` if
-/// memory runs out.
-fn open_after(alloc: Global, left: &[Left], rest: &[Node]) -> Result<Vec<Node>, NoMemory>
-    ensures { IfOk result (λ v. v.items ≡ left_open left.now ++ rest.now) }
-{
-    let mut open = Vec::new(alloc);
-    for of_sheet in left {
-        of_sheet.add_open(alloc, &mut open)?;
-    }
-    for node in rest {
-        open.push(node.copied(alloc)?)?;
-    }
-    Ok(open)
-}
-
 /// Makes the standing after a round from `entries`, one for each piece in order. Fails with `NoMemory` if memory runs
-/// out. For library callers: a run keeps its open nodes in a store of its own.
+/// out. For library callers: a run uses `outcome_of`, and keeps one store from round to round.
 pub fn gather<'r>(
     alloc: Global,
     round: &'r Round<'r>,
@@ -111,8 +99,14 @@ pub fn gather<'r>(
         left,
         nodes,
     } = outcome_of(alloc, round, entries)?;
-    let mut open = open_after(alloc, left.as_slice(), round.rest.as_slice())?;
-    open.retain(|node| node.bound < makespan);
+    round.instance.keeps_limits();
+    // In the order of the standing, whatever the plan's: the rest first, so that what searches left comes before it.
+    // All that is put has a bound below the makespan, which is the horizon, so no node is only counted.
+    let mut store = OpenNodes::new(alloc, Order::Kept, makespan, round.instance.operations());
+    let mut distant = DistantNodes::none(alloc, makespan);
+    store.put_nodes(alloc, makespan, round.rest.as_slice(), &mut distant)?;
+    store.put_left(alloc, makespan, left, &mut distant)?;
+    let open = store.take_all(alloc)?;
     let best = round.word.copied(alloc)?;
     Ok(Standing {
         word: found.unwrap_or(best),

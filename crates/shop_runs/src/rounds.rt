@@ -1,11 +1,11 @@
 // Rounds, and how they cut the open nodes of a standing into pieces.
-ghost use Rattle.std.specs.Prelude.{◌≡◌, ◌≤◌, ◌<◌, [], length, take, drop, true, IfOk, OnOk};
-ghost use Rattle.std.specs.Vec.Iter.{into_iter_items};
+ghost use Rattle.std.specs.Prelude.{◌≡◌, ◌*◌, ◌≤◌, ◌<◌, [], length, drop, true, IfOk, OnOk};
 ghost use Rattle.shop_nodes.specs.Nodes.{AreNodes};
 ghost use Rattle.shop_runs.specs.{Limits.IsCountWithin, Round.cut_into, Nodes.{numbered, told_of, ArePieces}};
-ghost use Rattle.shop_runs.specs.{Laws.IsRound, inner.NodeLists.nodes_in};
+ghost use Rattle.shop_runs.specs.{Laws.IsRound, inner.NodeLists.nodes_in, inner.Stores.{open_list, order_of}};
 ghost use Rattle.shop_runs.specs.declared.plans.TheConstants.{MAX_BUDGET, MAX_PIECES, MAX_ROUNDS};
 
+use crate::open_nodes::OpenNodes;
 use crate::plans::{MAX_PIECES, Plan};
 use crate::runs::OpenRun;
 use crate::standings::Standing;
@@ -13,7 +13,6 @@ use shop_layout::Layout;
 use shop_model::{Instance, Word};
 use shop_nodes::{Node, Piece};
 use std::alloc::{AllocError as NoMemory, Global};
-use std::vec::IntoIter;
 
 /// A round. `word` is the best word at its start, and `best` the makespan of that word. `bound`, the opening bound, is
 /// at most `best` and the bound of each node of the round. Each piece has a budget of `budget` nodes. `rest` holds the
@@ -59,10 +58,9 @@ impl<'r> Round<'r> {
         ensures cut { IfOk result (λ r. IsCutOf instance.now plan.now standing r) }
         ensures covers { IfOk result (λ r. CutCovers instance.now standing r) }
     {
-        let search = OpenRun::of(alloc, instance, plan.order, standing)?;
-        let (mut round, mut others) = search.cut(alloc, instance, None, plan)?;
-        let count = others.count()?;
-        let rest = others.take(alloc, count, count)?;
+        let mut search = OpenRun::of(alloc, instance, plan.order, standing)?;
+        let mut round = search.cut(alloc, instance, None, plan)?;
+        let rest = search.open.take_all(alloc)?;
         round.rest = rest;
         Ok(round)
     }
@@ -89,48 +87,28 @@ fn spare_list(alloc: Global, spare: &mut Vec<Piece>) -> Vec<Node>
     }
 }
 
-/// Takes the next `size` nodes, or all remaining nodes if they are fewer, into a list of `spare`. Fails with `NoMemory`
-/// if memory runs out.
-fn next_piece(
-    alloc: Global,
-    nodes: &mut IntoIter<Node, Global>,
-    size: usize,
-    spare: &mut Vec<Piece>,
-) -> Result<Vec<Node>, NoMemory>
-    ensures taken { IfOk result (λ v. v.items ≡ take size (into_iter_items nodes.old)) }
-    ensures left { OnOk result (into_iter_items nodes.new ≡ drop size (into_iter_items nodes.old)) }
-{
-    let mut piece = spare_list(alloc, spare);
-    piece.reserve_exact(size.min(nodes.len()))?;
-    for _ in 0..size {
-        let Some(node) = nodes.next() else {
-            break;
-        };
-        piece.push(node)?;
-    }
-    Ok(piece)
-}
-
-/// Cuts `nodes`, in order, into at most 256 pieces of `size` nodes; the last piece may be shorter. The pieces take over
-/// the lists of those in `spare`. Drops the nodes that 256 pieces can't hold. Fails with `NoMemory` if memory runs out.
+/// Cuts the first nodes of `store` off into at most 256 pieces of `size` nodes; the last piece may be shorter. The
+/// pieces take over the lists of those in `spare`. Fails with `NoMemory` if memory runs out.
 pub(crate) fn cut_pieces(
     alloc: Global,
-    nodes: Vec<Node>,
+    store: &mut OpenNodes,
     size: usize,
     mut spare: Vec<Piece>,
 ) -> Result<Vec<Piece>, NoMemory>
     requires { 0 < size }
-    ensures nodes { IfOk result (λ v. nodes_in v.items ≡ cut_into MAX_PIECES size nodes.items) }
+    ensures nodes { IfOk result (λ v. nodes_in v.items ≡ cut_into MAX_PIECES size (open_list store.old)) }
     ensures numbers { IfOk result (λ v. numbered 0 v.items ≡ true) }
+    ensures left { OnOk result (open_list store.new ≡ drop (MAX_PIECES * size) (open_list store.old)) }
+    ensures order { OnOk result (order_of store.new ≡ order_of store.old) }
 {
-    let mut pieces = Vec::with_capacity(alloc, MAX_PIECES.min(nodes.len()))?;
-    let mut nodes = nodes.into_iter();
+    let mut pieces = Vec::with_capacity(alloc, spare.len())?;
     for number in 0..MAX_PIECES {
-        let piece = next_piece(alloc, &mut nodes, size, &mut spare)?;
-        if piece.is_empty() {
+        let mut nodes = spare_list(alloc, &mut spare);
+        store.take(size, &mut nodes)?;
+        if nodes.is_empty() {
             break;
         }
-        pieces.push(Piece::new(number, piece))?;
+        pieces.push(Piece::new(number, nodes))?;
     }
     Ok(pieces)
 }

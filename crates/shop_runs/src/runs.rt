@@ -1,5 +1,5 @@
 // Runs, which search round after round until no node is open or the plan's rounds are done.
-ghost use Rattle.std.specs.Prelude.{◌≡◌, ◌^◌, ◌<◌, [], IfOk, IfSome};
+ghost use Rattle.std.specs.Prelude.{◌≡◌, ◌^◌, ◌<◌, [], IfOk, IfSome, OnOk};
 ghost use Rattle.shop_runs.specs.{Limits.IsCountWithin, Runs.{SaysAnswer, IsTrusted}};
 
 use crate::crews::Crew;
@@ -70,29 +70,33 @@ impl OpenRun {
         })
     }
 
-    /// Cuts the first open nodes into at most 256 pieces, which take over the lists of those in `spare`. Answers the
-    /// round of these pieces, without a rest, and the store of the other open nodes. `layout_for` chooses the round's
-    /// layout; `kept` is the last round's, if there was one. Fails with `NoMemory` if memory runs out.
+    /// Cuts the first open nodes off into at most 256 pieces, which take over the lists of the run's spare ones.
+    /// Answers their round, without a rest. The run's word moves into the round: until `next` sets it again, the run
+    /// has an empty one, and no spare pieces. The other open nodes stay. `layout_for` chooses the layout; `kept` is the
+    /// last round's, if there was one. Fails with `NoMemory` if memory runs out; the run is then of no use.
     pub(crate) fn cut<'r>(
-        self,
+        &mut self,
         alloc: Global,
         instance: &'r Instance,
         kept: Option<Layout<'r>>,
         plan: &Plan,
-    ) -> Result<(Round<'r>, OpenNodes), NoMemory>
+    ) -> Result<Round<'r>, NoMemory>
         requires layout { IfSome kept (λ l. l ≡ instance.now) }
-        requires rounds { self.rounds < plan.now.rounds }
-        requires search { IsSearchOf instance.now plan.now.order self }
-        ensures { IfOk result (λ p. IsFront instance.now plan.now self p.0 p.1) }
+        requires rounds { self.old.rounds < plan.now.rounds }
+        requires search { IsSearchOf instance.now plan.now.order self.old }
+        ensures front { IfOk result (λ r. IsFront instance.now plan.now self.old r self.new.open) }
+        ensures makespan { self.new.makespan ≡ self.old.makespan }
+        ensures counts { (self.new.rounds ≡ self.old.rounds) × (self.new.nodes ≡ self.old.nodes) }
+        ensures distant { self.new.distant ≡ self.old.distant }
     {
-        let mut others = self.open;
-        let bound = others.least_bound(self.makespan);
-        let front = others.take(alloc, MAX_PIECES * plan.piece, self.spare.len())?;
-        let layout = layout_for(alloc, instance, kept, self.rounds, front.as_slice())?;
-        let pieces = cut_pieces(alloc, front, plan.piece, self.spare)?;
+        let bound = self.open.least_bound(self.makespan);
+        let word = mem::replace(&mut self.word, Word::of_jobs(Vec::new(alloc)));
+        let spare = mem::replace(&mut self.spare, Vec::new(alloc));
+        let pieces = cut_pieces(alloc, &mut self.open, plan.piece, spare)?;
+        let layout = layout_for(alloc, instance, kept, self.rounds, pieces.as_slice())?;
         let round = Round {
             instance,
-            word: self.word,
+            word,
             best: self.makespan,
             bound,
             budget: plan.budget,
@@ -102,37 +106,33 @@ impl OpenRun {
             nodes: self.nodes,
             layout,
         };
-        Ok((round, others))
+        Ok(round)
     }
 
-    /// Searches one more round. Answers the run after the round, and the round's layout, which `layout_for` chose;
-    /// `kept` is the last round's layout, if there was one. A row of stacks by bound keeps at least as many nodes as
-    /// the rounds left can take and one more, which tells the least bound at the end. Fails with `NoMemory` if memory
-    /// runs out.
+    /// Searches one more round. Answers the round's layout, which `layout_for` chose; `kept` is the last round's, if
+    /// there was one. A row of stacks by bound keeps at least as many nodes as the rounds left can take and one more,
+    /// which tells the least bound at the end. Fails with `NoMemory` if memory runs out; the run is then of no use.
     fn next<'r, R, C: Crew<R>>(
-        mut self,
+        &mut self,
         rt: &R,
         alloc: Global,
         instance: &'r Instance,
         plan: &Plan,
         kept: Option<Layout<'r>>,
         crew: &mut C,
-    ) -> Result<(OpenRun, Layout<'r>), NoMemory>
+    ) -> Result<Layout<'r>, NoMemory>
         requires ready { C.ready }
         requires layout { IfSome kept (λ l. l ≡ instance.now) }
-        requires rounds { self.rounds < plan.now.rounds }
-        requires search { IsRunOf instance.now (planned plan.now) self }
-        ensures next { IfOk result (λ p. (s : Stand) → IsRunAt instance.now (planned plan.now) s self
+        requires rounds { self.old.rounds < plan.now.rounds }
+        requires search { IsRunOf instance.now (planned plan.now) self.old }
+        ensures next { OnOk result ((s : Stand) → IsRunAt instance.now (planned plan.now) s self.old
             → IsStanding instance.now s
-            → IsRunAt instance.now (planned plan.now) (next_round instance.now (planned plan.now) s) p.0) }
-        ensures layout { IfOk result (λ p. p.1 ≡ instance.now) }
+            → IsRunAt instance.now (planned plan.now) (next_round instance.now (planned plan.now) s) self.new) }
+        ensures layout { IfOk result (λ l. l ≡ instance.now) }
     {
-        let opening = self.makespan;
         let rounds_left = (plan.rounds - self.rounds - 1) as usize;
         let most = rounds_left * (MAX_PIECES * plan.piece) + 1;
-        // `cut` takes the run apart.
-        let mut distant = mem::replace(&mut self.distant, DistantNodes::none(alloc, 0));
-        let (round, mut open) = self.cut(alloc, instance, kept, plan)?;
+        let round = self.cut(alloc, instance, kept, plan)?;
         let entries = crew.search(rt, alloc, &round)?;
         let RoundResult {
             found,
@@ -140,27 +140,17 @@ impl OpenRun {
             left,
             nodes,
         } = outcome_of(alloc, &round, entries)?;
-        open.keep_below(opening, makespan)?;
-        distant.keep_below(makespan);
-        open.put_left(alloc, makespan, left, &mut distant)?;
-        open.retire(most, &mut distant)?;
-        let Round {
-            word,
-            pieces,
-            rounds,
-            layout,
-            ..
-        } = round;
-        let next = OpenRun {
-            word: found.unwrap_or(word),
-            makespan,
-            rounds: rounds + 1,
-            nodes,
-            open,
-            distant,
-            spare: pieces,
-        };
-        Ok((next, layout))
+        self.open.keep_below(self.makespan, makespan)?;
+        self.distant.keep_below(makespan);
+        self.open
+            .put_left(alloc, makespan, left, &mut self.distant)?;
+        self.open.retire(most, &mut self.distant)?;
+        self.word = found.unwrap_or(round.word);
+        self.makespan = makespan;
+        self.rounds = round.rounds + 1;
+        self.nodes = nodes;
+        self.spare = round.pieces;
+        Ok(round.layout)
     }
 
     /// Starts a run, and searches rounds until no node is open or the plan's rounds are done. Each round hands its
@@ -183,9 +173,7 @@ impl OpenRun {
             if search.open.is_empty() {
                 return Ok(search);
             }
-            let (next, kept) = search.next(rt, alloc, instance, plan, layout, crew)?;
-            search = next;
-            layout = Some(kept);
+            layout = Some(search.next(rt, alloc, instance, plan, layout, crew)?);
         }
         Ok(search)
     }

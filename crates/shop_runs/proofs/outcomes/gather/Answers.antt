@@ -1,20 +1,25 @@
-use Rattle.std.proofs.Common.{rules, ◌≡◌, ◌++◌, refl, ◌∙◌, ap}
+use Rattle.std.proofs.Common.{refl, ◌∙◌, ap, subst, arith}
 use Rattle.std.specs.Prelude.{unwrap_or}
-use Rattle.std.proofs.lemmas.Fn.{filter_same}
-use Rattle.shop_nodes.specs.inner.HeldNodes.{nodes_below}
-use Rattle.shop_runs.specs.inner.Outcomes.{left_open}
+use Rattle.shop_nodes.proofs.LeftLemmas.{can_be_shared}
+use Rattle.shop_runs.specs.inner.{Distant.ArePutOrCounted, Outcomes.left_open}
 use Rattle.shop_runs.proofs.GatheredLemmas.{stands_gathered, gathered_standing, gathered_covering}
+use Rattle.shop_runs.proofs.PutLemmas.{all_gathered}
 use Rattle.shop_runs.proofs.outcomes.gather.Goals as goal
+
+pub put_nodes-requires : goal.put_nodes-requires
+put_nodes-requires c = grind (arith, can_be_shared)
 
 pub returns-clause-gathered : goal.returns-clause-gathered
 returns-clause-gathered c =
     let r = c.args.round.now
     in let o = c.in_ok-found.field-0
-    in let joined : c.in_ok-open.open.items ≡ left_open o.left.items ++ r.rest.items =
-    c.in_ok-open.ensures ∙ (λ j. left_open (c.as_slice.ensures.value j) ++ c.as_slice-2.ensures.value j)
-    in let kept = filter_same _ _ _ (λ x b f k. search rules) _ _ c.retain.ensures.filtered
+    in let rest = subst (λ ns. ArePutOrCounted o.makespan ns c.new-store.result c.none-distant.result
+    c.put_nodes.new.self c.put_nodes.new.distant) c.as_slice.ensures.value c.in_ok-put_nodes.ensures
+    in let kept = all_gathered o.makespan (left_open o.left.items) r.rest.items c.new-store.result c.put_nodes.new.self
+    c.put_left.new.self c.none-distant.result c.put_nodes.new.distant c.put_left.new.distant c.new-store.ensures.none
+    c.new-store.ensures.order c.none-distant.ensures.horizon rest c.in_ok-put_left.ensures
     in stands_gathered r o _ c.in_ok-found.ensures (c.unwrap_or.ensures ∙ ap (unwrap_or o.found) c.in_ok-best.ensures)
-    refl (kept ∙ ap (nodes_below o.makespan) joined) refl refl
+    refl (c.in_ok-open.ensures.taken ∙ kept) refl refl
 
 pub returns-clause-standing : goal.returns-clause-standing
 returns-clause-standing c = gathered_standing c.args.round.now _ (returns-clause-gathered c)

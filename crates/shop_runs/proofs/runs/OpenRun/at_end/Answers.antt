@@ -19,7 +19,7 @@ next-requires-clause-search g c = search (rules, way_search)
 pub loop-done-preserved : goal.loop-done-preserved
 loop-done-preserved g c = record {
   way = way_next c.args.instance.now
-      (planned c.args.plan.now) c.loop-done.done c.loop-done.search c.loop-done.invariant.way c.in_ok-next.next
+      (planned c.args.plan.now) c.loop-done.done c.loop-done.search c.loop-done.invariant.way c.next.new.self
       c.loop-done-test.true
       (some_open (length (open_list c.loop-done.search.open)) (length (open_list c.loop-done.search.open)) refl
       c.if-is_empty.ensures) c.in_ok-next.ensures.next;

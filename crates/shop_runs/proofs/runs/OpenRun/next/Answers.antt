@@ -9,7 +9,7 @@ use Rattle.shop_runs.proofs.runs.OpenRun.next.Goals as goal
 pub cut-requires-clause-search : goal.cut-requires-clause-search
 cut-requires-clause-search g c =
     let run = c.requires.search
-    in let of = near_search c.args.instance.now (planned c.args.plan.now) run.0 c.args.self run.1 run.2
+    in let of = near_search c.args.instance.now (planned c.args.plan.now) run.0 c.args.self.now run.1 run.2
     in record {
       standing = of.standing;
       makespan = of.makespan;
@@ -21,9 +21,10 @@ cut-requires-clause-search g c =
 pub returns-clause-next : goal.returns-clause-next
 returns-clause-next g c = λ s run standing.
     let plan = planned c.args.plan.now
-    in let t = c.args.self
-    in let cut = c.in_ok-round.ensures
-    in let others = c.in_ok-round.open
+    in let t = c.args.self.now
+    in let cut = c.in_ok-round.ensures.front
+    in let same = c.in_ok-round.ensures.distant
+    in let others = c.cut.new.self.open
     in let o = c.in_ok-found.field-0
     in let kept = c.keep_below.new.self
     in let less = c.keep_below-2.new.self
@@ -42,9 +43,8 @@ returns-clause-next g c = λ s run standing.
       others_left = cut.left;
       others_order = cut.kept;
       kept_below = c.in_ok-keep_below.ensures;
-      less_horizon = c.keep_below-2.ensures.horizon ∙ ap (λ d. d.horizon) c.replace-distant.ensures.value;
-      less_counts = c.keep_below-2.ensures.counts
-          ∙ ap (λ d. take o.makespan d.counts.items) c.replace-distant.ensures.value;
+      less_horizon = c.keep_below-2.ensures.horizon ∙ ap (λ d. d.horizon) same;
+      less_counts = c.keep_below-2.ensures.counts ∙ ap (λ d. take o.makespan d.counts.items) same;
       put = c.in_ok-put_left.ensures;
       order = c.in_ok-retire.ensures.order;
       retired = subst (λ k. IsRetired k (open_list joined) more (open_list c.retire.new.self) c.retire.new.distant) most
