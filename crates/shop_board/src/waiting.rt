@@ -29,13 +29,11 @@ fn start_each<R: Threads + Sync, J: Send + Drop, X: Send + Drop, F: Fn(J) -> X +
         return Ok(Vec::new(alloc));
     };
     let last = move || -> X
-        requires { IsSync F.row × IsSend J.row × IsSend X.row
-            × AcceptsJobs F.Fn f.now (job ∷ []) }
+        requires { IsSync F.row × IsSend J.row × IsSend X.row × AcceptsJobs F.Fn f.now (job ∷ []) }
         ensures { GivesFor F.Fn f.entry.now (job ∷ []) (result ∷ []) }
     { call(f, job) };
     let others = move || -> Result<Vec<X>, NoMemory>
-        requires { IsSync R.row × IsSync F.row × IsSend J.row × IsSend X.row
-            × AcceptsJobs F.Fn f.now jobs.items }
+        requires { IsSync R.row × IsSync F.row × IsSend J.row × IsSend X.row × AcceptsJobs F.Fn f.now jobs.items }
         ensures { IfOk result (λ v. GivesFor F.Fn f.entry.now jobs.items v.items) }
     { start_each(rt, alloc, jobs, f) };
     let (found, all) = thread::join(rt, last, others);

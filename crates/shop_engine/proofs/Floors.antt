@@ -110,8 +110,7 @@ module _ (m : ℕ) where
         (late_from head tail j 0 (release_of shop j) (route_of shop j) (λ i below on. (
           least.heads j i below on,
           rw (← add-one) (least.tails j i below on),
-        )))
-        (late_all head tail least js))
+        ))) (late_all head tail least js))
 
     some_all : (j k : ℕ) → IsOperation shop j k → machine_of shop j k ≡ m → (js : List ℕ) → In j js
         → 0 < length (triples_on m (flat_map of_job js))
@@ -147,8 +146,7 @@ first_times [] some = absurd (omega arith)
 first_times (o ∷ os) some = sum_by-cons (λ (p : Op). p.time) o os
 
 span_reaches : (head tail : ℕ) (ts : List Triple) → 0 < length ts
-    → AllByRecursion (λ t. (head ≤ t.head) × (tail ≤ t.tail)) ts
-    → head + sum_by (λ t. t.time) ts + tail ≤ one ts
+    → AllByRecursion (λ t. (head ≤ t.head) × (tail ≤ t.tail)) ts → head + sum_by (λ t. t.time) ts + tail ≤ one ts
 span_reaches head tail [] some late = absurd (omega arith)
 span_reaches head tail (t ∷ ts) some late =
     let a = le-least_of (λ (t : Triple). t.head) head t ts
@@ -201,8 +199,7 @@ module _ (shop : Shop) (limits : IsWithinLimits shop) where
       in let ws = waiting shop (none_placed shop)
       in let member : In x ws = in_flat_map (λ i. waiting_of shop (none_placed shop) i) j x
       (range_with_len 0 (length shop.jobs)) (in_range 0 (length shop.jobs) j (omega arith)
-      (let below = IsOperation-job shop j 0 op in omega arith))
-      (first_waits j (release_of shop j) (route_of shop j) op)
+      (let below = IsOperation-job shop j 0 op in omega arith)) (first_waits j (release_of shop j) (route_of shop j) op)
       in let here : In x.triple (triples_on m ws) = in_map (λ (w : Waiting). w.triple) x
       (filter (λ (w : Waiting). eqb w.machine m) ws)
       (in_filter (λ (w : Waiting). eqb w.machine m) x ws member (eq-eqb m m refl))

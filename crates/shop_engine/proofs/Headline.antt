@@ -12,8 +12,7 @@ passes : {s s' : Device} {text out written : List ℕ} (Gives : List ℕ → Lis
 passes {text = text} {out = out} Gives Goes read gives same goes = grind (arith, common_steps)
 
 pub transferred : {s s' : Device} {text out written : List ℕ} (Gives : List ℕ → List ℕ → Type 0)
-    (IsBad : List ℕ → ReadFault → Type 0) (k k' : Device)
-    → IsReadToEnd s s' text → Gives text out → written ≡ out
+    (IsBad : List ℕ → ReadFault → Type 0) (k k' : Device) → IsReadToEnd s s' text → Gives text out → written ≡ out
     → (r : Result (Unit {0}) Fault) → OnOk r (IsWritten k k' written) → IfErr r (λ e. IsUnwritten k k' written e)
     → IsTransfer Gives IsBad s s' k k' r
 transferred Gives IsBad k k' read gives same (Ok done) ok err = grind (arith, common_steps, passes)

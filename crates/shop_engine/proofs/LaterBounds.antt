@@ -37,8 +37,7 @@ module _ (r : Told) (limits : IsWithinLimits r.shop) (is : IsRound r) where
   after_above None =
       let P = IsAbove r.shop limits r.bound
       in all_filter (λ w. ltb (lb r.shop w) (lb r.shop (best_word r.best r.word (sheets_of r)))) P P (λ w h e. h)
-      (flat_map (λ t. t.left) (sheets_of r) ++ r.rest)
-      (all_append P (flat_map (λ t. t.left) (sheets_of r)) r.rest
+      (flat_map (λ t. t.left) (sheets_of r) ++ r.rest) (all_append P (flat_map (λ t. t.left) (sheets_of r)) r.rest
       (left_above r.pieces (all_pieces P r.pieces (all_front P (flat_map (λ p. p) r.pieces) r.rest words_above)))
       (all_back P (flat_map (λ p. p) r.pieces) r.rest words_above))
   after_above (Some (h, counted)) = tt

@@ -19,6 +19,5 @@ optimal_where_bound_is_makespan asked plan =
     in let standing = (rounds_cover shop plan plan.rounds (opening shop) (opens_covering shop)).0
     in (
       λ none. ap (least_bound shop (makespan_of shop s)) (none_from s.open_words none),
-      λ e. none_open shop (makespan_of shop s) s.open_words
-          (λ w h. standing.below w (contains_in w s.open_words h)) e,
+      λ e. none_open shop (makespan_of shop s) s.open_words (λ w h. standing.below w (contains_in w s.open_words h)) e,
     )

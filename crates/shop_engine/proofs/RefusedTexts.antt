@@ -89,13 +89,11 @@ pub listing_refuses : ListingRefuses
 listing_refuses args s s' k k' (Ok done) h text e same bad = not_listed args.format text e same bad h
 listing_refuses args s s' k k' (Err told) (inl h) text e same bad =
     refused (Unit {0}) (IsTextFault (grammar_of args.format)) s s' text e told
-    ((one_reading args.format).one_fault text)
-    (too_long args.format text) same bad h.0
+    ((one_reading args.format).one_fault text) (too_long args.format text) same bad h.0
 listing_refuses args s s' k k' (Err told) (inr h) text e same bad = absurd (not_listed args.format text e same bad h.1)
 
 not_solved : {s s' : Device} {Goes : List ℕ → Type 0} (args : SolveArgs) (known : List ℕ) (e : ReadFault)
-    → s.bytes ≡ Some known → IsAskFault args.format (name_in args.name) known e → Passes s s' (IsSolution args) Goes
-    → ⊥
+    → s.bytes ≡ Some known → IsAskFault args.format (name_in args.name) known e → Passes s s' (IsSolution args) Goes → ⊥
 not_solved args known e same bad h =
     let right = (known_gives (IsSolution args) known same h).1.right
     in not_had args.format (name_in args.name) known e right.asked bad right.is_asked

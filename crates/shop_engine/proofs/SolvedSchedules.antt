@@ -86,8 +86,7 @@ passes_check format name text written asked is_asked gives short =
       report = s.report;
       rest = s.rest;
       begins = s.begins;
-      feasible = λ feasible line h.
-          (let same = one_asked format name text h.asked asked h.is_asked is_asked
+      feasible = λ feasible line h. (let same = one_asked format name text h.asked asked h.is_asked is_asked
           in found_feasible asked.shop written line s.report.table s.report.makespan feasible s.is_table s.ends
           (subst (λ (n : NamedShop). IsVerdictOn n.shop written feasible line) same h.says));
       no_fault = λ fault h. (elim h [

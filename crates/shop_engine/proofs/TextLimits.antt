@@ -58,8 +58,7 @@ routes_small machines row few h =
 
 module _ (IsRow : ℕ → Row → Type 0) (job_of : Row → ShopJob) (small : (machines : ℕ) (row : Row) → machines ≤ 100
     → IsRow machines row → IsSmallJob machines (job_of row)) where
-  rows_small : (machines : ℕ) → machines ≤ 100 → (rows : List Entry)
-      → AllByRecursion (IsRowLine (IsRow machines)) rows
+  rows_small : (machines : ℕ) → machines ≤ 100 → (rows : List Entry) → AllByRecursion (IsRowLine (IsRow machines)) rows
       → AllByRecursion (IsSmallJob machines) (map job_of (entry_rows rows))
   rows_small machines few [] all = tt
   rows_small machines few (e ∷ rows) all = (

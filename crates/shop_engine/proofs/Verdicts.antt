@@ -73,8 +73,7 @@ judged {text = text} {schedule = schedule} {line = line} {asked = asked} {feasib
 
 -- the schedule text of a check is refused
 pub check_refused : (format : Format) (name : Option (List ℕ)) (given : Option (List ℕ)) (text schedule : List ℕ)
-    (asked : NamedShop) (e : ReadFault)
-    → IsAsked format name text asked → schedule ≡ schedule_in text given
+    (asked : NamedShop) (e : ReadFault) → IsAsked format name text asked → schedule ≡ schedule_in text given
     → OrNoMemory (IsTableFault asked.shop) schedule e
     → OrNoMemory (λ bytes. IsCheckFault format name bytes (schedule_in bytes given)) text e
 check_refused format name given text schedule asked e is_asked same (inl none) =
@@ -83,7 +82,6 @@ check_refused format name given text schedule asked e is_asked same (inr bad) = 
 
 pub checked : (format : Format) (name : Option (List ℕ)) (given : Option (List ℕ)) (text schedule : List ℕ)
     (asked : NamedShop) (feasible : Bool) (line : List ℕ)
-    → IsAsked format name text asked → schedule ≡ schedule_in text given
-    → IsVerdictOn asked.shop schedule feasible line
+    → IsAsked format name text asked → schedule ≡ schedule_in text given → IsVerdictOn asked.shop schedule feasible line
     → IsCheckOf format name text (schedule_in text given) feasible line
 checked format name given text schedule asked feasible line is_asked same h = grind (arith, common_steps, asked.shop)

@@ -43,8 +43,7 @@ module _ (shop : Shop) (limits : IsWithinLimits shop) (b : ℕ) where
   cut_above true t go i h = i
   cut_above false t go i h = h
 
-  fold_above : (f : Walk → List ℕ → Walk)
-      → ((s : Walk) (w : List ℕ) → IsAbove w → LeavesAbove s → LeavesAbove (f s w))
+  fold_above : (f : Walk → List ℕ → Walk) → ((s : Walk) (w : List ℕ) → IsAbove w → LeavesAbove s → LeavesAbove (f s w))
       → (s : Walk) (ws : List (List ℕ)) → AllByRecursion IsAbove ws → LeavesAbove s → LeavesAbove (fold f s ws)
   fold_above f h s [] a i = i
   fold_above f h s (w ∷ ws) a i = fold_above f h (f s w) ws a.1 (h s w a.0 i)

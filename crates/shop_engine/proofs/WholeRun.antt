@@ -18,12 +18,10 @@ crossing = record {
         record {
           release = 0;
           route = record { machine = 0; time = 3 } ∷ record { machine = 1; time = 2 } ∷ [];
-        }
-        ∷ record {
+        } ∷ record {
           release = 0;
           route = record { machine = 1; time = 2 } ∷ record { machine = 0; time = 4 } ∷ [];
-        }
-        ∷ [];
+        } ∷ [];
   };
 }
 
@@ -46,12 +44,10 @@ same_asked format name plan gantt written e f g h of =
     subst (λ (x : Bool). OfAsked Orlib None crossing_text (λ asked. IsDetermined asked usual_plan x written)) h
     (subst (λ (x : Planned). OfAsked Orlib None crossing_text (λ asked. IsDetermined asked x gantt written)) g
     (subst (λ (x : Option (String Global)). OfAsked Orlib (name_in x) crossing_text
-    (λ asked. IsDetermined asked plan gantt written)) f
-    (subst (λ (x : Format). OfAsked x (name_in name) crossing_text
+    (λ asked. IsDetermined asked plan gantt written)) f (subst (λ (x : Format). OfAsked x (name_in name) crossing_text
     (λ asked. IsDetermined asked plan gantt written)) e of)))
 
-no_other : (written : List ℕ)
-    → OfAsked Orlib None crossing_text (λ asked. IsDetermined asked usual_plan true written)
+no_other : (written : List ℕ) → OfAsked Orlib None crossing_text (λ asked. IsDetermined asked usual_plan true written)
     → written ≡ crossing_report
 no_other written of =
     of.says ∙ ap (λ (n : NamedShop). text_with_gantt (answer_of n usual_plan) true)

@@ -69,8 +69,7 @@ pub record IsJudged (second second' : Second) (feasible : Bool) (Goes : List ℕ
   pub out : Goes line
 
 -- a schedule was judged, and the line goes out
-abbrev pub Checks : CheckArgs → Device → Device → Second → Second → Bool → (List ℕ → Type 0)
-    → Type 0
+abbrev pub Checks : CheckArgs → Device → Device → Second → Second → Bool → (List ℕ → Type 0) → Type 0
 Checks args source source' second second' feasible Goes =
     IsPicked args source source' (IsJudged second second' feasible Goes)
 
@@ -93,8 +92,7 @@ IsScheduleRefused (Some old) (Some new) fault text shop =
 -- line, and no device failed. A refusal is that of all bytes of its source; it and a failed read
 -- leave the sink as it was, and so does a call that runs out of memory, where no device failed.
 -- After a failed write the sink holds a beginning of the line.
-abbrev pub IsChecking : CheckArgs → Device → Device → Second → Second → Device → Device
-    → Result Bool Fault → Type 0
+abbrev pub IsChecking : CheckArgs → Device → Device → Second → Second → Device → Device → Result Bool Fault → Type 0
 IsChecking args source source' second second' sink sink' (Ok feasible) =
     Checks args source source' second second' feasible (IsWritten sink sink')
 IsChecking args source source' second second' sink sink' (Err fault) =

@@ -126,8 +126,7 @@ IsSourceRefused old new IsBad fault = ((fault ≡ NoMemory) × HasReadOnce old n
 abbrev pub IsTransfer : (List ℕ → List ℕ → Type 0) → (List ℕ → ReadFault → Type 0) → Device → Device
     → Device → Device
     → Result (Unit {0}) Fault → Type 0
-IsTransfer Gives IsBad source source' sink sink' (Ok done) = Passes source source' Gives
-    (IsWritten sink sink')
+IsTransfer Gives IsBad source source' sink sink' (Ok done) = Passes source source' Gives (IsWritten sink sink')
 IsTransfer Gives IsBad source source' sink sink' (Err fault) =
     (IsSourceRefused source source' IsBad fault × (sink' ≡ sink))
     ⊎ ((fault ≡ WriteFailed) × Passes source source' Gives (IsCutOff sink sink'))

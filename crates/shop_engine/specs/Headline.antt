@@ -61,7 +61,6 @@ pub record HoldsThen (Written : List ℕ → Type 0) (held : List ℕ) (sink : D
   pub holds : sink.bytes ≡ Some (held ++ written)
 
 -- where the bytes of source and sink are known, and the call succeeds
-abbrev pub WhereKnown : (List ℕ → List ℕ → Type 0) → Device → Device → Device
-    → Result (Unit {0}) Fault → Type 0
+abbrev pub WhereKnown : (List ℕ → List ℕ → Type 0) → Device → Device → Device → Result (Unit {0}) Fault → Type 0
 WhereKnown Written source sink sink' result = (text held : List ℕ) → source.bytes ≡ Some text
     → sink.bytes ≡ Some held → IsOk result → HoldsThen (Written text) held sink'

@@ -12,8 +12,7 @@ pub record IsListOf (format : Format) (text out : List ℕ) : Type 0 where
   pub is_text : IsText (grammar_of format) text shops
   pub list : out ≡ list_text shops
 
-abbrev pub IsListing : ListArgs → Device → Device → Device → Device → Result (Unit {0}) Fault
-    → Type 0
+abbrev pub IsListing : ListArgs → Device → Device → Device → Device → Result (Unit {0}) Fault → Type 0
 IsListing args source source' sink sink' result =
     IsTransfer (IsListOf args.format) (IsTextFault
     (grammar_of args.format)) source source' sink sink' result

@@ -34,5 +34,4 @@ pub record IsFoundFeasible (format : Format) (name : Option (List ℕ)) (text wr
 
 -- the same of a text that can be read
 abbrev pub PassesCheck : Format → Option (List ℕ) → List ℕ → List ℕ → Type 0
-PassesCheck format name text written = length written ≤ MAX_TEXT
-    → IsFoundFeasible format name text written
+PassesCheck format name text written = length written ≤ MAX_TEXT → IsFoundFeasible format name text written

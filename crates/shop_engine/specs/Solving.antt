@@ -9,8 +9,7 @@ pub record IsSolution (args : SolveArgs) (text written : List ℕ) : Type 0 wher
   pub right : IsRightOf args.format (name_in args.name) args.gantt text written
   pub determined : IsDeterminedOf args text written
 
-abbrev pub IsSolving : SolveArgs → Device → Device → Device → Device → Result (Unit {0}) Fault
-    → Type 0
+abbrev pub IsSolving : SolveArgs → Device → Device → Device → Device → Result (Unit {0}) Fault → Type 0
 IsSolving args source source' sink sink' result =
     IsTransfer (IsSolution args) (IsAskFault args.format
     (name_in args.name)) source source' sink sink' result

@@ -1,5 +1,5 @@
 // The verdict on a schedule.
-ghost use Rattle.std.specs.{Prelude.{◌≡◌, ◌≤◌, length, IfOk, IfErr}, Option.{option_map, option_copied}};
+ghost use Rattle.std.specs.{Prelude.{◌≤◌, length, IfOk, IfErr}, Option.{option_map, option_copied}};
 ghost use Rattle.shop_text.specs.{declared.limits.TheConstants.MAX_TEXT, Schedules.IsTableFault, Texts.OrNoMemory};
 ghost use Rattle.shop_engine.specs.{Asking.name_in, Checking.{IsSecondUnread, IsChecking}};
 ghost use Rattle.shop_engine.specs.Checking.{schedule_in, IsVerdictOn, IsCheckOf, IsCheckFault, IsScheduleRead};

@@ -23,11 +23,9 @@ pub trait Source {
     /// Reads nothing if the source fails.
     fn read(&mut self, buffer: &mut [u8]) -> Result<usize, DeviceFailed>
         ensures bound { IfOk result (λ n. n ≤ length buffer.new) }
-        ensures bytes { ReadConsumes (device self.old).bytes (device self.new).bytes
-            result buffer.new }
+        ensures bytes { ReadConsumes (device self.old).bytes (device self.new).bytes result buffer.new }
         ensures count { Counts (device self.old) (device self.new) result }
-        ensures end { IfOk result (λ n.
-            TellsEnd (device self.old) (device self.new) (length buffer.new) n) }
+        ensures end { IfOk result (λ n. TellsEnd (device self.old) (device self.new) (length buffer.new) n) }
         ensures no_end { IfErr result (λ _. GoesOn (device self.old) (device self.new)) };
 }
 
@@ -41,8 +39,7 @@ pub trait Sink {
     fn write(&mut self, buffer: &[u8]) -> Result<usize, DeviceFailed>
         ensures bound { IfOk result (λ n. n ≤ length buffer.now) }
         ensures some { IfOk result (λ n. 0 < length buffer.now → 0 < n) }
-        ensures bytes { WriteAppends (device self.old).bytes (device self.new).bytes
-            result buffer.now }
+        ensures bytes { WriteAppends (device self.old).bytes (device self.new).bytes result buffer.now }
         ensures count { Counts (device self.old) (device self.new) result };
 }
 
@@ -69,11 +66,7 @@ impl<R: Read + Drop> Reading<R> {
 }
 
 impl<R: Read + Drop> Source for Reading<R> {
-    ghost device = { λ s. record {
-      bytes = R.remaining s.reader;
-      failures = s.failures;
-      ends = s.ends;
-    } };
+    ghost device = { λ s. record { bytes = R.remaining s.reader; failures = s.failures; ends = s.ends } };
 
     fn read(&mut self, buffer: &mut [u8]) -> Result<usize, DeviceFailed> {
         match self.reader.read(buffer) {
@@ -130,10 +123,8 @@ impl<W: Write + Drop> Sink for Writing<W> {
 /// out.
 pub fn read_all<S: Source>(alloc: Global, source: &mut S) -> Result<Vec<u8>, Fault>
     ensures short { IfOk result (λ text. length text.items ≤ MAX_TEXT) }
-    ensures read { IfOk result (λ text.
-        IsReadToEnd (S.device source.old) (S.device source.new) text.items) }
-    ensures unread { IfErr result (λ fault.
-        IsUnread (S.device source.old) (S.device source.new) fault) }
+    ensures read { IfOk result (λ text. IsReadToEnd (S.device source.old) (S.device source.new) text.items) }
+    ensures unread { IfErr result (λ fault. IsUnread (S.device source.old) (S.device source.new) fault) }
 {
     let mut text = Vec::new(alloc);
     let mut buffer = [0u8; 4096];
@@ -153,8 +144,7 @@ pub fn read_all<S: Source>(alloc: Global, source: &mut S) -> Result<Vec<u8>, Fau
 /// Writes all of a text. Fails with `WriteFailed` if the sink fails; the sink then holds a beginning of the text.
 pub fn write_all<K: Sink>(sink: &mut K, text: &[u8]) -> Result<(), Fault>
     ensures written { OnOk result (IsWritten (K.device sink.old) (K.device sink.new) text.now) }
-    ensures unwritten { IfErr result (λ fault.
-        IsUnwritten (K.device sink.old) (K.device sink.new) text.now fault) }
+    ensures unwritten { IfErr result (λ fault. IsUnwritten (K.device sink.old) (K.device sink.new) text.now fault) }
 {
     let mut rest = text;
     while !rest.is_empty() {

@@ -15,8 +15,7 @@ use std::alloc::Global;
 /// Fails with the fault of the text. Fails with `NoMemory` if memory runs out.
 pub fn list_bytes(alloc: Global, text: &[u8], args: &ListArgs) -> Result<Vec<u8>, ReadFault>
     ensures list { IfOk result (λ out. IsListOf args.now.format text.now out.items) }
-    ensures refused { IfErr result (λ fault.
-        OrNoMemory (IsTextFault (grammar_of args.now.format)) text.now fault) }
+    ensures refused { IfErr result (λ fault. OrNoMemory (IsTextFault (grammar_of args.now.format)) text.now fault) }
 {
     let named = read(alloc, args.format, text)?;
     Ok(listing(alloc, named.as_slice())?)

@@ -47,13 +47,10 @@ impl Sink for Memory {
     fn write(&mut self, buffer: &[u8]) -> Result<usize, DeviceFailed>
         ensures bound { IfOk result (λ n. n ≤ length buffer.now) }
         ensures some { IfOk result (λ n. 0 < length buffer.now → 0 < n) }
-        ensures bytes { WriteAppends (device_of self.old).bytes (device_of self.new).bytes
-            result buffer.now }
+        ensures bytes { WriteAppends (device_of self.old).bytes (device_of self.new).bytes result buffer.now }
         ensures count { Counts (device_of self.old) (device_of self.new) result }
-        ensures most { IfOk result (λ n.
-            n ≡ min (length buffer.now) (self.old.room - length self.old.held.items)) }
-        ensures full { IfErr result (λ _.
-            (0 < length buffer.now) × (length self.old.held.items ≡ self.old.room)) }
+        ensures most { IfOk result (λ n. n ≡ min (length buffer.now) (self.old.room - length self.old.held.items)) }
+        ensures full { IfErr result (λ _. (0 < length buffer.now) × (length self.old.held.items ≡ self.old.room)) }
         ensures room { self.new.room ≡ self.old.room }
     {
         let count = buffer.len().min(self.room - self.held.len());

@@ -71,8 +71,7 @@ pub fn solve_instance<R, C: Crew<R>>(
     crew: &mut C,
 ) -> Result<(Vec<u8>, Answer), NoMemory>
     requires { C.ready }
-    ensures right { IfOk result (λ p.
-        IsRight (shop_of_named asked.now) with_gantt p.0.items) }
+    ensures right { IfOk result (λ p. IsRight (shop_of_named asked.now) with_gantt p.0.items) }
     ensures determined { IfOk result (λ p.
         IsDetermined (shop_of_named asked.now) (planned plan.now) with_gantt p.0.items) }
     ensures schedule { IfOk result (λ p. GivesSchedule (shop_of_named asked.now) p.0.items) }
@@ -100,8 +99,7 @@ pub fn solve_bytes<R, C: Crew<R>>(
     ensures right { IfOk result (λ out. IsRightOf
         args.now.format (name_in args.now.name) args.now.gantt text.now out.items) }
     ensures determined { IfOk result (λ out. IsDeterminedOf args.now text.now out.items) }
-    ensures schedule { IfOk result (λ out. PassesCheck
-        args.now.format (name_in args.now.name) text.now out.items) }
+    ensures schedule { IfOk result (λ out. PassesCheck args.now.format (name_in args.now.name) text.now out.items) }
     ensures refused { IfErr result (λ fault. OrNoMemory
         (IsAskFault args.now.format (name_in args.now.name)) text.now fault) }
 {

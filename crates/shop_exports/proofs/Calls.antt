@@ -39,8 +39,7 @@ list_refused format fault e bad told = inr (format, e, refused fault bad told)
 pub check_served : {feasible : Bool} {text room room' out seen : List ℕ} {outcome : CallResult} (args : CheckArgs)
     (schedule : Option (List ℕ))
     → IsCheckOf args.format (name_in args.name) text (schedule_in text schedule) feasible out → seen ≡ out
-    → IsGiven feasible seen room room' outcome
-    → ChecksWith args text room room' schedule outcome
+    → IsGiven feasible seen room room' outcome → ChecksWith args text room room' schedule outcome
 check_served {feasible = feasible} args schedule check same given = served feasible check same given
 
 pub check_refused : {text room : List ℕ} {outcome : CallResult} (args : CheckArgs) (schedule : Option (List ℕ))

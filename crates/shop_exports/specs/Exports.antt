@@ -25,8 +25,7 @@ pub record IsRefused (IsBad : ReadFault → Type 0) (room room' : List ℕ) (out
   pub told : outcome ≡ is_refused fault
   pub kept : room' ≡ room
 
-abbrev pub Serves : (Bool → List ℕ → Type 0) → (ReadFault → Type 0) → List ℕ → List ℕ → CallResult
-    → Type 0
+abbrev pub Serves : (Bool → List ℕ → Type 0) → (ReadFault → Type 0) → List ℕ → List ℕ → CallResult → Type 0
 Serves Is IsBad room room' outcome =
     IsServed Is room room' outcome ⊎ IsRefused IsBad room room' outcome
 
@@ -52,8 +51,7 @@ ChecksWith args text room room' schedule outcome =
     (OrNoMemory (λ bytes. IsCheckFault args.format (name_in args.name) bytes
     (schedule_in bytes schedule)) text) room room' outcome
 
-abbrev pub ChecksFor : ℕ → Bool → List ℕ → List ℕ → Option (List ℕ) → List ℕ → List ℕ → CallResult
-    → Type 0
+abbrev pub ChecksFor : ℕ → Bool → List ℕ → List ℕ → Option (List ℕ) → List ℕ → List ℕ → CallResult → Type 0
 ChecksFor code is_named name text schedule room room' outcome =
     IsUnserved (IsFaultyCheck code is_named name) room room' outcome
     ⊎ ((args : CheckArgs) × AsksCheck code is_named name args

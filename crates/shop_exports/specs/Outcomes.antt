@@ -48,6 +48,5 @@ pub record IsGiven (feasible : Bool) (text room room' : List ℕ) (outcome : Cal
   pub is_feasible : outcome.feasible ≡ feasible
   pub no_line : outcome.line ≡ 0
   pub long : outcome.length ≡ length text
-  pub fits : length text ≤ length room
-      → (outcome.status ≡ 0) × (room' ≡ text ++ drop (length text) room)
+  pub fits : length text ≤ length room → (outcome.status ≡ 0) × (room' ≡ text ++ drop (length text) room)
   pub too_long : length room < length text → (outcome.status ≡ 100) × (room' ≡ room)

@@ -51,8 +51,7 @@ pub record IsPlanOf (options : Options) (plan : Plan) : Type 0 where
   pub order : order_code plan.order ≡ options.order
 
 abbrev pub IsFaultyPlan : Options → Type 0
-IsFaultyPlan options = IsNoOrder options.order
-    ⊎ ¬ (IsPlanWithin options.rounds options.budget options.piece)
+IsFaultyPlan options = IsNoOrder options.order ⊎ ¬ (IsPlanWithin options.rounds options.budget options.piece)
 
 -- and those of a search
 pub record AsksSolve (code : ℕ) (is_named : Bool) (name : List ℕ) (options : Options)

@@ -41,8 +41,7 @@ pub extern "C" fn shop_exports_check(
     schedule: &[u8],
     room: &mut [u8],
 ) -> CallResult
-    ensures { ChecksFor format is_named name.now text.now (bytes_given is_apart schedule.now)
-        room.old room.new result }
+    ensures { ChecksFor format is_named name.now text.now (bytes_given is_apart schedule.now) room.old room.new result }
 {
     let args = match check_args(alloc, format, is_named, name) {
         Ok(args) => args,

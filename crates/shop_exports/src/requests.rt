@@ -1,13 +1,12 @@
 // Turns the numbers and bytes of a caller into arguments of the engine.
 ghost use Rattle.std.specs.Prelude.{◌≡◌, IfOk, IfErr, MatchOption};
 ghost use Rattle.shop_engine.specs.Asking.{name_in};
-ghost use Rattle.shop_exports.specs.Requests.{format_code, order_code, IsNoFormat, IsNoOrder, IsNoName, bytes_given};
-ghost use Rattle.shop_exports.specs.Requests.{IsUnasked, AsksCheck, IsFaultyCheck, AsksSolve, IsFaultySolve, IsPlanOf};
-ghost use Rattle.shop_exports.specs.Requests.{IsFaultyPlan};
+ghost use Rattle.shop_exports.specs.Requests.{format_code, IsNoFormat, IsNoName, bytes_given, IsUnasked, AsksCheck};
+ghost use Rattle.shop_exports.specs.Requests.{IsFaultyCheck, AsksSolve, IsFaultySolve, IsPlanOf, IsFaultyPlan};
 
 use crate::outcomes::{CallResult, faulty, refused};
 use shop_engine::{CheckArgs, SolveArgs};
-use shop_runs::{ORDERS, Order, Plan};
+use shop_runs::{ORDERS, Plan};
 use shop_text::{FORMATS, Format, ReadFault};
 use std::alloc::Global;
 use std::str::from_utf8;
@@ -31,18 +30,11 @@ pub(crate) fn format_of(code: u32) -> Option<Format>
     FORMATS.get(code as usize).copied()
 }
 
-/// Answers the order of the number `code`, its place in `ORDERS`; `None` if there is none.
-fn order_of(code: u32) -> Option<Order>
-    ensures { MatchOption result (IsNoOrder code) (λ order. order_code order ≡ code) }
-{
-    ORDERS.get(code as usize).copied()
-}
-
-/// Makes the plan of `options`; `None` outside the limits.
+/// Makes the plan of `options`, whose order is a place in `ORDERS`; `None` outside the limits.
 fn plan_of(options: &Options) -> Option<Plan>
     ensures { MatchOption result (IsFaultyPlan options.now) (IsPlanOf options.now) }
 {
-    let order = order_of(options.order)?;
+    let order = ORDERS.get(options.order as usize).copied()?;
     Plan::ordered(options.rounds, options.budget, options.piece, order)
 }
 
@@ -54,13 +46,11 @@ fn name_of(alloc: Global, is_named: bool, name: &[u8]) -> Result<Option<String>,
     if !is_named {
         return Ok(None);
     }
-    let Ok(text) = from_utf8(name) else {
-        return Err(faulty());
-    };
-    match text.to_string(alloc) {
-        Ok(own) => Ok(Some(own)),
-        Err(_) => Err(refused(ReadFault::NoMemory)),
-    }
+    let text = from_utf8(name).map_err(|_| faulty())?;
+    let own = text
+        .to_string(alloc)
+        .map_err(|_| refused(ReadFault::NoMemory))?;
+    Ok(Some(own))
 }
 
 /// Makes the arguments of a check. Fails if a number or the name is faulty, or if memory runs out.
@@ -87,8 +77,7 @@ pub(crate) fn solve_args(
     options: &Options,
 ) -> Result<SolveArgs, CallResult>
     ensures asked { IfOk result (AsksSolve format is_named name.now options.now) }
-    ensures unasked { IfErr result
-        (IsUnasked (IsFaultySolve format is_named name.now options.now)) }
+    ensures unasked { IfErr result (IsUnasked (IsFaultySolve format is_named name.now options.now)) }
 {
     let plan = plan_of(options).ok_or(faulty())?;
     let args = check_args(alloc, format, is_named, name)?;

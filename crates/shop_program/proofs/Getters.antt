@@ -1,7 +1,9 @@
 -- What the getters of clap's matches read, by the rows of the matches.
 use Rattle.std.proofs.{lemmas.Grind.common_steps, Common.{Result, Ok, Err}}
-use Rattle.std.proofs.Common.{arith, ◌<◌, ◌^◌, ◌≡◌, ◌∙◌, ℕ, sym, ap, Option, Some, None, Bool, true, false, codes}
-use Rattle.std.specs.{Str.Parse.{IsNumeral, digits_value, without_leading_plus}, Result.IsErrAnd}
+use Rattle.std.proofs.Common.{arith, ◌<◌, ◌^◌, ◌≡◌, ◌∙◌, ℕ, sym, ap, refl, subst, Option, Some, None, Bool, true, false}
+use Rattle.std.proofs.Common.{true≢false}
+use Rattle.std.specs.{Prelude.{codes, is_ok, is_some}, Str.Parse.{IsNumeral, digits_value, without_leading_plus}}
+use Rattle.std.specs.Result.{IsErrAnd}
 use Rattle.clap.specs.{Words.{Text, first_value, one_text, rows_of}, declared.parser.matches.Found.Found}
 use Rattle.clap.proofs.WalkLemmas.{first_value-rows, one_text-rows}
 use Rattle.shop_program.specs.CommandLine.{HasText, HasNumber, HasFlag, MayHave, NumberIs, UnlessNoMemory}
@@ -38,8 +40,7 @@ pub other_value : (f : Found) (id read text : Text) → first_value f id ≡ Som
 other_value f id read text is differ has = let e = first_value-rows f id in differ cc
 
 -- no number that fits is read
-pub no_number : (f : Found) (id : Text) (n : ℕ)
-    → ((t : Text) → one_text f id ≡ Some t
+pub no_number : (f : Found) (id : Text) (n : ℕ) → ((t : Text) → one_text f id ≡ Some t
     → IsNumeral 10 (without_leading_plus t) × (digits_value 10 (without_leading_plus t) < 2 ^ 64) → ⊥)
     → n < 2 ^ 64 → HasNumber (rows_of f) id n → ⊥
 no_number f id n unread fits has = grind (arith, common_steps, one_text-rows, has.2.1, has.0, has.1, has.2.0)
@@ -54,3 +55,11 @@ pub passed_on : {A : Type 0} (P : Type 0) (Is : A → Type 0) (r : Result A Line
     → (P → (value : A) → Is value → ⊥) → UnlessNoMemory P fault → IsErrAnd r (λ e. e ≡ fault) → Reads Is r
 passed_on P Is (Ok value) fault h p is = absurd is
 passed_on {A = A} P Is (Err e) fault h p is = grind (arith, common_steps, weaker)
+
+-- a value that is there is read, and where there is none, nothing of the kind is
+pub or_unread : {A : Type 0} (Is : A → Type 0) (o : Option A) (r : Result A LineFault) → is_ok r ≡ is_some o
+    → ((value : A) → o ≡ Some value → r ≡ Ok value) → ((value : A) → o ≡ Some value → Is value)
+    → (o ≡ None → (value : A) → Is value → ⊥) → Reads Is r
+or_unread Is None (Ok value) e read some none = absurd (true≢false e)
+or_unread {A = A} Is None (Err fault) e read some none = unless ((value : A) → Is value → ⊥) fault (none refl)
+or_unread Is (Some value) r e read some none = subst (Reads Is) (sym (read value refl)) (some value refl)

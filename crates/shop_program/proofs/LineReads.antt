@@ -28,8 +28,7 @@ beside name_in rows_in b = (name_in b, rows_in b)
 -- a name and rows that are told apart are told together
 together : {B : Type 0} (name_in : B → Text) (rows_in : B → List Row) (sub : Option B) (name : Text) (rows : List Row)
     → Some name ≡ option_map name_in sub → Some rows ≡ option_map (λ (p : Text × List Row). p.1) (option_map
-    (beside name_in rows_in) sub)
-    → option_map (beside name_in rows_in) sub ≡ Some (name, rows)
+    (beside name_in rows_in) sub) → option_map (beside name_in rows_in) sub ≡ Some (name, rows)
 together name_in rows_in None name rows is has = absurd (cc)
 together name_in rows_in (Some b) name rows is has = grind (arith, common_steps, pair)
 
@@ -42,11 +41,9 @@ read_of words matches command sub line has entered =
     ap (λ a. subcommand_of a words) (sym line.4.0) ∙ (sym (has simple).1 ∙ entered)
 
 line_of : (words : List Text) (matches : ArgMatches) (command : Command) (args : Args) (name : Text) (rows
-    : List Row)
-    → IsCommandLine command → HasMatchesOf (app_of command) words matches
+    : List Row) → IsCommandLine command → HasMatchesOf (app_of command) words matches
     → Some name ≡ subcommand_name_of matches → Some rows ≡ option_map (λ (p : Text × List Row). p.1)
-    (subcommand_rows_of matches)
-    → IsArgs name rows args → IsLineOf words args
+    (subcommand_rows_of matches) → IsArgs name rows args → IsLineOf words args
 line_of words matches command args name rows line has is of given =
     let entered : subcommand_rows_of matches ≡ Some (name, rows) = together _ _ _ name rows is of in
     let read : subcommand_of (command_line line.0 line.1) words ≡ Some (name, rows) =
@@ -74,8 +71,7 @@ of_some x y e = cc
 pub unread_of : (words : List Text) (matches : ArgMatches) (command : Command) (name : Text) (rows : List Row)
     → IsCommandLine command → HasMatchesOf (app_of command) words matches
     → Some name ≡ subcommand_name_of matches → Some rows ≡ option_map (λ (p : Text × List Row). p.1)
-    (subcommand_rows_of matches)
-    → NoArgs name rows → IsUnread words
+    (subcommand_rows_of matches) → NoArgs name rows → IsUnread words
 unread_of words matches command name rows line has is of none =
     let entered : subcommand_rows_of matches ≡ Some (name, rows) = together _ _ _ name rows is of in
     unread_by words matches command (Some (name, rows)) line has entered

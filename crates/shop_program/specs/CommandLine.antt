@@ -53,8 +53,7 @@ abbrev pub IsCommandOf : App → Command → Type 0
 IsCommandOf app command = (app_of command ≡ app) × ((out-Command command).has_globals ≡ false)
 
 abbrev pub list_command : ValueParser → App
-list_command formats =
-    with_rules (new_app (codes "list")) (format_rule formats ∷ path_rule (codes "FILE") ∷ [])
+list_command formats = with_rules (new_app (codes "list")) (format_rule formats ∷ path_rule (codes "FILE") ∷ [])
 
 abbrev pub check_command : ValueParser → App
 check_command formats =
@@ -171,8 +170,7 @@ IsLineOf words args = OfLine (λ app. IsReadBy app words args)
 
 -- clap doesn't take the words, or what it reads of them is of no arguments
 abbrev pub IsUnread : List Text → Type 0
-IsUnread words = OfLine (λ app. (takes app words ≡ false)
-    ⊎ ((args : Args) → IsReadBy app words args → ⊥))
+IsUnread words = OfLine (λ app. (takes app words ≡ false) ⊎ ((args : Args) → IsReadBy app words args → ⊥))
 
 -- why a command line is refused: this, or memory ran out
 abbrev pub UnlessNoMemory : Type 0 → LineFault → Type 0

@@ -41,8 +41,7 @@ pub record IsUnopened (opens : Opens) (path : String Global) (old new : Streams)
 
 -- The command was run on the text of FILE: without a path on that of standard input, with one on
 -- that of the file at that path, and standard input is as it was; or the file couldn't be opened.
-abbrev pub IsRunOn : Opens → Path → Streams → Streams → Result ℕ Fault
-    → (Device → Device → Type 0) → Type 0
+abbrev pub IsRunOn : Opens → Path → Streams → Streams → Result ℕ Fault → (Device → Device → Type 0) → Type 0
 IsRunOn opens None old new result Runs = Runs old.source new.source
 IsRunOn opens (Some path) old new result Runs = IsUnopened opens path old new result
     ⊎ ((new.source ≡ old.source) × (file file' : Device) × opens (string_bytes path) (Some file)
@@ -52,21 +51,18 @@ IsRunOn opens (Some path) old new result Runs = IsUnopened opens path old new re
 
 -- 0 for a list
 abbrev pub ListsFrom : ListArgs → Device → Device → Result ℕ Fault → Device → Device → Type 0
-ListsFrom args sink sink' (Ok status) source source' =
-    (status ≡ 0) × IsListing args source source' sink sink' (Ok tt)
+ListsFrom args sink sink' (Ok status) source source' = (status ≡ 0) × IsListing args source source' sink sink' (Ok tt)
 ListsFrom args sink sink' (Err fault) source source' =
     IsListing args source source' sink sink' (Err fault)
 
 -- the schedule is that of the file at SCHEDULE just where a path is given
-abbrev pub HasChecked : Opens → CheckArgs → Path → Device → Device → Result Bool Fault
-    → Device → Device → Type 0
+abbrev pub HasChecked : Opens → CheckArgs → Path → Device → Device → Result Bool Fault → Device → Device → Type 0
 HasChecked opens args schedule sink sink' result source source' = (second second' : Option Device)
     × IsGiven opens schedule second
     × IsChecking args source source' second second' sink sink' result
 
 -- 0 for a feasible schedule, 1 for an infeasible one; or the schedule's file couldn't be opened
-abbrev pub ChecksFrom : Opens → CheckArgs → Path → Device → Device → Result ℕ Fault
-    → Device → Device → Type 0
+abbrev pub ChecksFrom : Opens → CheckArgs → Path → Device → Device → Result ℕ Fault → Device → Device → Type 0
 ChecksFrom opens args schedule sink sink' (Ok status) source source' = (feasible : Bool)
     × (status ≡ status_of_verdict feasible)
     × HasChecked opens args schedule sink sink' (Ok feasible) source source'

@@ -18,8 +18,7 @@ pub record HasSolved (args : SolveArgs) (sink sink' : Device) (result : Result (
 
 -- 0 for a report, whatever its status
 abbrev pub SolvesFrom : SolveArgs → Device → Device → Result ℕ Fault → Device → Device → Type 0
-SolvesFrom args sink sink' (Ok status) source source' =
-    (status ≡ 0) × HasSolved args sink sink' (Ok tt) source source'
+SolvesFrom args sink sink' (Ok status) source source' = (status ≡ 0) × HasSolved args sink sink' (Ok tt) source source'
 SolvesFrom args sink sink' (Err fault) source source' =
     HasSolved args sink sink' (Err fault) source source'
 

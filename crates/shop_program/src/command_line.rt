@@ -1,7 +1,6 @@
 // Makes the command line by clap's builder.
 ghost use Rattle.std.specs.Prelude.{IfOk};
-ghost use Rattle.clap.specs.Words.{new_app};
-ghost use Rattle.clap.specs.declared.builder.value_parser.ValueParser.TheVariants.{Names};
+ghost use Rattle.clap.specs.{Words.new_app, declared.builder.value_parser.ValueParser.TheVariants.Names};
 ghost use Rattle.shop_program.specs.CommandLine.{option_rule, choice_rule, format_rule, number_rule, flag_rule};
 ghost use Rattle.shop_program.specs.CommandLine.{path_rule, IsCommandOf, IsCommandLine, list_command, check_command};
 ghost use Rattle.shop_program.specs.{CommandLine.solve_command, inner.Arguments.IsArgOf};

@@ -26,19 +26,16 @@ impl<R: rt::Files> Files for R {
     ghost opens = { λ _ _ _. ⊤ };
 
     fn open(&self, path: &str) -> Result<Reading<R::File>, DeviceFailed> {
-        match File::open(self, path) {
-            Ok(file) => Ok(Reading::new(file)),
-            Err(_) => Err(DeviceFailed),
-        }
+        File::open(self, path)
+            .map(Reading::new)
+            .map_err(|_| DeviceFailed)
     }
 }
 
 /// Opens the file at `path`, if a path is given. Fails with `ReadFailed` if the file can't be opened.
 pub fn open_given<R: Files>(rt: &R, path: &Option<String>) -> Result<Option<R::File>, Fault>
-    ensures opened { IfOk result (λ file.
-        IsGiven (R.opens rt.now) path.now (option_map R.File.device file)) }
-    ensures unopened { IfErr result (λ fault.
-        (fault ≡ ReadFailed) × IsMissing (R.opens rt.now) path.now) }
+    ensures opened { IfOk result (λ file. IsGiven (R.opens rt.now) path.now (option_map R.File.device file)) }
+    ensures unopened { IfErr result (λ fault. (fault ≡ ReadFailed) × IsMissing (R.opens rt.now) path.now) }
 {
     let Some(path) = path else {
         return Ok(None);

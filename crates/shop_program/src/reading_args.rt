@@ -17,30 +17,22 @@ use std::alloc::{AllocError as NoMemory, Global};
 
 /// Reads the format. Fails if the matches lack it, or with `NoMemory` if memory runs out.
 fn format_in(alloc: Global, found: &ArgMatches) -> Result<Format, LineFault>
-    ensures { Reads (λ format. HasText (rows_of (found_of found.now)) (codes "format") (word_of format))
-        result }
+    ensures { Reads (λ format. HasText (rows_of (found_of found.now)) (codes "format") (word_of format)) result }
 {
     let Some(word) = found.get_str("format") else {
         return Err(misread(alloc));
     };
-    match Format::of_word(word) {
-        Some(format) => Ok(format),
-        None => Err(misread(alloc)),
-    }
+    Format::of_word(word).ok_or_else(|| misread(alloc))
 }
 
 /// Reads the order of open nodes. Fails if the matches lack it, or with `NoMemory` if memory runs out.
 fn order_in(alloc: Global, found: &ArgMatches) -> Result<Order, LineFault>
-    ensures { Reads (λ order. HasText (rows_of (found_of found.now)) (codes "order") (order_word order))
-        result }
+    ensures { Reads (λ order. HasText (rows_of (found_of found.now)) (codes "order") (order_word order)) result }
 {
     let Some(word) = found.get_str("order") else {
         return Err(misread(alloc));
     };
-    match Order::of_word(word) {
-        Some(order) => Ok(order),
-        None => Err(misread(alloc)),
-    }
+    Order::of_word(word).ok_or_else(|| misread(alloc))
 }
 
 /// Reads the number of the option `id`. Fails if the matches lack it, or with `NoMemory` if memory runs out.
@@ -57,8 +49,7 @@ fn number_in(alloc: Global, found: &ArgMatches, id: &str) -> Result<u64, LineFau
 
 /// Reads the text of the argument `id`; `None` if it is left out. Fails with `NoMemory` if memory runs out.
 fn text_in(alloc: Global, found: &ArgMatches, id: &str) -> Result<Option<String>, NoMemory>
-    ensures { IfOk result (λ text.
-        MayHave (rows_of (found_of found.now)) id.now (option_map string_bytes text)) }
+    ensures { IfOk result (λ text. MayHave (rows_of (found_of found.now)) id.now (option_map string_bytes text)) }
 {
     match found.get_str(id) {
         Some(text) => Ok(Some(text.to_string(alloc)?)),
@@ -102,10 +93,7 @@ fn plan_in(alloc: Global, found: &ArgMatches) -> Result<Plan, LineFault>
     let budget = number_in(alloc, found, "budget")?;
     let piece = number_in(alloc, found, "piece")? as usize;
     let order = order_in(alloc, found)?;
-    match Plan::ordered(rounds, budget, piece, order) {
-        Some(plan) => Ok(plan),
-        None => Err(misread(alloc)),
-    }
+    Plan::ordered(rounds, budget, piece, order).ok_or_else(|| misread(alloc))
 }
 
 /// Reads the arguments of `solve` from clap's matches. Fails if these lack one, or with `NoMemory` if memory runs out.

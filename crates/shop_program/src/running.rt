@@ -1,14 +1,11 @@
 // Runs the program on its words, its streams and the files that are named.
 ghost use Rattle.std.specs.Prelude.{◌≡◌, map, string_bytes, IfErr};
-ghost use Rattle.shop_program.specs.Running.{IsCommandRun, IsNoWords, IsEnd, IsStart};
-ghost use Rattle.shop_program.specs.inner.Runs.{file_in, RunsFrom};
+ghost use Rattle.shop_program.specs.{Running.{IsCommandRun, IsNoWords, IsEnd, IsStart}, inner.Runs.{file_in, RunsFrom}};
 
 use crate::arguments::Args;
 use crate::files::{Files, open_given};
 use crate::reading_args::args_of;
-use crate::statuses::{
-    DONE, say_fault, say_line_fault, say_no_memory, say_no_text, status_of_check,
-};
+use crate::statuses::{DONE, INFEASIBLE, say_fault, say_line_fault, say_no_memory, say_no_text};
 use shop_engine::{Fault, Sink, Source, check_text, list_text, solve_text};
 use shop_runs::MakesCrew;
 use std::env::args;
@@ -36,8 +33,8 @@ fn run_from<R: Files + AllocGlobal, C: MakesCrew<R>, S: Source, K: Sink>(
         }
         Args::Check { args, schedule, .. } => {
             let mut second = open_given(rt, schedule)?;
-            let is_feasible = check_text(rt.alloc(), source, &mut second, out, args)?;
-            Ok(status_of_check(is_feasible))
+            let feasible = check_text(rt.alloc(), source, &mut second, out, args)?;
+            if feasible { Ok(DONE) } else { Ok(INFEASIBLE) }
         }
         Args::Solve { args, workers, .. } => {
             let mut crew = crews.of(*workers);
@@ -52,9 +49,7 @@ fn file_of(args: &Args) -> &Option<String>
     ensures { result.now ≡ file_in args.now }
 {
     match args {
-        Args::List { file, .. } => file,
-        Args::Check { file, .. } => file,
-        Args::Solve { file, .. } => file,
+        Args::List { file, .. } | Args::Check { file, .. } | Args::Solve { file, .. } => file,
     }
 }
 
@@ -69,8 +64,7 @@ pub fn run_args<R: Files + AllocGlobal, C: MakesCrew<R>, S: Source, K: Sink>(
     out: &mut K,
 ) -> Result<u8, Fault>
     requires { C.Crew.ready }
-    ensures { IsCommandRun (R.opens rt.now) args.now
-        (record { source = S.device source.old; sink = K.device out.old })
+    ensures { IsCommandRun (R.opens rt.now) args.now (record { source = S.device source.old; sink = K.device out.old })
         (record { source = S.device source.new; sink = K.device out.new }) result }
 {
     match open_given(rt, file_of(args))? {
@@ -89,10 +83,9 @@ fn words_of<R: Env + AllocGlobal, E: Sink>(rt: &R, err: &mut E) -> Result<Vec<St
         Err(fault) if fault.kind() == ErrorKind::OutOfMemory => return Err(say_no_memory(err)),
         Err(_) => return Err(say_no_text(err)),
     };
-    match words.collect::<Vec<String>>(rt.alloc()) {
-        Ok(words) => Ok(words),
-        Err(_) => Err(say_no_memory(err)),
-    }
+    words
+        .collect::<Vec<String>>(rt.alloc())
+        .map_err(|_| say_no_memory(err))
 }
 
 /// Runs the program on the words of a command line, the program's name first. Reads files or `source`, writes to `out`,

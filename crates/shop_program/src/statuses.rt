@@ -1,7 +1,7 @@
 // Exit statuses, and what standard error says of faults. Saying takes no memory, so a fault is said also when memory
 // has run out.
 ghost use Rattle.std.specs.Prelude.{◌≡◌};
-ghost use Rattle.shop_program.specs.Statuses.{status_of, status_of_line, status_of_verdict};
+ghost use Rattle.shop_program.specs.Statuses.{status_of, status_of_line};
 
 use crate::line_faults::LineFault;
 use shop_engine::{Fault, Sink, write_all};
@@ -25,13 +25,6 @@ pub const FAILED: u8 = 4;
 
 /// Memory ran out.
 pub const NO_MEMORY: u8 = 5;
-
-/// Answers the exit status of a verdict.
-pub fn status_of_check(is_feasible: bool) -> u8
-    ensures { result ≡ status_of_verdict is_feasible }
-{
-    if is_feasible { DONE } else { INFEASIBLE }
-}
 
 /// A sink that takes each piece of a text as it is formatted.
 #[derive(Drop)]

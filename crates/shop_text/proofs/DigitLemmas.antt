@@ -46,8 +46,7 @@ value_read token value are is = grind (arith, common_steps)
 
 pub cut_to_end : (line : List ℕ) (start value n : ℕ) → position (λ b. not (is_separator b)) line ≡ Some start
     → AreLeadingDigits (take (length line - start) (drop start line)) value n
-    → n ≡ length (take (length line - start) (drop start line))
-    → IsNumberCut line (Some value)
+    → n ≡ length (take (length line - start) (drop start line)) → IsNumberCut line (Some value)
     (take (length (take (length line - start) (drop start line)) - length
     (take (length line - start) (drop start line)))
     (drop (length (take (length line - start) (drop start line))) (take (length line - start) (drop start line))))
@@ -56,8 +55,7 @@ cut_to_end line start value n e l h = grind (arith, common_steps, take_all, toke
 pub cut_at : (line : List ℕ) (start value n : ℕ) → position (λ b. not (is_separator b)) line ≡ Some start
     → AreLeadingDigits (take (length line - start) (drop start line)) value n
     → n < length (take (length line - start) (drop start line))
-    → is_separator (get_or (take (length line - start) (drop start line)) n 0) ≡ true
-    → IsNumberCut line (Some value)
+    → is_separator (get_or (take (length line - start) (drop start line)) n 0) ≡ true → IsNumberCut line (Some value)
     (take (length (take (length line - start) (drop start line)) - (n + 1))
     (drop (n + 1) (take (length line - start) (drop start line))))
 cut_at line start value n e l h here = grind (arith, common_steps, tokens_at, end_here, value_read)

@@ -164,11 +164,6 @@ pub taillard_lens : (draft : Draft) (size : Row) (rows : List Row) → HoldsRows
     ≡ length draft.times.items + length draft.jobs.items)
 taillard_lens draft size rows d = grind (arith, common_steps, length-map, length-take, length-drop, length-zip)
 
--- in the other formats, by the jobs
-pub rows_lens : (job_of : Row → ShopJob) (jobs : List Job) (rows : List Row) → map job_as_given jobs ≡ map job_of rows
-    → length rows ≡ length jobs
-rows_lens job_of jobs rows e = sym (length-map rows job_of) ∙ sym (ap length e) ∙ length-map jobs job_as_given
-
 pub skips_full : (draft : Draft) → 0 < length draft.times.items → length draft.jobs.items ≡ 0 → (rows : List Row)
     → IsDraft Taillard draft rows → eqb (length draft.times.items) draft.jobs_wanted ≡ taillard.skips rows
 skips_full draft some none x d = grind (arith, common_steps, taillard_lens, ne_eqb)

@@ -2,7 +2,7 @@
 use Rattle.std.proofs.{lemmas.Grind.common_steps, Common.{◌≡◌, ℕ, zero, suc, true, List, [], ◌∷◌, Some, None, arith}}
 use Rattle.std.proofs.{lemmas.Bool.{and_parts, leb-true}, lemmas.Str.IsUtf8-from_ascii}
 use Rattle.std.specs.{List.list_all, Str.{IsAscii, IsUtf8}}
-use Rattle.shop_text.specs.{Lines.{Blank, Numbers, Words}, Formats.{grammar_of, is_visible, header_of}}
+use Rattle.shop_text.specs.{Lines.Words, Formats.{grammar_of, is_visible, header_of}}
 use Rattle.shop_text.specs.declared.formats.Format.{Format}
 
 visible_ascii : (bytes : List ℕ) → list_all is_visible bytes ≡ true → IsAscii bytes
@@ -17,13 +17,5 @@ header_visible x bytes e = grind arith
 
 -- a name is text
 pub header_utf8 : (p : Format) (words : List (List ℕ)) (bytes : List ℕ)
-    → (grammar_of p).header (Words words) ≡ Some bytes
-    → IsUtf8 bytes
+    → (grammar_of p).header (Words words) ≡ Some bytes → IsUtf8 bytes
 header_utf8 x words bytes e = grind (arith, IsUtf8-from_ascii, visible_ascii, header_visible)
-
--- only text lines give one
-pub blank_header : (p : Format) → (grammar_of p).header Blank ≡ None
-blank_header x = grind arith
-
-pub numbers_header : (p : Format) (row : List ℕ) → (grammar_of p).header (Numbers row) ≡ None
-numbers_header x row = grind arith

@@ -4,9 +4,10 @@ use Rattle.std.proofs.Common.{◌≡◌, ℕ, ◌+◌, ◌-◌, ◌<◌, ◌≤�
 use Rattle.std.proofs.Common.{length, get_or, take, Option, Some, None, sym, arith, Vec, Global}
 use Rattle.std.proofs.lemmas.List.{get_or_at, length-take-le, map-append, length-map, append_assoc, length_push}
 use Rattle.std.proofs.{lemmas.List.FromFn.length-enumerate_from, lemmas.Slice.Eq.bytes_eq-Decides}
-use Rattle.std.specs.{Prelude.codes, List.enumerate_from, Str.bytes_eq}
+use Rattle.std.specs.{Prelude.codes, List.enumerate_from, Option.option_eq, Str.bytes_eq}
 use Rattle.shop_model.specs.Shop.{Shop}
-use Rattle.shop_text.specs.{Lines.{lines_of, tokens_of, is_empty, is_number, value_of}, inner.LineReading.capped}
+use Rattle.shop_text.specs.Lines.{lines_of, tokens_of, is_empty, is_number, value_of}
+use Rattle.shop_text.specs.inner.LineReading.{capped, number_in}
 use Rattle.shop_text.specs.Schedules.{Tokens, is_label, row_in, AreJobLines, IsBadAt}
 use Rattle.shop_text.specs.inner.ScheduleReading.{IsReadSoFar, rows_held}
 use Rattle.shop_text.proofs.Passing.{one_behind}
@@ -46,6 +47,15 @@ pub label_is : (j : ℕ) (token : List ℕ) (n : ℕ) → j ≤ 1000 → 2 ≤ l
     (capped (value_of (take (length token - 1) token)))) None → eqb n j ≡ is_label j token
 label_is j token n small long at number =
     grind (arith, common_steps, from_number, capped_is, only_last, colon_last, some_bytes, length-take-le)
+
+not_third : (a b c d : Bool) → c ≡ false → (a && b && c && d) ≡ false
+not_third a b x d e = grind arith
+
+pub label_by : (j : ℕ) (token : List ℕ) (number : Option ℕ) → j ≤ 1000 → 2 ≤ length token
+    → get_or token (length token - 1) 0 ≡ 58 → number ≡ number_in (take (length token - 1) token)
+    → option_eq eqb number (Some j) ≡ is_label j token
+label_by j token None small long at e = grind (arith, common_steps, not_third)
+label_by j token (Some n) small long at e = label_is j token n small long at e
 
 -- ---- what is read so far
 

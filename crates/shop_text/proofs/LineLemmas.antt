@@ -55,8 +55,7 @@ tokens_skip (x ∷ xs) (suc i) h all =
 
 -- a token at the beginning
 token_at : (xs : List ℕ) (i : ℕ) → 0 < i → i < length xs → is_separator (get_or xs i 0) ≡ true
-    → ((k : ℕ) → k < i → is_separator (get_or xs k 0) ≡ false)
-    → tokens_of xs ≡ take i xs ∷ tokens_of (drop (suc i) xs)
+    → ((k : ℕ) → k < i → is_separator (get_or xs k 0) ≡ false) → tokens_of xs ≡ take i xs ∷ tokens_of (drop (suc i) xs)
 token_at xs i some lt here before = grind (arith, split_here)
 
 token_alone : (xs : List ℕ) → 0 < length xs → ((k : ℕ) → k < length xs → is_separator (get_or xs k 0) ≡ false)
@@ -74,8 +73,7 @@ no_tokens line e =
 
 -- the first token begins here, and ends at a separator
 pub tokens_at : (line : List ℕ) (start end : ℕ) → position (λ b. not (is_separator b)) line ≡ Some start
-    → position is_separator (take (length line - start) (drop start line)) ≡ Some end
-    → tokens_of line
+    → position is_separator (take (length line - start) (drop start line)) ≡ Some end → tokens_of line
     ≡ take end (take (length line - start) (drop start line)) ∷ tokens_of
     (take (length (take (length line - start) (drop start line)) - (end + 1))
     (drop (end + 1) (take (length line - start) (drop start line))))
@@ -84,8 +82,7 @@ tokens_at line start end e f =
     in let rest = take (length line - start) (drop start line)
     in let rest_at : rest ≡ drop start line = take_rest line start
     in let ends = position-Some is_separator rest end 0 f
-    in let skipped : tokens_of line
-    ≡ tokens_of rest = tokens_skip line start (omega arith)
+    in let skipped : tokens_of line ≡ tokens_of rest = tokens_skip line start (omega arith)
     (λ k lt. not-false (is_separator (get_or line k 0)) (begins.2 k lt)) ∙ sym (ap tokens_of rest_at)
     in let first : is_separator (get_or rest 0 0) ≡ false = ap (λ (xs : List ℕ). is_separator (get_or xs 0 0)) rest_at
     ∙ ap is_separator (get_or-drop start line 0 0 ∙ ap (λ (i : ℕ). get_or line i 0) (omega arith))
@@ -101,8 +98,7 @@ tokens_at line start end e f =
 
 -- or it ends with the line
 pub tokens_to_end : (line : List ℕ) (start : ℕ) → position (λ b. not (is_separator b)) line ≡ Some start
-    → position is_separator (take (length line - start) (drop start line)) ≡ None
-    → tokens_of line
+    → position is_separator (take (length line - start) (drop start line)) ≡ None → tokens_of line
     ≡ take (length line - start) (drop start line) ∷ tokens_of
     (take (length (take (length line - start) (drop start line)) - length
     (take (length line - start) (drop start line)))
@@ -112,8 +108,7 @@ tokens_to_end line start e f =
     in let rest = take (length line - start) (drop start line)
     in let rest_at : rest ≡ drop start line = take_rest line start
     in let some : 0 < length rest = rw rest_at (omega (arith, length-drop start line))
-    in let skipped : tokens_of line
-    ≡ tokens_of rest = tokens_skip line start (omega arith)
+    in let skipped : tokens_of line ≡ tokens_of rest = tokens_skip line start (omega arith)
     (λ k lt. not-false (is_separator (get_or line k 0)) (begins.2 k lt)) ∙ sym (ap tokens_of rest_at)
     in skipped ∙ token_alone rest some (position_none is_separator rest f)
     ∙ ap (λ (xs : List ℕ). rest ∷ tokens_of xs) (sym (take_rest rest (length rest)

@@ -52,8 +52,7 @@ read f begun text ((n, Words words) ∷ lines) =
     on_words (f.skips (entry_rows begun)) n (read f begun (text ++ (n, Words words) ∷ []) lines)
 read f begun text ((n, Numbers row) ∷ lines) =
     on_row (f.refuses (entry_rows begun) row) n (f.is_whole (entry_rows (with_row begun text n row)))
-    (with_row begun text n row)
-    (λ o. read f o [] lines)
+    (with_row begun text n row) (λ o. read f o [] lines)
 
 read_text : (f : Grammar) (begun : List Entry) (text more lines : List Numbered) → AreText more
     → IsTrue (f.skips (entry_rows begun)) → read f begun text (more ++ lines) ≡ read f begun (text ++ more) lines
@@ -82,8 +81,7 @@ last_line e (next ∷ entries) = last_line next entries
 
 -- the rows of a part, or of its beginning
 read_entries : (f : Grammar) (begun : List Entry) (e : Entry) (entries : List Entry) (lines : List Numbered)
-    → AreAccepted f (entry_rows begun) (e ∷ entries)
-    → read f begun [] (lines_of_part (e ∷ entries) ++ lines)
+    → AreAccepted f (entry_rows begun) (e ∷ entries) → read f begun [] (lines_of_part (e ∷ entries) ++ lines)
     ≡ on_row None (last_line e entries) (f.is_whole (entry_rows (begun ++ e ∷ entries))) (begun ++ e ∷ entries)
     (λ o. read f o [] lines)
 read_entries f begun e [] lines a = grind (arith, common_steps, flat_map-cons, append-nil, read_entry)
@@ -113,8 +111,7 @@ read_parts f is ((e ∷ part) ∷ parts) lines h =
 pub read_good : (f : Grammar) → IsGrammar f → (lines : List Numbered) (parts : List Part) → IsGood f lines parts
     → read f [] [] lines ≡ (parts, Outside)
 read_good f is lines parts good =
-    ap (read f [] []) good.cut ∙ read_parts f is parts good.after good.parts_good
-    ∙ ap (onto parts)
+    ap (read f [] []) good.cut ∙ read_parts f is parts good.after good.parts_good ∙ ap (onto parts)
     (ap (read f [] []) (sym (append-nil good.after)) ∙ read_text f [] [] good.after [] good.after_text is.skips_first)
     ∙ ap (λ (ps : List Part). (ps, Outside)) (append-nil parts)
 
@@ -126,12 +123,10 @@ one_list f is lines parts others a b =
 
 -- The lines begin some parts: what follows is read at this place.
 read_begun : (f : Grammar) → IsGrammar f → (lines later : List Numbered) (begun : List Entry)
-    (b : IsBegun f lines begun)
-    → read f [] [] (lines ++ later) ≡ onto b.parts (read f begun b.after later)
+    (b : IsBegun f lines begun) → read f [] [] (lines ++ later) ≡ onto b.parts (read f begun b.after later)
 read_begun f is lines later begun b =
     let follow : List Numbered = b.after ++ later
-    in ap (λ (ls : List Numbered). read f [] [] (ls ++ later)) b.cut
-    ∙ ap (read f [] [])
+    in ap (λ (ls : List Numbered). read f [] [] (ls ++ later)) b.cut ∙ ap (read f [] [])
     (append_assoc (lines_of_parts b.parts ++ lines_of_part begun) b.after later
     ∙ append_assoc (lines_of_parts b.parts) (lines_of_part begun) follow)
     ∙ read_parts f is b.parts (lines_of_part begun ++ follow) b.parts_good
@@ -160,8 +155,7 @@ pub read_truncated : (f : Grammar) → IsGrammar f → (last : ℕ) (lines : Lis
     → IsTruncated f last lines fault → (read f [] [] lines).1 ≡ Inside
 read_truncated f is last lines fault t =
     ap (λ (ls : List Numbered). (read f [] [] ls).1) (sym (append-nil lines))
-    ∙ ap (λ (x : Reading). x.1) (read_begun f is lines [] t.begun t.place)
-    ∙ inside t.begun t.inside
+    ∙ ap (λ (x : Reading). x.1) (read_begun f is lines [] t.begun t.place) ∙ inside t.begun t.inside
   where
     inside : (es : List Entry) → 0 < length es → at_end es ≡ Inside
     inside x h = grind arith

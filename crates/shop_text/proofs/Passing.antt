@@ -60,8 +60,7 @@ nothing_after n x e = grind (arith, common_steps)
 -- the end of the text
 pub end_read : (text : List ℕ) (n : ℕ) (rest : List ℕ) (p : Format) (reader : Reader)
     (r : Result (Vec Named Global) ReadFault) → IsOnTheWay text n rest p reader → length text ≤ 16777216
-    → length rest ≡ 0
-    → ((lines : List Numbered) → IsReadUpTo reader lines → Ends (grammar_of reader.format) n lines r)
+    → length rest ≡ 0 → ((lines : List Numbered) → IsReadUpTo reader lines → Ends (grammar_of reader.format) n lines r)
     → IsRead (grammar_of p) text r
 end_read text n rest p reader r w short none ends =
     let over = nothing_after n rest none

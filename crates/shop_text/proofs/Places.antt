@@ -31,15 +31,13 @@ rows_more begun text n row = map-append (λ (e : Entry). e.row) begun (entry tex
 
 -- the lines with one more row
 pub entry_cut : (parts : List Part) (begun : List Entry) (after : List Numbered) (n : ℕ) (row : Row)
-    (front : List Numbered)
-    → front ≡ lines_of_parts parts ++ lines_of_part begun ++ after
+    (front : List Numbered) → front ≡ lines_of_parts parts ++ lines_of_part begun ++ after
     → front ++ (n, Numbers row) ∷ [] ≡ lines_of_parts parts ++ lines_of_part (with_row begun after n row)
 entry_cut parts begun after n row front cut = grind (arith, common_steps, append_assoc, entry)
 
 -- one more row is accepted
 pub one_more : (f : Grammar) (front : List Numbered) (begun : List Entry) (s : IsBegun f front begun) (n : ℕ)
-    (row : Row)
-    → f.refuses (entry_rows begun) row ≡ None → AreAccepted f [] (with_row begun s.after n row)
+    (row : Row) → f.refuses (entry_rows begun) row ≡ None → AreAccepted f [] (with_row begun s.after n row)
 one_more f front begun s n row free = grind (arith, common_steps, accepted_more, entry)
 
 -- a text line that is skipped
@@ -78,8 +76,7 @@ row_on f front begun s n row free room =
 unfoldable pub part_on : (f : Grammar) → IsGrammar f
     → (front : List Numbered) (begun : List Entry) (s : IsBegun f front begun) (n : ℕ)
     (row : Row) → f.refuses (entry_rows begun) row ≡ None
-    → f.is_whole (entry_rows (with_row begun s.after n row)) ≡ true
-    → IsBegun f (front ++ (n, Numbers row) ∷ []) []
+    → f.is_whole (entry_rows (with_row begun s.after n row)) ≡ true → IsBegun f (front ++ (n, Numbers row) ∷ []) []
 part_on f is front begun s n row free whole =
     let part : Part = with_row begun s.after n row
     in let parts : List Part = s.parts ++ part ∷ []

@@ -124,8 +124,7 @@ later_rows shop j row rows h = record {
 }
 
 pub jobs_read : (shop : Shop) (n j : ℕ) (rows : List (List ℕ)) (others : List Tokens) → AreRows shop j rows
-    → AreOther others
-    → map (row_at shop) (enumerate_from j (read_from n (jobs_from j rows ++ others))) ≡ map Some rows
+    → AreOther others → map (row_at shop) (enumerate_from j (read_from n (jobs_from j rows ++ others))) ≡ map Some rows
 jobs_read shop n j [] others h are = grind (arith, row_at, skip_all)
 jobs_read shop n j (row ∷ rows) others h are =
     let later = read_from (n + 1) (jobs_from (j + 1) rows ++ others)

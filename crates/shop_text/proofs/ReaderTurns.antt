@@ -52,8 +52,7 @@ texts_more : (begun : List Entry) (after : List Numbered) (n : ℕ) (row : Row)
     → texts_of (with_row begun after n row) ≡ texts_of begun ++ after
 texts_more begun after n row = grind (arith, common_steps, flat_map-append, entry, flat_map-cons, append-nil)
 
-named_push : (f : Grammar) (n : ℕ) (parts : List Part) (part : Part)
-    → named_from f n (parts ++ part ∷ [])
+named_push : (f : Grammar) (n : ℕ) (parts : List Part) (part : Part) → named_from f n (parts ++ part ∷ [])
     ≡ named_from f n parts ++ record { name = name_of f (n + length parts) part; shop = f.shop (entry_rows part) } ∷ []
 named_push f n [] part = grind (arith, common_steps)
 named_push f n (p ∷ parts) part = grind (arith, common_steps, named_push f (n + 1) parts part)
@@ -69,8 +68,7 @@ parts_len f named parts e = sym (named_len f 1 parts) ∙ sym (ap length e) ∙ 
 -- ---- a text line
 
 pub words_read : (reader : Reader) (name : Option (String Global)) (n : ℕ) (words : List (List ℕ))
-    (front : List Numbered)
-    (r : IsReadUpTo reader front) → (grammar_of reader.format).skips (entry_rows r.begun) ≡ true
+    (front : List Numbered) (r : IsReadUpTo reader front) → (grammar_of reader.format).skips (entry_rows r.begun) ≡ true
     → IsLast name (headers_of (grammar_of reader.format) ((texts_of r.begun ++ r.place.after) ++ (n, Words words) ∷ []))
     → IsReadUpTo (record reader { name = name }) (front ++ (n, Words words) ∷ [])
 unfolding words_on
@@ -84,16 +82,14 @@ words_read reader name n words front r skips last = record {
 
 -- that gives no name
 pub no_header : (reader : Reader) (n : ℕ) (words : List (List ℕ)) (front : List Numbered) (r : IsReadUpTo reader front)
-    → (grammar_of reader.format).header (Words words) ≡ None
-    → IsLast reader.name (headers_of (grammar_of reader.format)
+    → (grammar_of reader.format).header (Words words) ≡ None → IsLast reader.name (headers_of (grammar_of reader.format)
     ((texts_of r.begun ++ r.place.after) ++ (n, Words words) ∷ []))
 no_header reader n words front r e = grind (arith, common_steps, header_none)
 
 -- that gives one
 pub one_header : (reader : Reader) (n : ℕ) (words : List (List ℕ)) (front : List Numbered) (r : IsReadUpTo reader front)
     (bytes : List ℕ) (name : String Global) → (grammar_of reader.format).header (Words words) ≡ Some bytes
-    → string_bytes name ≡ bytes
-    → IsLast (Some name) (headers_of (grammar_of reader.format)
+    → string_bytes name ≡ bytes → IsLast (Some name) (headers_of (grammar_of reader.format)
     ((texts_of r.begun ++ r.place.after) ++ (n, Words words) ∷ []))
 one_header reader n words front r bytes name e is = λ otherwise.
     ap (last_or otherwise)
@@ -104,8 +100,7 @@ one_header reader n words front r bytes name e is = λ otherwise.
 
 -- one more
 pub row_read : (reader : Reader) (draft : Draft) (n : ℕ) (row : Row) (front : List Numbered)
-    (r : IsReadUpTo reader front)
-    → IsOneMore reader.format (entry_rows r.begun) row draft
+    (r : IsReadUpTo reader front) → IsOneMore reader.format (entry_rows r.begun) row draft
     → IsReadUpTo (record reader { draft = draft }) (front ++ (n, Numbers row) ∷ [])
 unfolding row_on
 row_read reader draft n row front r more =
@@ -136,8 +131,7 @@ part_read reader later instance name n row front r last named pushed none =
     omega (arith, parts_len f reader.named.items r.place.parts r.named_are)
     in let name_is : name_of f (1 + length r.place.parts) part ≡ string_bytes name =
     ap (λ (ls : List Numbered). last_or (decimal (1 + length r.place.parts)) (headers_of f ls))
-    (texts_more r.begun r.place.after n row)
-    ∙ r.name_is (decimal (1 + length r.place.parts))
+    (texts_more r.begun r.place.after n row) ∙ r.name_is (decimal (1 + length r.place.parts))
     ∙ ap (λ (k : ℕ). name_or (decimal k) reader.name) count ∙ sym named
     in let shop_is : f.shop (entry_rows part) ≡ instance = ap f.shop rows ∙ sym last.shop_is
     in let this : NamedShop = record {
@@ -160,8 +154,7 @@ pub fails_by : (e : ReadFault) (n : ℕ) (o : Option LineFault) → Fails e n o
 fails_by e n o x = grind arith
 
 pub row_refused : (reader : Reader) (n : ℕ) (row : Row) (front : List Numbered) (r : IsReadUpTo reader front)
-    (e : ReadFault) → Fails e n ((grammar_of reader.format).refuses (entry_rows r.begun) row)
-    → (e ≡ NoMemory)
+    (e : ReadFault) → Fails e n ((grammar_of reader.format).refuses (entry_rows r.begun) row) → (e ≡ NoMemory)
     ⊎ ((later : List Numbered) → IsRefused (grammar_of reader.format) (front ++ (n, Numbers row) ∷ later) e)
 row_refused reader n row front r e h =
     told (fails_by e n ((grammar_of reader.format).refuses (entry_rows r.begun) row) h)
@@ -175,8 +168,7 @@ row_refused reader n row front r e h =
 -- ---- the end
 
 fresh_begun : (reader : Reader) (lines : List Numbered) (begun : List Entry)
-    → IsDraft reader.format reader.draft (entry_rows begun)
-    → reader.draft.jobs_wanted ≡ 0 → begun ≡ []
+    → IsDraft reader.format reader.draft (entry_rows begun) → reader.draft.jobs_wanted ≡ 0 → begun ≡ []
 fresh_begun reader lines [] d fresh = refl
 fresh_begun reader lines (e ∷ begun) d fresh = absurd (let s = d.some_job in omega arith)
 

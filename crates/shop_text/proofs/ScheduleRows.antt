@@ -25,8 +25,7 @@ the_latest_start : IsTable crossing (behind_instance (codes "job 0: 0 3\njob 1: 
 the_latest_start = record { short = omega arith; lines = refl; jobs = refl }
 
 -- the printed makespan isn't looked at
-a_report : IsTable crossing
-    (codes "instance 1\nsize 2 2\nmakespan 3\nbound 7\nstatus optimal\n"
+a_report : IsTable crossing (codes "instance 1\nsize 2 2\nmakespan 3\nbound 7\nstatus optimal\n"
     ++ codes "open 0\nrounds 1\nnodes 6\njob 0: 0 3\njob 1: 0 3\n") crossing_rows
 a_report = record { short = omega arith; lines = refl; jobs = refl }
 

@@ -116,13 +116,6 @@ last_is_shown shop starts feasible machine instant =
         → last_shown shop starts machine instant (length shop.jobs) ≡ shown_at shop starts machine instant
     at x some = grind (arith, some_in_range, last_job, shown_job, none_serves, last_none, shown_none)
 
--- one more job is shown
-pub job_shown : (shop : Shop) (starts : Starts) (machine unit j : ℕ) (cells newer : List ℕ)
-    → length newer ≡ length cells → ShowsJobs shop starts machine unit cells j
-    → ShowsJob shop starts machine unit j cells newer
-    → ShowsJobs shop starts machine unit newer (j + 1)
-job_shown shop starts machine unit j cells newer same so_far here c h = search (rules, add-one)
-
 -- the cells of a machine, all jobs being shown
 pub all_shown : (shop : Shop) (starts : Starts) → IsFeasible shop starts → (machine unit : ℕ) (cells : List ℕ) (n : ℕ)
     → length cells ≡ n → ShowsJobs shop starts machine unit cells (length shop.jobs)

@@ -83,8 +83,7 @@ routes_row_to machines row h =
       eq-eqb (length h.rest % 2) 0 even,
       le-leb (length h.rest) 200 h.few,
       le-leb h.release 1000000000 h.small,
-    )
-    (pairs_to machines h.rest h.pairs)
+    ) (pairs_to machines h.rest h.pairs)
 
 -- ---- the rows behind a size line
 

@@ -16,8 +16,7 @@ Outcome f last lines =
     ((parts : List Part) × IsGood f lines parts) ⊎ ((fault : ReadFault) × IsFault f last lines fault)
 
 -- outside a part
-outside : (f : Grammar) (last : ℕ) (lines after : List Numbered) (parts : List Part)
-    → lines
+outside : (f : Grammar) (last : ℕ) (lines after : List Numbered) (parts : List Part) → lines
     ≡ lines_of_parts parts ++ [] ++ after → AllByRecursion (IsPart f) parts → AreText after → Outcome f last lines
 outside f last lines after [] cut good text =
     inr (NoInstance, inl (record { text = subst AreText (sym cut) text; told = refl }))
@@ -59,8 +58,7 @@ at_words f last all lines front begun s n words cut go false e =
     let refused : refusal f (entry_rows begun) (Words words) ≡ Some WrongRow = rw e refl
     in inr (
       fault_at n WrongRow,
-      inr
-          (inr (refused_here f all front lines begun s n (Words words) cut WrongRow refused)),
+      inr (inr (refused_here f all front lines begun s n (Words words) cut WrongRow refused)),
     )
 
 at_row : (f : Grammar) → IsGrammar f → (last : ℕ) (all lines front : List Numbered) (begun : List Entry)

@@ -143,8 +143,7 @@ at_end shop text before rows s = elim (cases_lt (length rows) (length shop.jobs)
 ]
 
 at_line : (shop : Shop) (text : List ℕ) (before : List Line) (rows : List (List ℕ)) (line : Line) (later : List Line)
-    → IsBegun shop text before rows (line ∷ later)
-    → (o : Option (List ℕ)) → row_in shop (length rows) line.1 ≡ o
+    → IsBegun shop text before rows (line ∷ later) → (o : Option (List ℕ)) → row_in shop (length rows) line.1 ≡ o
     → ((row : List ℕ) → IsBegun shop text (before ++ line ∷ []) (rows ++ row ∷ []) later → Outcome shop text)
     → Outcome shop text
 at_line shop text before rows line later s None e go = inr (

@@ -35,9 +35,12 @@ pub job_lines_more : (rows : List (List ℕ)) (j : ℕ) → j < length rows
     → job_lines (take (j + 1) rows) ≡ job_lines (take j rows) ++ job_line j (get_or rows j []) ∷ []
 job_lines_more rows j h = grind (arith, common_steps, take_more, enumerate_push, map-append, length-take-le)
 
-pub eight_more : (s t a b c d e f g h : List ℕ) → t ≡ (((((((s ++ a) ++ b) ++ c) ++ d) ++ e) ++ f) ++ g) ++ h
+-- eight more lines, one behind the other
+pub eight_lines : (s s1 s2 s3 s4 s5 s6 s7 t a b c d e f g h : List ℕ) → s1 ≡ s ++ a → s2 ≡ s1 ++ b → s3 ≡ s2 ++ c
+    → s4 ≡ s3 ++ d → s5 ≡ s4 ++ e → s6 ≡ s5 ++ f → s7 ≡ s6 ++ g → t ≡ s7 ++ h
     → t ≡ s ++ (a ++ (b ++ (c ++ (d ++ (e ++ (f ++ (g ++ (h ++ []))))))))
-eight_more s t a b c d e f g h is = is ∙ simp (append_assoc, append-nil)
+eight_lines s s1 s2 s3 s4 s5 s6 s7 t a b c d e f g h i1 i2 i3 i4 i5 i6 i7 i8 =
+    i8 ∙ rw (i7, i6, i5, i4, i3, i2, i1) (simp (append_assoc, append-nil))
 
 -- one more line behind a first one
 pub line_more : (old new : List ℕ) (first : Tokens) (line : ℕ → Tokens) (n : ℕ)
@@ -45,8 +48,7 @@ pub line_more : (old new : List ℕ) (first : Tokens) (line : ℕ → Tokens) (n
     → new ≡ text_of (first ∷ map line (range_with_len 0 (n + 1)))
 line_more old new first line n e f =
     text_more old new [] (first ∷ map line (range_with_len 0 n)) (line n) e f
-    ∙ ap (λ (lines : List Tokens). text_of (first ∷ lines)) (sym
-    (map-range_with_len_more line 0 n n (omega arith)))
+    ∙ ap (λ (lines : List Tokens). text_of (first ∷ lines)) (sym (map-range_with_len_more line 0 n n (omega arith)))
 
 -- ---- what a call that may want memory has written
 
@@ -63,21 +65,17 @@ abbrev pub early_tokens : List ℕ → List ℕ → List ℕ → Tokens
 early_tokens j k before = codes "infeasible:" ∷ codes "job" ∷ j ∷ codes "step" ∷ k ∷ codes "begins" ∷ codes "before"
     ∷ codes "step" ∷ before ∷ codes "ends" ∷ []
 
-pub early_is : (j k before : List ℕ)
-    → codes "infeasible: job " ++ (j ++ (codes " step " ++ (k
-    ++ (codes " begins before step " ++ (before ++ codes " ends\n")))))
-    ≡ printed_line (early_tokens j k before)
+pub early_is : (j k before : List ℕ) → codes "infeasible: job " ++ (j ++ (codes " step " ++ (k
+    ++ (codes " begins before step " ++ (before ++ codes " ends\n"))))) ≡ printed_line (early_tokens j k before)
 early_is j k before = simp append_assoc
 
-pub overlap_is : (m j k i l : List ℕ)
-    → codes "infeasible: machine " ++ (m ++ (codes " overlap of job "
+pub overlap_is : (m j k i l : List ℕ) → codes "infeasible: machine " ++ (m ++ (codes " overlap of job "
     ++ (j ++ (codes " step " ++ (k ++ (codes " and job " ++ (i ++ (codes " step " ++ (l ++ codes "\n")))))))))
     ≡ printed_line (codes "infeasible:" ∷ codes "machine" ∷ m ∷ codes "overlap" ∷ codes "of" ∷ codes "job" ∷ j
     ∷ codes "step" ∷ k ∷ codes "and" ∷ codes "job" ∷ i ∷ codes "step" ∷ l ∷ [])
 overlap_is m j k i l = simp append_assoc
 
-pub unreleased_is : (j : List ℕ)
-    → codes "infeasible: job " ++ (j ++ codes " step 0 begins before its release\n")
+pub unreleased_is : (j : List ℕ) → codes "infeasible: job " ++ (j ++ codes " step 0 begins before its release\n")
     ≡ printed_line (codes "infeasible:" ∷ codes "job" ∷ j ∷ codes "step" ∷ codes "0" ∷ codes "begins"
     ∷ codes "before" ∷ codes "its" ∷ codes "release" ∷ [])
 unreleased_is j = simp append_assoc

@@ -123,10 +123,8 @@ a_header_among_rows = refl
 
 -- the first header strikes what stands before it, the last of two names the instance, and the next one has its number
 abbrev text_of_names : List ℕ
-text_of_names = joined
-    (codes "82" ∷ codes " instance alpha" ∷ codes "instance a b" ∷ codes "instance beta" ∷ []
-    ++ codes "1 1" ∷ codes "0 7" ∷ []
-    ++ codes "1 1" ∷ codes "0 8" ∷ codes "the end" ∷ [])
+text_of_names = joined (codes "82" ∷ codes " instance alpha" ∷ codes "instance a b" ∷ codes "instance beta" ∷ []
+    ++ codes "1 1" ∷ codes "0 7" ∷ [] ++ codes "1 1" ∷ codes "0 8" ∷ codes "the end" ∷ [])
 
 abbrev shop_of : ℕ → Shop
 shop_of time = record { machines = 1; jobs = job 0 (op 0 time ∷ []) ∷ [] }
@@ -169,8 +167,7 @@ bounds_are_read_past : IsText taillard long_bound (named (decimal 1) (shop_of 7)
 bounds_are_read_past = is_read_as Taillard long_bound (named (decimal 1) (shop_of 7) ∷ []) refl refl refl
 
 abbrev matrices_a : List ℕ
-matrices_a = joined
-    (codes "a heading in words" ∷ codes "2 2 11 22 6 6" ∷ codes "Times" ∷ codes "3 2" ∷ codes "2 4" ∷ []
+matrices_a = joined (codes "a heading in words" ∷ codes "2 2 11 22 6 6" ∷ codes "Times" ∷ codes "3 2" ∷ codes "2 4" ∷ []
     ++ codes "Machines" ∷ codes "1 2" ∷ codes "2 1" ∷ [])
 
 accepted_matrices : IsText taillard matrices_a (named (decimal 1) shop_a ∷ [])

@@ -40,8 +40,7 @@ unfolding digits
 crossing_text = refl
 
 crossing_gantt : gantt_text crossing (starts_of crossing_rows)
-    ≡ codes "unit 1\nmachine 0 |0001111|\nmachine 1 |11.00..|\n"
-    ++ codes ""
+    ≡ codes "unit 1\nmachine 0 |0001111|\nmachine 1 |11.00..|\n" ++ codes ""
 unfolding digits
 crossing_gantt = refl
 
@@ -87,23 +86,20 @@ unfolding digits
 released_text = refl
 
 released_gantt : gantt_text released (starts_of released_rows)
-    ≡ codes "unit 1\nmachine 0 |000...1111|\nmachine 1 |....1100..|\n"
-    ++ codes ""
+    ≡ codes "unit 1\nmachine 0 |000...1111|\nmachine 1 |....1100..|\n" ++ codes ""
 unfolding digits
 released_gantt = refl
 
 -- ---- nothing to show
 
 nothing_gantt : gantt_text (record { machines = 1; jobs = job 0 (op 0 0 ∷ []) ∷ [] }) (starts_of ((0 ∷ []) ∷ []))
-    ≡ codes "unit 1\nmachine 0 ||\n"
-    ++ codes ""
+    ≡ codes "unit 1\nmachine 0 ||\n" ++ codes ""
 unfolding digits
 nothing_gantt = refl
 
 -- an open answer
 open_text : report_text (record {
-  name = codes "f"
-      ++ codes "t06";
+  name = codes "f" ++ codes "t06";
   shop = record { machines = 1; jobs = [] };
   table = [];
   makespan = 152;
@@ -112,8 +108,7 @@ open_text : report_text (record {
       1;
   rounds = 0;
   nodes = 0;
-})
-    ≡ codes "instance ft06\nsize 0 1\nmakespan 152\nbound 52\nstatus open\nopen 1\nrounds 0\nnodes 0\n"
+}) ≡ codes "instance ft06\nsize 0 1\nmakespan 152\nbound 52\nstatus open\nopen 1\nrounds 0\nnodes 0\n"
 unfolding digits
 open_text = refl
 
@@ -133,8 +128,7 @@ characters = refl
 -- ---- lists and verdicts
 
 two_instances : list_text (record { name = codes "alpha"; shop = crossing } ∷ record { name = codes "gap"; shop = gap }
-    ∷ []) ≡ codes "alpha 2 2\ngap 2 3\n"
-    ++ codes ""
+    ∷ []) ≡ codes "alpha 2 2\ngap 2 3\n" ++ codes ""
 unfolding digits
 two_instances = refl
 
@@ -146,8 +140,7 @@ abbrev at : ℕ → ℕ → OperationId
 at j k = record { job = j; step = k }
 
 overlap_text : verdict_text (Overlap 0 (at 0 0) (at 1 1))
-    ≡ codes "infeasible: machine 0 overlap of job 0 step 0 and job 1 step 1\n"
-    ++ codes ""
+    ≡ codes "infeasible: machine 0 overlap of job 0 step 0 and job 1 step 1\n" ++ codes ""
 unfolding digits
 overlap_text = refl
 

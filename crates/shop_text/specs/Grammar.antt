@@ -79,8 +79,7 @@ pub record IsAccepted (grammar : Grammar) (rows : List Row) (e : Entry) : Type 0
 -- each line is accepted after the rows before it
 abbrev pub AreAccepted : Grammar → List Row → List Entry → Type 0
 AreAccepted grammar rows [] = Unit {0}
-AreAccepted grammar rows (e ∷ entries) = IsAccepted grammar rows e
-    × AreAccepted grammar (rows ++ e.row ∷ []) entries
+AreAccepted grammar rows (e ∷ entries) = IsAccepted grammar rows e × AreAccepted grammar (rows ++ e.row ∷ []) entries
 
 abbrev pub IsPart : Grammar → Part → Type 0
 IsPart grammar part = AreAccepted grammar [] part × IsTrue (grammar.is_whole (entry_rows part))

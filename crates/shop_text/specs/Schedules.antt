@@ -52,13 +52,11 @@ starts_in j steps (word ∷ label ∷ starts) = if is_label j label then starts_
 
 -- the row that a line gives to job j, if j is a job and this is a line of it
 abbrev pub row_in : Shop → ℕ → Tokens → Option (List ℕ)
-row_in shop j tokens = if nat_lt j (length shop.jobs)
-    then starts_in j (length (route_of shop j)) tokens else None
+row_in shop j tokens = if nat_lt j (length shop.jobs) then starts_in j (length (route_of shop j)) tokens else None
 
 -- these lines are those of jobs 0, 1 and so on, and give these rows
 abbrev pub AreJobLines : Shop → List (ℕ × Tokens) → List (List ℕ) → Type 0
-AreJobLines shop lines rows = map (λ place. row_in shop place.0 place.1.1) (enumerate_from 0 lines)
-    ≡ map Some rows
+AreJobLines shop lines rows = map (λ place. row_in shop place.0 place.1.1) (enumerate_from 0 lines) ≡ map Some rows
 
 pub record IsTable (shop : Shop) (text : List ℕ) (rows : List (List ℕ)) : Type 0 where
   pub short : length text ≤ MAX_TEXT

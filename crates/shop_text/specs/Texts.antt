@@ -19,8 +19,7 @@ from_first_header grammar (line ∷ lines) =
     if is_header grammar line then line ∷ lines else from_first_header grammar lines
 
 abbrev pub unless_headed : Grammar → List Numbered → List Numbered
-unless_headed grammar lines = if list_any (is_header grammar) lines
-    then from_first_header grammar lines else lines
+unless_headed grammar lines = if list_any (is_header grammar) lines then from_first_header grammar lines else lines
 
 -- the lines that count: if there is a header, all before the first one are struck
 abbrev pub lines_left : Grammar → List ℕ → List Numbered

@@ -108,8 +108,7 @@ columns shop starts machine =
     shown_cells shop starts machine (unit_of (end_of shop starts)) (columns_of (end_of shop starts))
 
 abbrev pub cells_line : ℕ → List ℕ → Tokens
-cells_line machine cells = codes "machine" ∷ decimal machine ∷ (codes "|" ++ cells ++ codes "|")
-    ∷ []
+cells_line machine cells = codes "machine" ∷ decimal machine ∷ (codes "|" ++ cells ++ codes "|") ∷ []
 
 abbrev pub machine_line : Shop → Starts → ℕ → Tokens
 machine_line shop starts machine = cells_line machine (columns shop starts machine)

@@ -3,5 +3,4 @@ pub mod DraftLimits
 pub mod Drafts
 pub mod InstanceReading
 pub mod ScheduleReading
-pub mod Printing
 pub mod Cells

@@ -24,11 +24,7 @@ impl Format {
     pub fn word(self) -> &'static str
         ensures { result.now ≡ word_of self }
     {
-        match self {
-            Format::Orlib => FORMAT_WORDS[0],
-            Format::Taillard => FORMAT_WORDS[1],
-            Format::Routes => FORMAT_WORDS[2],
-        }
+        FORMAT_WORDS[self as usize]
     }
 
     /// Finds the format whose word is `word`; `None` if there is none.

@@ -68,8 +68,7 @@ fn show_machine(cells: &mut [u8], unit: u64, machine: usize, instance: &Instance
     requires shape { HasShape instance.now table.now }
     requires feasible { IsFeasible instance.now (starts_of table.now) }
     requires within { AllEndWithin instance.now (starts_of table.now) unit (length cells.old) }
-    ensures { cells.new
-        ≡ shown_cells instance.now (starts_of table.now) machine unit (length cells.old) }
+    ensures { cells.new ≡ shown_cells instance.now (starts_of table.now) machine unit (length cells.old) }
 {
     let columns = cells.len();
     show(cells, 0, columns, b'.');

@@ -33,36 +33,28 @@ fn size_of(format: Format, line: usize, row: &[u64]) -> Result<(usize, usize), R
     Ok((jobs as usize, machines as usize))
 }
 
-/// Reads the operations of a job from `pairs`, the machine and the time of each in turn. Fails with the first fault from
+/// Reads the operations of a job from `row`, the machine and the time of each in turn. Fails with the first fault from
 /// the left, or with `NoMemory` if memory runs out.
-fn route_of(
-    alloc: Global,
-    line: usize,
-    machines: usize,
-    pairs: &[u64],
-) -> Result<Vec<Op>, ReadFault>
-    requires even { length pairs.now % 2 ≡ 0 }
+fn route_of(alloc: Global, line: usize, machines: usize, row: &[u64]) -> Result<Vec<Op>, ReadFault>
+    requires even { length row.now % 2 ≡ 0 }
     requires machines { machines ≤ MAX_MACHINES }
-    ensures judged { JudgesRow result line (pairs_fault machines pairs.now)
-        (λ route. route.items ≡ pairs_of pairs.now) }
+    ensures judged { JudgesRow result line (pairs_fault machines row.now) (λ route. route.items ≡ pairs_of row.now) }
     ensures within { IfOk result (λ route. IsRouteWithin machines route.items) }
-    ensures len { IfOk result (λ route. 2 * length route.items ≡ length pairs.now) }
+    ensures len { IfOk result (λ route. 2 * length route.items ≡ length row.now) }
 {
-    let steps = pairs.len() / 2;
+    let steps = row.len() / 2;
     let mut route = Vec::with_capacity(alloc, steps)?;
     for i in 0..steps {
-        let machine = pairs[2 * i];
-        let time = pairs[2 * i + 1];
+        let machine = row[2 * i];
+        let time = row[2 * i + 1];
         if machine >= machines as u64 {
             return Err(ReadFault::BadMachine { line });
         }
         if time > MAX_TIME {
             return Err(ReadFault::BadTime { line });
         }
-        route.push(Op {
-            machine: machine as usize,
-            time,
-        })?;
+        let machine = machine as usize;
+        route.push(Op { machine, time })?;
     }
     Ok(route)
 }
@@ -111,8 +103,7 @@ fn are_times(row: &[u64]) -> bool
 
 /// Reads a row of times, one for each machine. Fails with the fault of the row, or with `NoMemory` if memory runs out.
 fn times_of(alloc: Global, line: usize, machines: usize, row: &[u64]) -> Result<Vec<u64>, ReadFault>
-    ensures judged { JudgesRow result line (times_row_fault machines row.now)
-        (λ times. times.items ≡ row.now) }
+    ensures judged { JudgesRow result line (times_row_fault machines row.now) (λ times. times.items ≡ row.now) }
     ensures within { IfOk result (λ times. All (λ time. time ≤ MAX_TIME) times.items) }
     ensures len { IfOk result (λ times. length times.items ≡ machines) }
 {
@@ -151,10 +142,8 @@ fn job_of_machines(
         if machine < 1 || machine > machines as u64 {
             return Err(ReadFault::BadMachine { line });
         }
-        route.push(Op {
-            machine: machine as usize - 1,
-            time: times[i],
-        })?;
+        let (machine, time) = (machine as usize - 1, times[i]);
+        route.push(Op { machine, time })?;
     }
     Ok(Job { release: 0, route })
 }
@@ -171,10 +160,9 @@ pub(crate) struct Draft {
 }
 
 impl Draft {
-    ghost use Rattle.shop_text.specs.{inner.LineReading.capped, Grammar.Row, Formats.taillard};
-    ghost use Rattle.shop_text.specs.inner.Drafts.{IsDraft, wants_times, jobs_drafted, PushesJob, TakesRow};
-    ghost use Rattle.shop_text.specs.declared.formats.Format.TheVariants.{Taillard};
     ghost use Rattle.std.specs.Prelude.{vec_len};
+    ghost use Rattle.shop_text.specs.{inner.LineReading.capped, Grammar.Row};
+    ghost use Rattle.shop_text.specs.inner.Drafts.{IsDraft, wants_times, jobs_drafted, PushesJob, TakesRow};
 
     /// Makes the draft of an instance of which no line is read.
     pub(crate) fn new(alloc: Global) -> Draft
@@ -195,21 +183,14 @@ impl Draft {
         self.jobs_wanted == 0
     }
 
-    /// Tells whether the next row begins a matrix or is the size line.
-    fn is_before_matrix(&self) -> bool
-        ensures { (rows : List Row) → IsDraft Taillard self.now rows
-            → result ≡ taillard.skips rows }
-    {
-        self.times.is_empty() || self.jobs.is_empty() && self.times.len() == self.jobs_wanted
-    }
-
-    /// Tells whether `format` skips a text line at this place of the instance.
+    /// Tells whether `format` skips a text line at this place of the instance: before the size line, and in `taillard`
+    /// before each matrix.
     pub(crate) fn skips_text(&self, format: Format) -> bool
-        ensures { (rows : List Row) → IsDraft format self.now rows
-            → result ≡ (grammar_of format).skips rows }
+        ensures { (rows : List Row) → IsDraft format self.now rows → result ≡ (grammar_of format).skips rows }
     {
         match format {
-            Format::Taillard => self.is_before_matrix(),
+            Format::Taillard if self.times.is_empty() => true,
+            Format::Taillard => self.jobs.is_empty() && self.times.len() == self.jobs_wanted,
             Format::Orlib | Format::Routes => self.is_fresh(),
         }
     }
@@ -223,17 +204,10 @@ impl Draft {
 
     /// Reads the job of the number line `row`, which is line `line` of the text. Fails with the first fault of the row,
     /// or with `NoMemory` if memory runs out.
-    fn job_of(
-        &self,
-        alloc: Global,
-        format: Format,
-        line: usize,
-        row: &[u64],
-    ) -> Result<Job, ReadFault>
+    fn job(&self, alloc: Global, format: Format, line: usize, row: &[u64]) -> Result<Job, ReadFault>
         requires some { 0 < self.now.jobs_wanted }
         requires times { wants_times format self.now.jobs_wanted (vec_len self.now.times) ≡ false }
-        ensures judged { (rows : List Row) (written : Row)
-            → IsDraft format self.now rows → row.now ≡ map capped written
+        ensures judged { (rows : List Row) (written : Row) → IsDraft format self.now rows → row.now ≡ map capped written
             → JudgesRow result line ((grammar_of format).refuses rows written)
             (λ job. map job_as_given (self.now.jobs.items ++ job ∷ [])
             ≡ jobs_drafted format (rows ++ written ∷ [])) }
@@ -275,8 +249,7 @@ impl Draft {
         line: usize,
         row: &[u64],
     ) -> Result<Option<Instance>, ReadFault>
-        ensures { (rows : List Row) (written : Row)
-            → IsDraft format self.old rows → row.now ≡ map capped written
+        ensures { (rows : List Row) (written : Row) → IsDraft format self.old rows → row.now ≡ map capped written
             → TakesRow format rows written line self.new result }
     {
         if self.jobs_wanted == 0 {
@@ -290,7 +263,7 @@ impl Draft {
             self.times.push(times)?;
             return Ok(None);
         }
-        let job = self.job_of(alloc, format, line, row)?;
+        let job = self.job(alloc, format, line, row)?;
         self.push_job(alloc, job)
     }
 }

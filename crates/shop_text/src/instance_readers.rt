@@ -1,5 +1,5 @@
 // Reads an instance text line by line, and the names that its text lines give to instances.
-ghost use Rattle.std.specs.{Prelude.{◌≡◌, ℕ, ◌≤◌, List, [], length, map, MatchOption, Some, None}, List.list_all};
+ghost use Rattle.std.specs.{Prelude.{◌≡◌, ℕ, ◌≤◌, List, length, map, MatchOption, Some, None}, List.list_all};
 ghost use Rattle.shop_text.specs.{Formats.{grammar_of, header_of, is_visible, orlib, taillard, routes}, Names.IsRead};
 ghost use Rattle.shop_text.specs.{Lines.{Numbered, Numbers, Words, line_of, tokens_of}, Texts.lines_left};
 ghost use Rattle.shop_text.specs.inner.LineReading.{capped, lines_after, IsBehind};
@@ -55,19 +55,6 @@ struct Reader {
 }
 
 impl Reader {
-    /// Makes a reader that has read no line.
-    fn new(alloc: Global, format: Format) -> Reader
-        ensures same { result.format ≡ format }
-        ensures nothing { IsReadUpTo result [] }
-    {
-        Reader {
-            format,
-            named: Vec::new(alloc),
-            name: None,
-            draft: Draft::new(alloc),
-        }
-    }
-
     /// Reads a text line, and keeps the name that it gives, if any. Fails with `BadRow` if the line stands between
     /// rows, or with `NoMemory` if memory runs out.
     fn take_words(
@@ -92,8 +79,7 @@ impl Reader {
 
     /// Reads a number line. Fails with the fault of the line, or with `NoMemory` if memory runs out.
     fn take_numbers(&mut self, alloc: Global, line: usize, row: &[u64]) -> Result<(), ReadFault>
-        ensures { (front : List Numbered) (written : List ℕ) → IsReadUpTo self.old front
-            → row.now ≡ map capped written
+        ensures { (front : List Numbered) (written : List ℕ) → IsReadUpTo self.old front → row.now ≡ map capped written
             → Takes self.old.format self.new front line (Numbers written) result }
     {
         if let Some(instance) = self.draft.take_row(alloc, self.format, line, row)? {
@@ -137,8 +123,7 @@ impl Reader {
     /// inside an instance or has none.
     fn finish(self, last: usize) -> Result<Vec<Named>, ReadFault>
         requires { last ≤ MAX_TEXT }
-        ensures { (lines : List Numbered) → IsReadUpTo self lines
-            → Ends (grammar_of self.format) last lines result }
+        ensures { (lines : List Numbered) → IsReadUpTo self lines → Ends (grammar_of self.format) last lines result }
     {
         let Reader { named, draft, .. } = self;
         if !draft.is_fresh() {
@@ -180,7 +165,12 @@ pub fn read(alloc: Global, format: Format, text: &[u8]) -> Result<Vec<Named>, Re
         return Err(ReadFault::TooLong);
     }
     let (mut number, mut rest) = from_first_header(format, text);
-    let mut reader = Reader::new(alloc, format);
+    let mut reader = Reader {
+        format,
+        named: Vec::new(alloc),
+        name: None,
+        draft: Draft::new(alloc),
+    };
     let mut numbers = Vec::new(alloc);
     while rest.len() > 0 {
         let (line, after) = next_line(rest);

@@ -45,8 +45,7 @@ fn token_end(line: &[u8]) -> Option<usize>
 
 /// Splits a line into its first token and what follows the separator after it; `None` if the line is blank.
 pub(crate) fn next_token(line: &[u8]) -> Option<(&[u8], &[u8])>
-    ensures cut { MatchOption result (tokens_of line.now ≡ [])
-        (λ t. tokens_of line.now ≡ t.0.now ∷ tokens_of t.1.now) }
+    ensures cut { MatchOption result (tokens_of line.now ≡ []) (λ t. tokens_of line.now ≡ t.0.now ∷ tokens_of t.1.now) }
     ensures shorter { MatchOption result (Unit {0}) (λ t. length t.1.now < length line.now) }
 {
     let rest = &line[token_start(line)?..];

@@ -1,36 +1,13 @@
 // The texts of reports, lists and verdicts.
-ghost use Rattle.std.specs.Prelude.{◌≡◌, ◌∷◌, [], IfOk, codes, decimal, string_bytes};
+ghost use Rattle.std.specs.Prelude.{◌≡◌, ◌++◌, IfOk, OnOk, string_bytes};
 ghost use Rattle.shop_model.specs.Checking.{HasShape};
-ghost use Rattle.shop_text.specs.Writing.{number_line, status_word, answer_lines, job_line, job_lines, report_text};
-ghost use Rattle.shop_text.specs.{Writing.{instance_line, list_text, verdict_text}, Names.{shop_of_named, shops_of}};
-ghost use Rattle.shop_text.specs.{inner.Printing.{AddsLine, AddsLines}, Reports.reported};
+ghost use Rattle.shop_text.specs.Writing.{printed_line, text_of, status_word, answer_lines, job_line, report_text};
+ghost use Rattle.shop_text.specs.{Writing.{list_text, verdict_text}, Reports.reported, Names.shops_of};
 
 use crate::names::Named;
 use crate::reports::Report;
-use shop_model::{Table, Verdict};
+use shop_model::Verdict;
 use std::alloc::{AllocError as NoMemory, Global};
-
-/// Writes a word and a number as a line. Fails with `NoMemory` if memory runs out.
-fn write_number(out: &mut String, word: &str, number: u64) -> Result<(), NoMemory>
-    ensures { AddsLine result out.old out.new (number_line word.now number) }
-{
-    writeln!(out, "{word} {number}")
-}
-
-/// Writes two words as a line. Fails with `NoMemory` if memory runs out.
-fn write_words(out: &mut String, word: &str, value: &str) -> Result<(), NoMemory>
-    ensures { AddsLine result out.old out.new (word.now ∷ value.now ∷ []) }
-{
-    writeln!(out, "{word} {value}")
-}
-
-/// Writes the numbers of jobs and machines as a line. Fails with `NoMemory` if memory runs out.
-fn write_size(out: &mut String, jobs: usize, machines: usize) -> Result<(), NoMemory>
-    ensures { AddsLine result out.old out.new
-        (codes "size" ∷ decimal jobs ∷ decimal machines ∷ []) }
-{
-    writeln!(out, "size {jobs} {machines}")
-}
 
 /// Answers the status of a report: `optimal` if no node is open, else `open`.
 fn status(open_nodes: usize) -> &'static str
@@ -41,37 +18,29 @@ fn status(open_nodes: usize) -> &'static str
 
 /// Writes the lines before those of the jobs. Fails with `NoMemory` if memory runs out.
 fn write_answer(out: &mut String, report: &Report) -> Result<(), NoMemory>
-    ensures { AddsLines result out.old out.new (answer_lines (reported report.now)) }
+    ensures { OnOk result
+        (string_bytes out.new ≡ string_bytes out.old ++ text_of (answer_lines (reported report.now))) }
 {
-    write_words(out, "instance", report.name)?;
-    write_size(out, report.instance.jobs(), report.instance.machines())?;
-    write_number(out, "makespan", report.makespan)?;
-    write_number(out, "bound", report.bound)?;
-    write_words(out, "status", status(report.open_nodes))?;
-    write_number(out, "open", report.open_nodes as u64)?;
-    write_number(out, "rounds", report.rounds)?;
-    write_number(out, "nodes", report.nodes)
+    let (jobs, machines) = (report.instance.jobs(), report.instance.machines());
+    writeln!(out, "instance {}", report.name)?;
+    writeln!(out, "size {jobs} {machines}")?;
+    writeln!(out, "makespan {}", report.makespan)?;
+    writeln!(out, "bound {}", report.bound)?;
+    writeln!(out, "status {}", status(report.open_nodes))?;
+    writeln!(out, "open {}", report.open_nodes)?;
+    writeln!(out, "rounds {}", report.rounds)?;
+    writeln!(out, "nodes {}", report.nodes)
 }
 
 /// Writes the line of job `j`. Fails with `NoMemory` if memory runs out.
 fn write_job(out: &mut String, j: usize, starts: &[u64]) -> Result<(), NoMemory>
-    ensures { AddsLine result out.old out.new (job_line j starts.now) }
+    ensures { OnOk result (string_bytes out.new ≡ string_bytes out.old ++ printed_line (job_line j starts.now)) }
 {
     write!(out, "job {j}:")?;
     for start in starts {
         write!(out, " {start}")?;
     }
     writeln!(out)
-}
-
-/// Writes a line for each job. Fails with `NoMemory` if memory runs out.
-fn write_jobs(out: &mut String, table: &Table) -> Result<(), NoMemory>
-    ensures { AddsLines result out.old out.new (job_lines table.now) }
-{
-    for j in 0..table.len() {
-        write_job(out, j, table.row(j))?;
-    }
-    Ok(())
 }
 
 /// Makes the text of `report`: what the search answers, and a line for each job with the starts of its steps. The
@@ -82,18 +51,10 @@ pub fn report(alloc: Global, report: &Report) -> Result<Vec<u8>, NoMemory>
 {
     let mut out = String::new(alloc);
     write_answer(&mut out, report)?;
-    write_jobs(&mut out, report.table)?;
+    for j in 0..report.table.len() {
+        write_job(&mut out, j, report.table.row(j))?;
+    }
     Ok(out.into_bytes())
-}
-
-/// Writes the line of an instance. Fails with `NoMemory` if memory runs out.
-fn write_instance(out: &mut String, named: &Named) -> Result<(), NoMemory>
-    ensures { AddsLine result out.old out.new (instance_line (shop_of_named named.now)) }
-{
-    let name = named.name.as_str();
-    let jobs = named.instance.jobs();
-    let machines = named.instance.machines();
-    writeln!(out, "{name} {jobs} {machines}")
 }
 
 /// Makes a line for each instance: its name, its number of jobs and its number of machines. Fails with `NoMemory` if
@@ -103,7 +64,8 @@ pub fn listing(alloc: Global, named: &[Named]) -> Result<Vec<u8>, NoMemory>
 {
     let mut out = String::new(alloc);
     for one in named {
-        write_instance(&mut out, one)?;
+        let (jobs, machines) = (one.instance.jobs(), one.instance.machines());
+        writeln!(out, "{} {jobs} {machines}", one.name)?;
     }
     Ok(out.into_bytes())
 }

@@ -1,8 +1,7 @@
 // Reads the table of a schedule text from the lines of its jobs.
-ghost use Rattle.std.specs.Prelude.{◌≡◌, ◌≤◌, ℕ, List, ◌∷◌, length, codes, IfOk};
+ghost use Rattle.std.specs.Prelude.{◌≡◌, ◌≤◌, ◌∷◌, length, codes, IfOk};
 ghost use Rattle.shop_text.specs.{Lines.tokens_of, Schedules.{is_label, starts_of_tokens, row_in, IsTableRead}};
-ghost use Rattle.shop_text.specs.inner.{LineReading.number_in, ScheduleReading.{FollowsJob, IsStartOf}};
-ghost use Rattle.shop_text.specs.inner.ScheduleReading.{row_read, AreRowsRead};
+ghost use Rattle.shop_text.specs.inner.ScheduleReading.{FollowsJob, row_read, AreRowsRead};
 
 use crate::faults::ReadFault;
 use crate::limits::MAX_TEXT;
@@ -14,10 +13,8 @@ use std::alloc::{AllocError as NoMemory, Global};
 fn after_job(line: &[u8]) -> Option<&[u8]>
     ensures { FollowsJob (tokens_of line.now) result }
 {
-    match next_token(line) {
-        Some((token, rest)) if token == b"job".as_slice() => Some(rest),
-        _ => None,
-    }
+    let (token, rest) = next_token(line)?;
+    (token == b"job".as_slice()).then_some(rest)
 }
 
 /// Tells whether `token` is the number of job `j` with a colon behind it.
@@ -25,27 +22,8 @@ fn names_job(j: usize, token: &[u8]) -> bool
     requires { j ≤ MAX_JOBS }
     ensures { result ≡ is_label j token.now }
 {
-    if token.len() < 2 {
-        return false;
-    }
-    let last = token.len() - 1;
-    if token[last] != b':' {
-        return false;
-    }
-    match number_of(&token[..last]) {
-        Some(number) => number == j as u64,
-        None => false,
-    }
-}
-
-/// Answers `number` if it is a start, which is at most `MAX_START`; else `None`.
-fn start_of(number: Option<u64>) -> Option<u64>
-    ensures { (token : List ℕ) → number ≡ number_in token → IsStartOf token result }
-{
-    match number {
-        Some(start) if start <= MAX_START => Some(start),
-        _ => None,
-    }
+    let last = token.len().saturating_sub(1);
+    last > 0 && token[last] == b':' && number_of(&token[..last]) == Some(j as u64)
 }
 
 /// Reads the starts behind the label of a line; `None` unless they are `steps` starts and nothing else. Fails with
@@ -59,16 +37,13 @@ fn starts_behind(alloc: Global, steps: usize, behind: &[u8]) -> Result<Option<Ve
         if starts.len() == steps {
             return Ok(None);
         }
-        let Some(start) = start_of(number) else {
-            return Ok(None);
-        };
-        starts.push(start).unwrap();
+        match number {
+            Some(start) if start <= MAX_START => starts.push(start).unwrap(),
+            _ => return Ok(None),
+        }
         rest = after;
     }
-    if starts.len() < steps {
-        return Ok(None);
-    }
-    Ok(Some(starts))
+    Ok((starts.len() == steps).then_some(starts))
 }
 
 /// Reads the starts of job `j` from `behind`, the rest of a line behind the token `job`; `None` if this is no line of

@@ -39,8 +39,7 @@ module _ (hits : List Bool) (s : Moment) (id : ℕ) (v : View) (i : ℕ) (law : 
   -- where the flag was 0
   module _ (zero_found : slice_index s.words i ≡ 0) where
     pub not_mine : has v.mine i ≡ false
-    not_mine = is_false (has v.mine i)
-        (λ m. let o = ((law.knows id v at).mine i m).1 in absurd (omega arith))
+    not_mine = is_false (has v.mine i) (λ m. let o = ((law.knows id v at).mine i m).1 in absurd (omega arith))
 
     won_knows : Knows hits flagged (with_mine v i)
     won_knows = let k = still_knows hits flagged s.words v risen (law.knows id v at) in record {
@@ -88,24 +87,21 @@ module _ (hits : List Bool) (s : Moment) (id : ℕ) (v : View) (i : ℕ) (law : 
 
 claims_at : (hits : List Bool) (slots id : ℕ) (v : View) (i : ℕ) → v.live ≡ true → i < length hits
     → Allows (IsLawful hits) slots id (v, []) i (λ _. 1) (Claims (step slots i 1 0 none) (v, []))
-claims_at hits slots id v i live inside s law _ at _ = ⊎_elim
-    (λ (z : slice_index s.words i ≡ 0). (
-      with_mine v i,
-      keeps,
-      tt,
-      stepped_lawful hits s id v (with_mine v i) (set s.words i 1) law (at, live)
-          (claim_won hits s id v i law (at, live) inside z),
-      (refl, rw z (refl, not_mine hits s id v i law (at, live) inside z)),
-    ))
-    (λ (o : slice_index s.words i ≡ 1). (
-      with_seen v i,
-      keeps,
-      tt,
-      stepped_lawful hits s id v (with_seen v i) (set s.words i 1) law (at, live)
-          (claim_lost hits s id v i law (at, live) inside o),
-      (refl, rw o refl),
-    ))
-    (law.flag i inside)
+claims_at hits slots id v i live inside s law _ at _ = ⊎_elim (λ (z : slice_index s.words i ≡ 0). (
+  with_mine v i,
+  keeps,
+  tt,
+  stepped_lawful hits s id v (with_mine v i) (set s.words i 1) law (at, live)
+      (claim_won hits s id v i law (at, live) inside z),
+  (refl, rw z (refl, not_mine hits s id v i law (at, live) inside z)),
+)) (λ (o : slice_index s.words i ≡ 1). (
+  with_seen v i,
+  keeps,
+  tt,
+  stepped_lawful hits s id v (with_seen v i) (set s.words i 1) law (at, live)
+      (claim_lost hits s id v i law (at, live) inside o),
+  (refl, rw o refl),
+)) (law.flag i inside)
 
 -- the same at a seat that holds no slot
 pub claims : (hits : List Bool) (slots id : ℕ) (me : Me (Unit {0}) View) (i : ℕ) → me.1 ≡ [] → me.0.live ≡ true
@@ -117,8 +113,6 @@ claims hits slots id me i bare live inside =
 -- a claim that was won or lost says who has won the piece
 pub decided : (hits : List Bool) (won : Bool) (n : ℕ) (v w : View) → IsTold won n v w → IsDecided won hits n w
 decided hits true n v w t = λ s seat other u law at there theirs.
-    law.apart other seat u w n there at theirs
-    (subst (λ (x : View). has x.mine n ≡ true) (sym t.0) (has_head n v.mine))
+    law.apart other seat u w n there at theirs (subst (λ (x : View). has x.mine n ≡ true) (sym t.0) (has_head n v.mine))
 decided hits false n v w e = λ s seat law at.
-    law.won n ((law.knows seat w at).seen n
-    (subst (λ (x : View). has x.seen n ≡ true) (sym e) (has_head n v.seen)))
+    law.won n ((law.knows seat w at).seen n (subst (λ (x : View). has x.seen n ≡ true) (sym e) (has_head n v.seen)))

@@ -41,8 +41,7 @@ ends hits s id v law at all served = record {
       let k = law.knows id v at in
       let mine : has v.mine m ≡ true = all m (subst (λ l. m < length l) (sym k.same) below) in
       let hit : is_hit_in v.hits m ≡ true = subst (λ l. is_hit_in l m ≡ true) (sym k.same) h in
-      let b = k.below in
-      ⊎_elim (λ d. (k.done m d).2) (λ (l : v.low < m). omega arith) (served m mine hit);
+      let b = k.below in ⊎_elim (λ d. (k.done m d).2) (λ (l : v.low < m). omega arith) (served m mine hit);
 }
 
 -- the word that is read of a closed table

@@ -80,14 +80,11 @@ module _ (hits : List Bool) (s : Moment) (id : ℕ) (v : View) (n : ℕ) (law : 
       × (min n (hit_word hits s.words) ≤ m)
 
   done_is : (m : ℕ) → has (n ∷ v.done) m ≡ true → IsDone m
-  done_is m h = ⊎_elim
-      (λ (e : n ≡ m). subst IsDone e (mine, hits_n, (let q = hit_is in omega arith), omega arith))
+  done_is m h = ⊎_elim (λ (e : n ≡ m). subst IsDone e (mine, hits_n, (let q = hit_is in omega arith), omega arith))
       (λ (was : has v.done m ≡ true).
       let t = (law.knows id v at).done m was in
       let q = hit_is in
-      let z = t.2 in
-      (t.0, t.1, omega arith, omega arith))
-      (has_cons n m v.done h)
+      let z = t.2 in (t.0, t.1, omega arith, omega arith)) (has_cons n m v.done h)
 
   marked_knows : Knows hits marked (with_done v n (min n (hit_word hits s.words)))
   marked_knows = let k = still_knows hits marked s.words v risen (law.knows id v at) in record {

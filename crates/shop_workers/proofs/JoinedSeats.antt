@@ -38,8 +38,7 @@ module _ (hits : List Bool) (s : Moment) (id other : ℕ) (v w : View) (law : Is
   who j u here = grind (arith, true≢false, get_elem?, at_set)
 
   low_is : IsHitOrEnd hits (min v.low w.low)
-  low_is = ⊎_elim
-      (λ (e : min v.low w.low ≡ v.low). subst (IsHitOrEnd hits) (sym e) (law.knows id v at).low)
+  low_is = ⊎_elim (λ (e : min v.low w.low ≡ v.low). subst (IsHitOrEnd hits) (sym e) (law.knows id v at).low)
       (λ (e : min v.low w.low ≡ w.low). subst (IsHitOrEnd hits) (sym e) (law.knows other w there).low)
       (min_is v.low w.low)
 
@@ -70,24 +69,20 @@ module _ (hits : List Bool) (s : Moment) (id other : ℕ) (v w : View) (law : Is
       → has u.mine n ≡ true → has x.mine n ≡ true → a ≡ b
   apart' a b u x n la lb mu mx = ⊎_elim one another (who a u la) where
     one : (a ≡ id) × (joined v w ≡ u) → a ≡ b
-    one p = ⊎_elim
-        (λ (q : (b ≡ id) × (joined v w ≡ x)). p.0 ∙ sym q.0)
+    one p = ⊎_elim (λ (q : (b ≡ id) × (joined v w ≡ x)). p.0 ∙ sym q.0)
         (λ (q : Another b x). absurd (alone b x n q (subst (λ (y : View). has y.mine n ≡ true) (sym p.1) mu) mx))
         (who b x lb)
 
     another : Another a u → a ≡ b
-    another p = ⊎_elim
-        (λ (q : (b ≡ id) × (joined v w ≡ x)).
+    another p = ⊎_elim (λ (q : (b ≡ id) × (joined v w ≡ x)).
         absurd (alone a u n p (subst (λ (y : View). has y.mine n ≡ true) (sym q.1) mx) mu))
-        (λ (q : Another b x). law.apart a b u x n p.2 q.2 mu mx)
-        (who b x lb)
+        (λ (q : Another b x). law.apart a b u x n p.2 q.2 mu mx) (who b x lb)
 
   abbrev MarkedBySome : ℕ → Type 0
   MarkedBySome k = Somebody both (λ u. has u.done k ≡ true)
 
   marked' : (hit_word hits s.words ≡ length hits) ⊎ MarkedBySome (hit_word hits s.words)
-  marked' = let k = hit_word hits s.words in ⊎_elim
-      (λ e. inl e)
+  marked' = let k = hit_word hits s.words in ⊎_elim (λ e. inl e)
       (λ q. inr (somebody_joined (λ u. has u.done k ≡ true) (has_left v.done w.done k) (has_right v.done w.done k) q))
       law.marked
 
@@ -104,20 +99,16 @@ module _ (hits : List Bool) (s : Moment) (id other : ℕ) (v w : View) (law : Is
         somebody_joined (λ u. has u.mine n ≡ true) (has_left v.mine w.mine n) (has_right v.mine w.mine n) (law.won n h);
     hit = law.hit;
     marked = marked';
-    knows = λ j u here. ⊎_elim
-        (λ (p : (j ≡ id) × (joined v w ≡ u)). subst (Knows hits s.words) p.1 joined_knows)
-        (λ (p : Another j u). law.knows j u p.2)
-        (who j u here);
+    knows = λ j u here. ⊎_elim (λ (p : (j ≡ id) × (joined v w ≡ u)). subst (Knows hits s.words) p.1 joined_knows)
+        (λ (p : Another j u). law.knows j u p.2) (who j u here);
     apart = apart';
   }
 
 pub joins : (hits : List Bool) (id other : ℕ) (v w : View) → v.live ≡ true → w.live ≡ true
     → Joins (IsLawful hits) id v other w (joined v w) spent
 joins hits id other v w live alive s law at ne there =
-    let e : get_elem? s.views other ≡ some w = ⊎_elim
-    (λ (t : (other ≡ id) × (joined v w ≡ w)). absurd (ne t.0))
-    (λ (t : (other ≢ id) × (get_elem? s.views other ≡ some w)). t.1)
-    (at_set s.views id other (joined v w) w there) in
+    let e : get_elem? s.views other ≡ some w = ⊎_elim (λ (t : (other ≡ id) × (joined v w ≡ w)). absurd (ne t.0))
+    (λ (t : (other ≢ id) × (get_elem? s.views other ≡ some w)). t.1) (at_set s.views id other (joined v w) w there) in
     joined_lawful hits s id other v w law (at, live) (e, alive) ne
 
 -- a load that tells a seat that no number stands twice among those that it won

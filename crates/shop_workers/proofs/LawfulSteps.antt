@@ -86,15 +86,13 @@ module _ (hits : List Bool) (s : Moment) (id : ℕ) (v w : View) (after : List �
   won' : (n : ℕ) → IsClaimed hits after n → Somebody views' (λ u. has u.mine n ≡ true)
   won' n claimed = ⊎_elim
       (λ (was : IsClaimed hits s.words n). still_somebody (λ u. has u.mine n ≡ true) (st.more_mine n) (law.won n was))
-      (λ (mine : has w.mine n ≡ true). (id, w, here, mine))
-      (st.won n claimed)
+      (λ (mine : has w.mine n ≡ true). (id, w, here, mine)) (st.won n claimed)
 
   abbrev MarkedBySome : ℕ → Type 0
   MarkedBySome k = Somebody views' (λ u. has u.done k ≡ true)
 
   marked' : (hit_word hits after ≡ length hits) ⊎ MarkedBySome (hit_word hits after)
-  marked' = ⊎_elim
-      (λ same. ⊎_elim (λ (e : hit_word hits s.words ≡ length hits). inl (same ∙ e)) (kept same) law.marked)
+  marked' = ⊎_elim (λ same. ⊎_elim (λ (e : hit_word hits s.words ≡ length hits). inl (same ∙ e)) (kept same) law.marked)
       (λ mine. inr (id, w, here, mine))
       st.marked
     where
@@ -106,8 +104,7 @@ module _ (hits : List Bool) (s : Moment) (id : ℕ) (v w : View) (after : List �
           inr (subst MarkedBySome (sym same) (still_somebody (λ u. has u.done k ≡ true) (st.more_done k) some_one))
 
   knows' : (j : ℕ) (u : View) → IsLive views' j u → Knows hits after u
-  knows' j u there = ⊎_elim
-      (λ (t : (j ≡ id) × (w ≡ u)). subst (Knows hits after) t.1 st.knows)
+  knows' j u there = ⊎_elim (λ (t : (j ≡ id) × (w ≡ u)). subst (Knows hits after) t.1 st.knows)
       (λ (t : (j ≢ id) × IsLive s.views j u). still_knows hits after s.words u st.risen (law.knows j u t.1))
       (who j u there)
 
@@ -122,18 +119,13 @@ module _ (hits : List Bool) (s : Moment) (id : ℕ) (v w : View) (after : List �
       → has u.mine n ≡ true → has x.mine n ≡ true → a ≡ b
   apart' a b u x n la lb mu mx = ⊎_elim one other (who a u la) where
     one : (a ≡ id) × (w ≡ u) → a ≡ b
-    one p = ⊎_elim
-        (λ (q : (b ≡ id) × (w ≡ x)). p.0 ∙ sym q.0)
-        (λ (q : (b ≢ id) × IsLive s.views b x).
-        absurd (alone b x n q.0 q.1 (subst (λ (y : View). has y.mine n ≡ true) (sym p.1) mu) mx))
-        (who b x lb)
+    one p = ⊎_elim (λ (q : (b ≡ id) × (w ≡ x)). p.0 ∙ sym q.0) (λ (q : (b ≢ id) × IsLive s.views b x).
+        absurd (alone b x n q.0 q.1 (subst (λ (y : View). has y.mine n ≡ true) (sym p.1) mu) mx)) (who b x lb)
 
     other : (a ≢ id) × IsLive s.views a u → a ≡ b
-    other p = ⊎_elim
-        (λ (q : (b ≡ id) × (w ≡ x)).
+    other p = ⊎_elim (λ (q : (b ≡ id) × (w ≡ x)).
         absurd (alone a u n p.0 p.1 (subst (λ (y : View). has y.mine n ≡ true) (sym q.1) mx) mu))
-        (λ (q : (b ≢ id) × IsLive s.views b x). law.apart a b u x n p.1 q.1 mu mx)
-        (who b x lb)
+        (λ (q : (b ≢ id) × IsLive s.views b x). law.apart a b u x n p.1 q.1 mu mx) (who b x lb)
 
   pub stepped_lawful : IsLawful hits record { words = after; homes = s.homes; views = set s.views id w }
   unfolding views'

@@ -36,8 +36,7 @@ marker = with_done winner 0 0
 pub marked : IsLawful hits (moment (1 ∷ 0 ∷ 0 ∷ 0 ∷ []) (marker ∷ []))
 marked =
     stepped_lawful hits (moment (1 ∷ 0 ∷ 0 ∷ 3 ∷ []) (winner ∷ [])) 0 winner marker (1 ∷ 0 ∷ 0 ∷ 0 ∷ []) claimed
-    (refl, refl)
-    (mark_step hits (moment (1 ∷ 0 ∷ 0 ∷ 3 ∷ []) (winner ∷ [])) 0 winner 0 claimed (refl, refl) refl refl)
+    (refl, refl) (mark_step hits (moment (1 ∷ 0 ∷ 0 ∷ 3 ∷ []) (winner ∷ [])) 0 winner 0 claimed (refl, refl) refl refl)
 
 -- No moment has a hit word that is no piece which ends at the opening bound,
 pub no_such_hit : IsLawful hits (moment (0 ∷ 1 ∷ 0 ∷ 1 ∷ []) (with_mine nobody 1 ∷ [])) → ⊥

@@ -65,14 +65,11 @@ module _ (hits : List Bool) (s : Moment) (w : View) (law : IsLawful hits s) (non
     won = λ n h. older (λ u. has u.mine n ≡ true) (law.won n h);
     hit = law.hit;
     marked = ⊎_elim (λ e. inl e) (λ q. inr (older (λ u. has u.done (hit_word hits s.words) ≡ true) q)) law.marked;
-    knows = λ id v at. ⊎_elim
-        (λ old. law.knows id v old)
-        (λ (e : w ≡ v). subst (Knows hits s.words) e k)
+    knows = λ id v at. ⊎_elim (λ old. law.knows id v old) (λ (e : w ≡ v). subst (Knows hits s.words) e k)
         (old_or_new id v at);
     apart = λ a b u x n la lb mu mx. ⊎_elim
         (λ oa. ⊎_elim (λ ob. law.apart a b u x n oa ob mu mx) (λ e. absurd (not_won x n e mx)) (old_or_new b x lb))
-        (λ e. absurd (not_won u n e mu))
-        (old_or_new a u la);
+        (λ e. absurd (not_won u n e mu)) (old_or_new a u la);
   }
 
 empty_knows : (hits : List Bool) (words : List ℕ) (v : View) → Knows hits words v → Knows hits words (empty_handed v)

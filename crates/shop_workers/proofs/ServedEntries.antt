@@ -16,8 +16,7 @@ has_reverse : (xs : List ℕ) (n : ℕ) → has (reverse xs) n ≡ true → has 
 has_reverse [] n h = h
 has_reverse (x ∷ xs) n h =
     let there : has (reverse xs ++ x ∷ []) n ≡ true = subst (λ l. has l n ≡ true) (reverse-append (x ∷ []) xs) h in
-    ⊎_elim
-    (λ a. has_tail x n xs (has_reverse xs n a))
+    ⊎_elim (λ a. has_tail x n xs (has_reverse xs n a))
     (λ b. ⊎_elim (λ (e : x ≡ n). has_same x n xs e) (λ none. absurd (true≢false (sym none))) (has_cons x n [] b))
     (has_append (reverse xs) (x ∷ []) n there)
 
@@ -32,11 +31,9 @@ by_kind r w n x fits served e hit = grind arith
 by_entry : (r : Told) (w : View) (n : ℕ) (es : List Entry) → OfRound r es → All (λ (e : Entry). IsServed r w e.kind) es
     → has (numbers_of es) n ≡ true → entries.is_hit r n ≡ true → Served w n
 by_entry r w n [] of served h hit = absurd (true≢false (sym h))
-by_entry r w n (e ∷ es) of served h hit = ⊎_elim
-    (λ (is : number_of e.kind ≡ n).
+by_entry r w n (e ∷ es) of served h hit = ⊎_elim (λ (is : number_of e.kind ≡ n).
     by_kind r w n e.kind (subst (λ t. Fits t e.kind) (All-head (λ (x : Entry). told x.round.now ≡ r) e es of) e.fits)
-    (All-head (λ (x : Entry). IsServed r w x.kind) e es served) is hit)
-    (λ (later : has (numbers_of es) n ≡ true).
+    (All-head (λ (x : Entry). IsServed r w x.kind) e es served) is hit) (λ (later : has (numbers_of es) n ≡ true).
     by_entry r w n es (All-tail (λ (x : Entry). told x.round.now ≡ r) e es of)
     (All-tail (λ (x : Entry). IsServed r w x.kind) e es served) later hit)
     (has_cons (number_of e.kind) n (numbers_of es) h)

@@ -60,8 +60,7 @@ fn search_or_pass<'r, P: PieceSearch<'r>, G: Gate>(
     ensures lower { low.new ≤ low.old }
     ensures entry { IfOk result (λ e. IsEntryOf (told (P.searched searcher.old)) number e) }
     ensures passed { IfOk result (λ e. low.old < number → IsPassed e.kind) }
-    ensures hit { OnOk result
-        (is_hit (told (P.searched searcher.old)) number ≡ true → low.new ≤ number) }
+    ensures hit { OnOk result (is_hit (told (P.searched searcher.old)) number ≡ true → low.new ≤ number) }
 {
     if *low < number {
         return Ok(Entry::passed(searcher.round(), number, *low));

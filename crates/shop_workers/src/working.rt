@@ -28,8 +28,7 @@ fn claim_and_search<'r, P: PieceSearch<'r>, G: SeatGate>(
     ensures grows { Grows (knows seat.old) (knows seat.new) }
     ensures round { P.searched searcher.new ≡ P.searched searcher.old }
     ensures claimed { IsKnown (knows seat.new) number }
-    ensures entry { IfOk result (TakesTurn (told (P.searched searcher.old)) number (knows seat.old)
-        (knows seat.new)) }
+    ensures entry { IfOk result (TakesTurn (told (P.searched searcher.old)) number (knows seat.old) (knows seat.new)) }
 {
     let low = board.look(seat);
     if !board.claim(seat, number) {
@@ -64,10 +63,8 @@ pub fn claim_and_search_all<'r, P: PieceSearch<'r>, G: SeatGate>(
     ensures seat { IsSeatOf board.now seat.new }
     ensures grows { Grows (knows seat.old) (knows seat.new) }
     ensures round { P.searched searcher.new ≡ P.searched searcher.old }
-    ensures claimed { OnOk result
-        (IsAllKnown (length (P.searched searcher.old).pieces.items) (knows seat.new)) }
-    ensures entries { BringsWon (told (P.searched searcher.old)) (knows seat.old) (knows seat.new)
-        result }
+    ensures claimed { OnOk result (IsAllKnown (length (P.searched searcher.old).pieces.items) (knows seat.new)) }
+    ensures entries { BringsWon (told (P.searched searcher.old)) (knows seat.old) (knows seat.new) result }
     ensures served { OnOk result (HasServed (knows seat.old) → HasServed (knows seat.new)) }
 {
     let mut entries = Vec::new(alloc);

@@ -1,9 +1,9 @@
 -- What the parts of the reader of schedule texts tell.
-use Rattle.std.specs.Prelude.{◌≡◌, ℕ, ◌+◌, ◌≤◌, true, false, List, ◌∷◌, ◌++◌, length, map, filter, codes, Option, Some}
+use Rattle.std.specs.Prelude.{◌≡◌, ℕ, ◌+◌, ◌≤◌, false, List, ◌∷◌, ◌++◌, length, map, filter, codes, Option, Some}
 use Rattle.std.specs.{Prelude.{None, Result, Ok, Err, Vec}, Borrow.Bor, List.enumerate_from, Option.option_map}
 use Rattle.std.specs.declared.alloc.Global.{Global}
 use Rattle.shop_model.specs.Shop.{Shop}
-use Rattle.shop_text.specs.{Lines.{lines_of, tokens_of, value_of}, Schedules.{Tokens, begins_with_job, is_start}}
+use Rattle.shop_text.specs.{Lines.{lines_of, tokens_of}, Schedules.{Tokens, begins_with_job}}
 use Rattle.shop_text.specs.Schedules.{is_counted, counted_lines, AreJobLines, IsTable, IsTableRead}
 use Rattle.shop_text.specs.{inner.LineReading.IsBehind, declared.faults.ReadFault.ReadFault}
 
@@ -19,11 +19,6 @@ row_read row = option_map (λ v. v.items) row
 abbrev pub FollowsJob : Tokens → Option (Bor (List ℕ)) → Type 0
 FollowsJob tokens None = begins_with_job tokens ≡ false
 FollowsJob tokens (Some rest) = tokens ≡ codes "job" ∷ tokens_of rest.now
-
--- the start that a token is, if it is one
-abbrev pub IsStartOf : List ℕ → Option ℕ → Type 0
-IsStartOf token None = is_start token ≡ false
-IsStartOf token (Some start) = (is_start token ≡ true) × (start ≡ value_of token)
 
 abbrev pub AreRowsRead : Shop → List ℕ → Result (Vec (Vec ℕ Global) Global) ReadFault → Type 0
 AreRowsRead shop text (Ok rows) = IsTable shop text (rows_held rows)

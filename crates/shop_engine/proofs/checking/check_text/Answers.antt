@@ -48,8 +48,7 @@ returns-in_err-write_all g c =
     in let e = c.in_err-write_all
     in at_err (IsChecking args (g.S.Source.device c.args.source.now)
     (g.S.Source.device c.read_all.new.source) second second' sink sink')
-    c.from_residual-in_err-write_all.result e.field-0.0 c.from_residual-in_err-write_all.ensures.1
-    (inr (inr (
+    c.from_residual-in_err-write_all.result e.field-0.0 c.from_residual-in_err-write_all.ensures.1 (inr (inr (
       e.ensures.unwritten.0,
       _,
       judged second second' (IsCutOff sink sink') t.ensures.read picked

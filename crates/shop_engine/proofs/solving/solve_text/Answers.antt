@@ -24,8 +24,7 @@ returns-clause-right g c =
 pub returns-clause-determined : goal.returns-clause-determined
 returns-clause-determined g c =
     let args = c.args.args.now
-    in where_known (IsSolution args) (IsDeterminedOf args)
-    (IsAskFault args.format (name_in args.name))
+    in where_known (IsSolution args) (IsDeterminedOf args) (IsAskFault args.format (name_in args.name))
     (g.S.Source.device c.args.source.now) (g.S.Source.device c.read_all.new.source)
     (g.K.Sink.device c.args.sink.now) (g.K.Sink.device c.write_all.new.sink)
     c.write_all.result (λ text out h. h.determined) (returns-clause-solving g c)

@@ -4,10 +4,10 @@ use Rattle.shop_engine.proofs.Sources.{at_err}
 use Rattle.shop_program.specs.Commands.{ChecksFrom}
 use Rattle.shop_program.proofs.running.run_from.Goals as goal
 
-pub returns-in_err-is_feasible-in-Check : goal.returns-in_err-is_feasible-in-Check
-returns-in_err-is_feasible-in-Check g c =
-    let e = c.in_err-is_feasible-in-Check
-    in let passed = c.from_residual-in_err-is_feasible-in-Check
+pub returns-in_err-feasible-in-Check : goal.returns-in_err-feasible-in-Check
+returns-in_err-feasible-in-Check g c =
+    let e = c.in_err-feasible-in-Check
+    in let passed = c.from_residual-in_err-feasible-in-Check
     in rw c.in-Check.is
     (at_err (λ (r : Result ℕ Fault). ChecksFrom (g.R.Files.opens c.args.rt.now) c.in-Check.args c.in-Check.schedule
     (g.K.Sink.device c.args.out.now) (g.K.Sink.device c.check_text.new.sink) r (g.S.Source.device c.args.source.now)

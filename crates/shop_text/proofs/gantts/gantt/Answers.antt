@@ -28,15 +28,13 @@ loop-machine-preserved c =
     c.loop-machine.machine =
     c.show_machine.ensures
     ∙ ap (λ (n : ℕ). map (λ (column : ℕ). shown_at shop starts machine (column * unit)) (range_with_len 0 n))
-    c.loop-machine.invariant.columns
-    ∙ ap (λ (u : ℕ). map (λ (column : ℕ). shown_at shop starts machine (column * u))
+    c.loop-machine.invariant.columns ∙ ap (λ (u : ℕ). map (λ (column : ℕ). shown_at shop starts machine (column * u))
     (range_with_len 0 (div_ceil makespan u))) c.unit-unit.ensures.unit
     ∙ ap (λ (m : ℕ). map (λ (column : ℕ). shown_at shop starts machine (column * unit_of m))
     (range_with_len 0 (div_ceil m (unit_of m)))) c.makespan-makespan.ensures
     in record {
       written = line_more c.loop-machine.out.items c.write_machine.new.out.items (number_line (codes "unit") unit)
-          (machine_line shop starts) machine c.loop-machine.invariant.written
-          (c.in_ok-write_machine.ensures
+          (machine_line shop starts) machine c.loop-machine.invariant.written (c.in_ok-write_machine.ensures
           ∙ ap (λ (cells : List ℕ). c.loop-machine.out.items
           ++ printed_line (cells_line c.loop-machine.machine cells)) shown);
       columns = c.show_machine.auto.cells ∙ c.loop-machine.invariant.columns;

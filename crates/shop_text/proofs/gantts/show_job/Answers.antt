@@ -16,16 +16,14 @@ loop-k-preserved c =
     in elim c.if-route-k.branch [
       | then-route-k w ↦ subst
           (λ cells. ShowsWhere a.cells.now cells character (λ column. serves_below shop (starts_of rows) a.machine
-          (column * a.unit) a.j (c.loop-k.k + 1)))
-          (sym w.cells-is)
+          (column * a.unit) a.j (c.loop-k.k + 1))) (sym w.cells-is)
           (step_shown shop rows a.j c.route-route.result.now c.row-starts.result.now own a.cells.now c.loop-k.cells
           w.show.new.cells a.machine a.unit character c.loop-k.k w.div_ceil-from.result w.div_ceil-to.result
           c.requires.unit c.loop-k.auto.cells c.loop-k.invariant w.if-route-k.true w.div_ceil-from.ensures
           w.div_ceil-to.ensures w.show.ensures)
       | else-route-k w ↦ subst
           (λ cells. ShowsWhere a.cells.now cells character (λ column. serves_below shop (starts_of rows) a.machine
-          (column * a.unit) a.j (c.loop-k.k + 1)))
-          (sym w.cells-is)
+          (column * a.unit) a.j (c.loop-k.k + 1))) (sym w.cells-is)
           (step_skipped shop rows a.j c.route-route.result.now c.row-starts.result.now own a.cells.now c.loop-k.cells
           a.machine a.unit character c.loop-k.k c.loop-k.invariant w.if-route-k.false)
     ]

@@ -6,8 +6,7 @@ use Rattle.shop_text.proofs.instance_drafts.job_of_machines.Given as goal
 
 abbrev pub invariant-loop-i : goal.invariant-loop-i
 invariant-loop-i l = record {
-  fault : list_all (λ n. is_between 1 l.machines n) (drop l.i l.row)
-      ≡ list_all (λ n. is_between 1 l.machines n) l.row;
+  fault : list_all (λ n. is_between 1 l.machines n) (drop l.i l.row) ≡ list_all (λ n. is_between 1 l.machines n) l.row;
   route : l.route.items ++ map taillard_op (zip (drop l.i l.times) (drop l.i l.row))
       ≡ map taillard_op (zip l.times l.row);
   within : IsRouteWithin l.machines l.route.items;

@@ -7,8 +7,7 @@ use Rattle.shop_workers.proofs.ordering.in_order.Given as goal
 
 abbrev pub invariant-loop-entries : goal.invariant-loop-entries
 invariant-loop-entries g l =
-    (vec_len l.slots ≡ length l.round.pieces.items)
-    × Placed (told l.round) l.slots.items
+    (vec_len l.slots ≡ length l.round.pieces.items) × Placed (told l.round) l.slots.items
     × AllOfRound (told l.round) l.brought.items
     × AreThrough (λ (b : Brought). IsOk b) l.initial.brought.items l.brought.items
 

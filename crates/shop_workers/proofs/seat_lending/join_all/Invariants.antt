@@ -8,8 +8,7 @@ use Rattle.shop_workers.proofs.seat_lending.join_all.Given as goal
 
 abbrev pub invariant-loop-seat : goal.invariant-loop-seat
 invariant-loop-seat l =
-    IfSome l.joined (IsSeatOf l.board)
-    × (vec_len l.slots ≡ length l.round.pieces.items)
+    IfSome l.joined (IsSeatOf l.board) × (vec_len l.slots ≡ length l.round.pieces.items)
     × Placed (told l.round) l.slots.items
     × All (λ (b : Returned). IsReturned l.board (told l.round) b.seat b.entries) l.returned.items
     × AreThrough (λ (b : Returned). IsOk b.entries) l.initial.returned.items l.returned.items

@@ -9,8 +9,7 @@ use Rattle.shop_text.proofs.instance_readers.Reader.take_numbers.Goals.{in-Some-
 pub returns-in_err-instance : goal.returns-in_err-instance
 returns-in_err-instance c =
     let p = err_from_is_err_and c.from_residual.result c.from_residual.ensures.1
-    in rw (p.1, p.2)
-    (λ front written read numbers.
+    in rw (p.1, p.2) (λ front written read numbers.
     row_refused c.args.self.now c.args.line written front read c.in_err-instance.field-0.0
     (c.in_err-instance.ensures _ written read.draft_holds numbers))
 

@@ -14,8 +14,7 @@ load-requires c =
     let now = c.join_seat.new.seat in (
       e.0 ∙ c.requires.first.0,
       omega arith,
-      recalls _ _ now.id now.me 0
-          (ap (λ (m : Me (Unit {0}) View). m.1) e.2 ∙ c.args.seat.holds_no_slot)
+      recalls _ _ now.id now.me 0 (ap (λ (m : Me (Unit {0}) View). m.1) e.2 ∙ c.args.seat.holds_no_slot)
           (ap (λ (m : Me (Unit {0}) View). m.0.live) e.2 ∙ c.args.seat.live),
     )
 
