@@ -1,5 +1,5 @@
 -- The passes for own spans: down the columns, and back.
-use Rattle.std.proofs.Common.{◌≡◌, ℕ, suc, ◌+◌, ◌-◌, ◌*◌, ◌<◌, ◌≤◌, max, cond, leb, rules, List, ◌∷◌, length, take}
+use Rattle.std.proofs.Common.{◌≡◌, ℕ, suc, ◌+◌, ◌-◌, ◌*◌, ◌<◌, ◌≤◌, max, cond, leb, List, ◌∷◌, length, take}
 use Rattle.std.proofs.Common.{drop, set, get_or, ap, sym, ◌∙◌, arith, subst, replicate, inl, inr, length-set, ◌%◌, ◌/◌}
 use Rattle.std.proofs.{Math.Seq.{drop-cons, take-add}, lemmas.Bool.cases_lt}
 use Rattle.std.proofs.lemmas.Simd.{get_or-zip2, length-zip2, length-put_chunk, get_or-put_chunk_below}
@@ -225,7 +225,10 @@ module _ {count : ℕ} {hs ts qs : List ℕ} {rows : List Lane} (cols : AreColum
         first_eight = as_eight first first_long
 
         first_here : (k : ℕ) → k < 8 → get_or first k 0 ≡ span 1 0 (take (rank_of count (8 * j + k)) rows)
-        first_here k lt = search (rules, first_fronts, in_eight, rank_of_parts)
+        first_here k lt =
+            ap (λ l. get_or l k 0) first_fronts
+            ∙ (in_eight (λ k. span 1 0 (front_of count rows k j)) k lt
+            ∙ ap (λ n. span 1 0 (take n rows)) (sym (rank_of_parts count k j lt)))
 
         behind_here : (k : ℕ) → k < 8 → IsLoadBehind rows (suc (rank_of count (8 * j + k))) (get_or behind k 0)
         behind_here k lt =

@@ -58,7 +58,7 @@ held_nodes shop c (n ∷ ns) are =
 
 held_waiting : (shop : Shop) (c : ℕ) (path : List ℕ) (x : Waiting) → IsWaiting shop c path x
     → open_nodes shop c (waiting_words shop path x) ≡ nodes_below c (child_nodes path x)
-held_waiting shop c path (Child o) own = grind (arith, held_nodes)
+held_waiting shop c path (Child job depth bound) own = grind (arith, held_nodes)
 held_waiting shop c path (Rest depth count) own = grind (arith, closed_all)
 
 held_stack : (shop : Shop) (c : ℕ) (path : List ℕ) (stack : List Waiting)
@@ -85,7 +85,7 @@ held_left shop c h ns own = grind (arith, held_halt, held_nodes, recursion_from_
 within_stack : (shop : Shop) (c : ℕ) (path : List ℕ) (stack : List Waiting)
     → AllByRecursion (IsWaiting shop c path) stack → AreWithin path stack
 within_stack shop c path [] own = tt
-within_stack shop c path (Child o ∷ stack) own = (own.0.depth, within_stack shop c path stack own.1)
+within_stack shop c path (Child job depth bound ∷ stack) own = (own.0.depth, within_stack shop c path stack own.1)
 within_stack shop c path (Rest depth count ∷ stack) own = (tt, within_stack shop c path stack own.1)
 
 pub within_halt : (shop : Shop) (c : ℕ) (h : Option Halt) → AreHalted shop c h → IsHaltWithin h

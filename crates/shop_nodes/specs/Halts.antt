@@ -1,6 +1,7 @@
 -- Where a walk halted. What waited there is kept short: how many entries of the path its words begin with, and the job
 -- that follows; closed children are only counted.
 --     word_at word o               the word that an open child stands for
+--     open_child o                 the entry of an open child
 --     last_of n xs                 the last n elements
 --     waiting_words shop word x    the words that an entry stands for: closed ones are the last children of what they
 --                                  begin with
@@ -23,11 +24,14 @@ use Rattle.shop_nodes.specs.{declared.halts.Waiting.Waiting, declared.halts.Wait
 abbrev pub word_at : List ℕ → Open → List ℕ
 word_at word o = take o.depth word ++ o.job ∷ []
 
+abbrev pub open_child : Open → Waiting
+open_child o = Child o.job o.depth o.bound
+
 abbrev pub last_of : {A : Type 0} → ℕ → List A → List A
 last_of n xs = drop (length xs - n) xs
 
 abbrev pub waiting_words : Shop → List ℕ → Waiting → List (List ℕ)
-waiting_words shop word (Child o) = word_at word o ∷ []
+waiting_words shop word (Child job depth bound) = (take depth word ++ job ∷ []) ∷ []
 waiting_words shop word (Rest depth count) = last_of count (branch shop (take depth word))
 
 abbrev pub stack_words : Shop → List ℕ → List Waiting → List (List ℕ)
@@ -47,7 +51,7 @@ pub record IsClosed (shop : Shop) (best : ℕ) (word : List ℕ) (n count : ℕ)
   pub high : AllByRecursion (λ v. best ≤ lb shop v) (last_of count (branch shop (take n word)))
 
 abbrev pub IsWaiting : Shop → ℕ → List ℕ → Waiting → Type 0
-IsWaiting shop best word (Child o) = IsOpen shop word o
+IsWaiting shop best word (Child job depth bound) = IsOpen shop word (record { depth = depth; job = job; bound = bound })
 IsWaiting shop best word (Rest depth count) = IsClosed shop best word depth count
 
 abbrev pub halted_words : Shop → Option Halt → List (List ℕ)

@@ -2,7 +2,7 @@
 use std::alloc::Global;
 use std::sync::ArcSlice;
 
-/// A waiting open child, with its lower bound. Its word is the first `depth` jobs of the walk's path, then `job`.
+/// An open child, with its lower bound. Its word is the first `depth` jobs of the walk's path, then `job`.
 #[derive(Clone, Copy)]
 pub struct Open {
     pub depth: u32,
@@ -10,13 +10,17 @@ pub struct Open {
     pub bound: u64,
 }
 
-/// A waiting open child, or waiting closed children. Closed children have bounds that reach the best makespan and are
-/// only counted. They are the last `count` children of one word: the first `depth` jobs of the walk's path.
+/// A waiting open child, told as `Open` tells it, or waiting closed children. Closed children have bounds that reach
+/// the best makespan and are only counted. They are the last `count` children of one word: the first `depth` jobs of
+/// the walk's path. The fields of a child lie beside the tag, so that an entry takes 16 bytes, not 24 as with an `Open`
+/// in it: each search brings a list of these.
 #[derive(Clone, Copy)]
 pub enum Waiting {
-    Child(Open),
+    Child { job: u16, depth: u32, bound: u64 },
     Rest { depth: u32, count: u32 },
 }
+
+const _: () = prove!(size_of::<Waiting>() <= 16);
 
 /// Where a walk halted: the path to its current word, and the children that wait along it. The last one is walked next.
 #[derive(Drop)]

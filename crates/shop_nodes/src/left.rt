@@ -132,9 +132,8 @@ fn nodes_of(
     ensures nodes { IfOk result (λ v. AreNodes instance.now v.items) }
 {
     match waiting {
-        Waiting::Child(child) => {
-            let word = Word::of_shared(SharedWord::along(path, child.depth, child.job)?);
-            let bound = child.bound;
+        Waiting::Child { job, depth, bound } => {
+            let word = Word::of_shared(SharedWord::along(path, depth, job)?);
             let mut nodes = Vec::with_capacity(alloc, 1)?;
             nodes.push(Node { word, bound })?;
             Ok(nodes)

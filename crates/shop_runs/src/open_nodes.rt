@@ -142,17 +142,17 @@ impl OpenNodes {
         ensures { OnOk result (ArePutOrCounted limit (child_nodes (arc_slice_items path.now) waiting)
             self.old distant.old self.new distant.new) }
     {
-        let Waiting::Child(child) = waiting else {
+        let Waiting::Child { job, depth, bound } = waiting else {
             return Ok(());
         };
-        if child.bound >= limit {
+        if bound >= limit {
             return Ok(());
         }
-        if child.bound >= distant.horizon {
-            return distant.add(child.bound, 1);
+        if bound >= distant.horizon {
+            return distant.add(bound, 1);
         }
-        let word = SharedWord::along(path, child.depth, child.job)?;
-        self.put(alloc, SharedNode::new(word, child.bound))
+        let word = SharedWord::along(path, depth, job)?;
+        self.put(alloc, SharedNode::new(word, bound))
     }
 
     /// Does what `put_if_open` does for all that waits at `halt`, from the first entry of `halt.waiting` to the last,

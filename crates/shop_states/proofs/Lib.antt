@@ -10,6 +10,8 @@ pub mod RaiseSteps
 pub mod RaiseWalks
 pub mod RaisedEnds
 pub mod RaisedMachines
+pub mod WrittenRaises
+pub mod KeptRoom
 pub mod RisingLists
 pub mod SpanTurns
 pub mod Watching

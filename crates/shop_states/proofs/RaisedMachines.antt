@@ -158,6 +158,17 @@ pub record IsFoundSo (least : ℕ) (old : List Raise) (on : ℕ → List Lane) (
   pub most : (m : ℕ) → m < length cs → get_or cs m 0 ≤ greatest
 
 module _ {least : ℕ} {old : List Raise} {on : ℕ → List Lane} where
+  pub found_begins : {raises : List Raise} {machines cs : List ℕ} → raises ≡ old → AreListed old machines
+      → ((m : ℕ) → m < length cs → get_or cs m 0 ≡ least) → IsFoundSo least old on raises machines cs least
+  found_begins {raises} {machines} {cs} same are full =
+      subst (λ (rs : List Raise). IsFoundSo least old on rs machines cs least) (sym same) (record {
+        left = record { are_listed = are; long = refl; smaller = λ m. omega arith };
+        low = omega arith;
+        least_of = λ m here. (let e = full m here in omega arith);
+        covers = λ m here. inl refl;
+        most = λ m here. (let e = full m here in omega arith);
+      })
+
   pub found_more : {raises : List Raise} {machines rest cs cs' : List ℕ} {greatest : ℕ}
       → IsFoundSo least old on raises machines cs greatest → {m : ℕ} → machines ≡ m ∷ rest
       → (empty : Raise) → empty.to ≡ 0 → (c : ℕ) → cs' ≡ set cs m c → m < length cs

@@ -4,8 +4,8 @@ use Rattle.std.proofs.{Common.{reverse, refl, ◌∙◌, ap, arith, append_assoc
 use Rattle.std.proofs.lemmas.List.{length-map, length-reverse, length-append, drop_at, nil_from_length}
 use Rattle.shop_model.specs.{Shop.{Shop, operation_count}, Word.IsWord}
 use Rattle.shop_bound.specs.Bound.{lb}
-use Rattle.shop_nodes.specs.{Branching.{branch, conflict, sort_by}, Halts.{last_of, IsClosed, IsWaiting}}
-use Rattle.shop_nodes.specs.declared.halts.{Open.Open, Waiting.{Waiting, TheVariants.{Child, Rest}}}
+use Rattle.shop_nodes.specs.{Branching.{branch, conflict, sort_by}, Halts.{open_child, last_of, IsClosed, IsWaiting}}
+use Rattle.shop_nodes.specs.declared.halts.{Open.Open, Waiting.{Waiting, TheVariants.Rest}}
 use Rattle.shop_tree.specs.inner.{Opens.{open_words, IsAt, AreChildren}, Searching.Adds}
 use Rattle.shop_tree.proofs.{Pushing.{with_opens, with_rest}, OpenLemmas.{opens-words, all-opens}}
 use Rattle.shop_nodes.proofs.WalkSteps.{branch_few, length-insert_by}
@@ -39,8 +39,8 @@ pub adds-children : (shop : Shop) (best : ℕ) (word : List ℕ) (opens : List O
 adds-children shop best word opens zero old is short kids =
     grind (arith, opens-words, append-nil, nil_from_length, all-opens)
 adds-children shop best word opens (suc n) old is short kids = record {
-  added = Rest (length word) (suc n) ∷ map (λ o. Child o) opens;
-  stack = append_assoc old (Rest (length word) (suc n) ∷ []) (map (λ o. Child o) opens);
+  added = Rest (length word) (suc n) ∷ map (λ o. open_child o) opens;
+  stack = append_assoc old (Rest (length word) (suc n) ∷ []) (map (λ o. open_child o) opens);
   words = ap (λ ws. ws ++ last_of (suc n) (branch shop (take (length word) word))) (opens-words shop word opens)
       ∙ all_words kids;
   each = (closed_last kids is short, all-opens (IsWaiting shop best word) opens kids.each);

@@ -5,8 +5,9 @@ use Rattle.std.proofs.Math.Seq.{take-append_seam, take-length}
 use Rattle.std.specs.{Prelude.take, List.fold}
 use Rattle.shop_model.specs.{Shop.{Shop, operation_count}, Word.IsWord}
 use Rattle.shop_bound.specs.{Bound.lb, Conflicts.SoleCandidateKeepsBound}
-use Rattle.shop_nodes.specs.{Branching.{branch, conflict, sort_by}, Walking.{Walk, walk}, Halts.{word_at, IsWaiting}}
-use Rattle.shop_nodes.specs.declared.halts.{Open.Open, Waiting.{Waiting, TheVariants.Child}}
+use Rattle.shop_nodes.specs.{Branching.{branch, conflict, sort_by}, Walking.{Walk, walk}}
+use Rattle.shop_nodes.specs.Halts.{open_child, word_at, IsWaiting}
+use Rattle.shop_nodes.specs.declared.halts.{Open.Open, Waiting.Waiting}
 use Rattle.shop_tree.specs.inner.{Walkers.on_top, Searching.{walk_stack, Adds, entered}, Opens.AreChildren}
 use Rattle.shop_tree.specs.inner.Walkers.{spent_one, Stage, HasFollowed, HasBranched, HasExpanded, IsInOrder, gone_on}
 use Rattle.shop_tree.proofs.{Entering.{entered-children, entered-full, walk-entered}, Pushing.{with_opens, with_rest}}
@@ -126,7 +127,7 @@ follows_kept s o n stack is short kids depth bound below some ordered put =
     let t : Stage = record s { stack = with_rest s.stack (length s.word) n }
     in let there : word_at s.word o ≡ s.word ++ o.job ∷ [] =
     ap (λ (v : List ℕ). v ++ o.job ∷ []) (ap (λ (k : ℕ). take k s.word) depth ∙ take-length s.word)
-    in let expanded = expands_branched s (on_top t (Child o)) short ordered
+    in let expanded = expands_branched s (on_top t (open_child o)) short ordered
     (branched s (o ∷ []) n (length s.word) (with_opens t.stack (o ∷ [])) is short kids refl refl)
     in let went = child_walks s.shop s.walk.best s.word t.stack o expanded.in_order s.walk (spent_one s.walk)
     (enters s.shop s.walk (word_at s.word o) some (rw there (omega arith)))

@@ -3,14 +3,14 @@ use Rattle.std.proofs.Common.{◌≡◌, ℕ, zero, suc, ◌+◌, ◌≤◌, ◌
 use Rattle.std.proofs.Common.{None, All, refl, sym, ◌∙◌, ap, subst, append_assoc, arith}
 use Rattle.std.proofs.{Math.Seq.{get_or-append_seam, set-append_seam}, lemmas.List.{length_push, map-append}}
 use Rattle.std.proofs.lemmas.List.Elements.{All-append, All-map, All-from_recursion}
-use Rattle.shop_nodes.specs.{declared.halts.Waiting.Waiting, declared.halts.Waiting.TheVariants.{Child, Rest}}
+use Rattle.shop_nodes.specs.{Halts.open_child, declared.halts.Waiting.{Waiting, TheVariants.Rest}}
 use Rattle.shop_tree.specs.{declared.held.Held.Held, inner.Held.HasSetRestBelow}
 use Rattle.shop_tree.specs.inner.Held.{IsHeld, IsKept, Kept, held, opens_in, waiting_in, with_held_rest}
 use Rattle.shop_tree.proofs.Pushing.{with_opens, with_rest}
 
-children_moved : {S : Type 0} (ks : List (Kept S)) → waiting_in (map held ks) ≡ map (λ o. Child o) (opens_in ks)
+children_moved : {S : Type 0} (ks : List (Kept S)) → waiting_in (map held ks) ≡ map (λ o. open_child o) (opens_in ks)
 children_moved [] = refl
-children_moved (k ∷ ks) = ap (λ ws. Child k.open ∷ ws) (children_moved ks)
+children_moved (k ∷ ks) = ap (λ ws. open_child k.open ∷ ws) (children_moved ks)
 
 module _ {S : Type 0} (old : List (Held S)) (kids : List (Kept S)) where
   -- what waits then, and the states

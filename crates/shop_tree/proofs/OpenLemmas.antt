@@ -4,7 +4,7 @@ use Rattle.std.proofs.{Common.{arith, append_assoc, append-nil}, lemmas.List.Sum
 use Rattle.std.proofs.lemmas.List.{take-append-le, length-take-le, take-take, length-append}
 use Rattle.std.specs.List.{AllByRecursion, fold}
 use Rattle.shop_model.specs.Shop.{Shop}
-use Rattle.shop_nodes.specs.{Halts.{word_at, waiting_words, stack_words, IsWaiting}, Walking.{Walk, walk}}
+use Rattle.shop_nodes.specs.{Halts.{open_child, word_at, waiting_words, stack_words, IsWaiting}, Walking.{Walk, walk}}
 use Rattle.shop_nodes.specs.declared.halts.{Open.Open, Waiting.{Waiting, TheVariants.{Child, Rest}}}
 use Rattle.shop_tree.specs.inner.Opens.{open_words, depth_of, IsFrom, IsAt, IsRising, AreWaiting}
 use Rattle.shop_tree.specs.inner.Searching.{walk_stack, Adds}
@@ -21,7 +21,7 @@ begins_alike v w n alike k h = sym (take-take k n v h) ∙ (ap (take k) alike �
 -- Words that begin alike up to n: what begins with n entries at most stands for the same words.
 module _ (shop : Shop) (v w : List ℕ) (n : ℕ) (alike : take n v ≡ take n w) where
   entry-same : (x : Waiting) → IsUpTo n x → waiting_words shop v x ≡ waiting_words shop w x
-  entry-same (Child o) h = ap (λ (u : List ℕ). (u ++ o.job ∷ []) ∷ []) (begins_alike v w n alike o.depth h)
+  entry-same (Child job depth bound) h = ap (λ (u : List ℕ). (u ++ job ∷ []) ∷ []) (begins_alike v w n alike depth h)
   entry-same (Rest depth count) h = grind (arith, begins_alike)
 
   pub words-same : (stack : List Waiting) → AllByRecursion (IsUpTo n) stack
@@ -31,7 +31,7 @@ module _ (shop : Shop) (v w : List ℕ) (n : ℕ) (alike : take n v ≡ take n w
 
   waits-same : (best : ℕ) (x : Waiting) → n ≤ length v → IsUpTo n x → IsWaiting shop best w x
       → IsWaiting shop best v x
-  waits-same best (Child o) long h own = grind (arith, begins_alike, own)
+  waits-same best (Child job depth bound) long h own = grind (arith, begins_alike, own)
   waits-same best (Rest depth count) long h own = grind (arith, begins_alike, own)
 
   pub all-same : (best : ℕ) → n ≤ length v → (stack : List Waiting) → AllByRecursion (IsUpTo n) stack
@@ -43,7 +43,7 @@ module _ (shop : Shop) (v w : List ℕ) (n : ℕ) (alike : take n v ≡ take n w
   )
 
 pub deep : (shop : Shop) (best : ℕ) (w : List ℕ) (x : Waiting) → IsWaiting shop best w x → IsUpTo (length w) x
-deep shop best w (Child o) h = h.depth
+deep shop best w (Child job depth bound) h = h.depth
 deep shop best w (Rest depth count) h = h.depth
 
 -- the words of parts, those of the upper one first
@@ -58,12 +58,12 @@ pub stack-append : (shop : Shop) (w : List ℕ) (s : Walk) (xs ys : List Waiting
 stack-append shop w s xs ys = grind (arith, stack_words-append, fold-append)
 
 pub opens-words : (shop : Shop) (w : List ℕ) (os : List Open)
-    → stack_words shop w (map (λ o. Child o) os) ≡ reverse (open_words w os)
+    → stack_words shop w (map (λ o. open_child o) os) ≡ reverse (open_words w os)
 opens-words shop w [] = refl
 opens-words shop w (o ∷ os) = grind (arith, reverse-cons, opens-words shop w os)
 
-pub all-opens : (P : Waiting → Type 0) (os : List Open) → AllByRecursion (λ o. P (Child o)) os
-    → AllByRecursion P (map (λ o. Child o) os)
+pub all-opens : (P : Waiting → Type 0) (os : List Open) → AllByRecursion (λ o. P (open_child o)) os
+    → AllByRecursion P (map (λ o. open_child o) os)
 all-opens P [] h = tt
 all-opens P (o ∷ os) h = (h.0, all-opens P os h.1)
 
@@ -140,16 +140,16 @@ walk-top shop s word rest x = stack-append shop word s rest (x ∷ [])
 
 -- what lies below a child, once the walk is at a word that begins as the child does
 module _ (shop : Shop) (best : ℕ) (word next : List ℕ) (rest : List Waiting) (o : Open)
-    (all : AreWaiting shop best word (rest ++ Child o ∷ [])) (alike : take o.depth next ≡ take o.depth word)
+    (all : AreWaiting shop best word (rest ++ open_child o ∷ [])) (alike : take o.depth next ≡ take o.depth word)
     (long : o.depth ≤ length next) where
   pub words-below : stack_words shop next rest ≡ stack_words shop word rest
-  words-below = words-same shop next word o.depth alike rest (rising-below rest (Child o) all.rising)
+  words-below = words-same shop next word o.depth alike rest (rising-below rest (open_child o) all.rising)
 
   pub waits-below : AreWaiting shop best next rest
   waits-below =
-      let p = popped rest (Child o) all
+      let p = popped rest (open_child o) all
       in record {
-        each = all-same shop next word o.depth alike best long rest (rising-below rest (Child o) all.rising)
+        each = all-same shop next word o.depth alike best long rest (rising-below rest (open_child o) all.rising)
             p.rest_waits.each;
         rising = p.rest_waits.rising;
       }

@@ -2,10 +2,10 @@
 --     with_opens stack opens   the stack with these open children on top, in order
 --     with_rest stack depth n  the stack with n closed children of a word of `depth` entries on top, if there are any
 use Rattle.std.specs.Prelude.{ℕ, zero, suc, List, [], ◌∷◌, ◌++◌, map}
-use Rattle.shop_nodes.specs.declared.halts.{Open.Open, Waiting.{Waiting, TheVariants.{Child, Rest}}}
+use Rattle.shop_nodes.specs.{Halts.open_child, declared.halts.{Open.Open, Waiting.{Waiting, TheVariants.Rest}}}
 
 abbrev pub with_opens : List Waiting → List Open → List Waiting
-with_opens stack opens = stack ++ map (λ o. Child o) opens
+with_opens stack opens = stack ++ map (λ o. open_child o) opens
 
 abbrev pub with_rest : List Waiting → ℕ → ℕ → List Waiting
 with_rest stack depth zero = stack

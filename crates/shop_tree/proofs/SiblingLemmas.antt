@@ -7,8 +7,8 @@ use Rattle.shop_model.specs.{Shop.Shop, Word.IsWord}
 use Rattle.shop_bound.specs.Bound.{lb}
 use Rattle.shop_states.specs.States.{CanDispatch, ListsBelow, Settles, ListsBelow.{none, listed, closed}}
 use Rattle.shop_states.specs.declared.dispatching.{Candidate.Candidate, Dispatching.Ghosts}
-use Rattle.shop_nodes.specs.{Branching.conflict, Halts.word_at, declared.halts.{Open.Open, Waiting.Waiting}}
-use Rattle.shop_nodes.specs.declared.halts.Waiting.TheVariants.{Child, Rest}
+use Rattle.shop_nodes.specs.{Branching.conflict, Halts.{open_child, word_at}}
+use Rattle.shop_nodes.specs.declared.halts.{Open.Open, Waiting.{Waiting, TheVariants.{Child, Rest}}}
 use Rattle.shop_nodes.proofs.ChildrenLemmas.{child-word}
 use Rattle.shop_tree.specs.{declared.walk_states.{WalkStates.WalkStates, Branching.Branching}, inner.Opens.AreChildren}
 use Rattle.shop_tree.specs.{inner.Held.{IsHeldOf, IsKept, Kept, held, opens_in}, declared.held.Held.Held}
@@ -80,8 +80,11 @@ pub own_each : {shop : Shop} {word : List ℕ} {limit n : ℕ} {of : Candidate �
 own_each lists k d within = (listed_at lists k d within).own
 
 -- the open child of an entry
-child_same : (o p : Open) → Child o ≡ Child p → o ≡ p
-child_same o p e = ap (λ (x : Waiting). elim x [ Child q ↦ q | Rest depth count ↦ o ]) e
+child_same : (o p : Open) → open_child o ≡ open_child p → o ≡ p
+child_same o p e = ap (λ (x : Waiting). elim x [
+  | Child job depth bound ↦ record { depth = depth; job = job; bound = bound }
+  | Rest depth count ↦ o
+]) e
 
 -- the child on top is given a state
 pub put_given : {S : Type 0} (is : List ℕ → S → Type 0) (shop : Shop) (limit : ℕ) (word : List ℕ)

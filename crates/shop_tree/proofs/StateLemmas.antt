@@ -6,8 +6,8 @@ use Rattle.std.specs.{Global.Box, List.AllByRecursion}
 use Rattle.shop_model.specs.Shop.{Shop}
 use Rattle.shop_tree.specs.{declared.held.Held.Held, inner.Held.{IsHeld, IsHeldAs, waiting_in}, inner.Opens.AreWaiting}
 use Rattle.shop_tree.specs.inner.StateWalkers.{AreHeld}
-use Rattle.shop_nodes.specs.{declared.halts.Open.Open, declared.halts.Waiting.Waiting, Halts.{word_at, IsWaiting}}
-use Rattle.shop_nodes.specs.declared.halts.Waiting.TheVariants.{Child, Rest}
+use Rattle.shop_nodes.specs.Halts.{open_child, word_at, IsWaiting}
+use Rattle.shop_nodes.specs.declared.halts.{Open.Open, Waiting.{Waiting, TheVariants.{Child, Rest}}}
 use Rattle.shop_bound.proofs.Lists.{all_map}
 use Rattle.shop_tree.proofs.OpenLemmas.{IsUpTo, begins_alike, begins-child, deep, popped, rising-below}
 
@@ -15,7 +15,7 @@ module _ {S : Type 0} (is : List ℕ → S → Type 0) where
   -- Words that begin alike up to n: what begins with n entries at most waits with the same states.
   module _ (v w : List ℕ) (n : ℕ) (alike : take n v ≡ take n w) where
     entry_held : (x : Waiting) (state : Option (Box S)) → IsUpTo n x → IsHeldAs is w x state → IsHeldAs is v x state
-    entry_held (Child o) state low h = grind (arith, begins_alike)
+    entry_held (Child job depth bound) state low h = grind (arith, begins_alike)
     entry_held (Rest depth count) state low h = h
 
     entries_held : (hs : List (Held S)) → AllByRecursion (IsUpTo n) (waiting_in hs)
@@ -29,12 +29,12 @@ module _ {S : Type 0} (is : List ℕ → S → Type 0) where
 
   -- below a child, once the walk goes on to it
   pub held_below : (shop : Shop) (best : ℕ) (word : List ℕ) (hs : List (Held S)) (o : Open)
-      → AreWaiting shop best word (waiting_in hs ++ Child o ∷ []) → AreHeld is word hs
+      → AreWaiting shop best word (waiting_in hs ++ open_child o ∷ []) → AreHeld is word hs
       → AreHeld is (word_at word o) hs
   held_below shop best word hs o on all =
-      let own = (popped (waiting_in hs) (Child o) on).own
+      let own = (popped (waiting_in hs) (open_child o) on).own
       in held_same (word_at word o) word o.depth (begins-child word o own.depth) hs
-      (rising-below (waiting_in hs) (Child o) on.rising) all
+      (rising-below (waiting_in hs) (open_child o) on.rising) all
 
   -- once it goes on with one job more
   pub held_on : (shop : Shop) (best : ℕ) (word : List ℕ) (j : ℕ) (hs : List (Held S))
@@ -46,7 +46,7 @@ module _ {S : Type 0} (is : List ℕ → S → Type 0) where
 
   -- an entry that lost its state
   entry_none : (word : List ℕ) (x : Waiting) → IsHeldAs is word x None
-  entry_none word (Child o) = tt
+  entry_none word (Child job depth bound) = tt
   entry_none word (Rest depth count) = refl
 
   pub held_stripped : (word : List ℕ) (hs : List (Held S)) (i : ℕ) (x : Waiting) (state : Option (Box S))

@@ -2,31 +2,31 @@
 use Rattle.std.proofs.Common.{arith, ◌≡◌, ℕ, ◌<◌, List, [], ◌∷◌, ◌++◌, length, sym, ◌∙◌, ap}
 use Rattle.std.specs.List.{fold}
 use Rattle.shop_model.specs.Shop.{Shop, operation_count}
-use Rattle.shop_nodes.specs.{Halts.word_at, Walking.{Walk, walk}, declared.halts.Open.Open}
-use Rattle.shop_nodes.specs.{declared.halts.Waiting.Waiting, declared.halts.Waiting.TheVariants.Child}
+use Rattle.shop_nodes.specs.{Halts.{open_child, word_at}, Walking.{Walk, walk}, declared.halts.Open.Open}
+use Rattle.shop_nodes.specs.declared.halts.Waiting.{Waiting}
 use Rattle.shop_tree.specs.{inner.Opens.AreWaiting, inner.Searching.{walk_stack, Adds, entered}}
 use Rattle.shop_tree.proofs.OpenLemmas.{popped, stack-append, walk-top, words-below, waits-below, begins-child}
 use Rattle.shop_tree.proofs.{OpenLemmas.long-child, Entering.entered-children}
 
 module _ (shop : Shop) (best : ℕ) (word : List ℕ) (rest : List Waiting) (o : Open)
-    (all : AreWaiting shop best word (rest ++ Child o ∷ [])) where
+    (all : AreWaiting shop best word (rest ++ open_child o ∷ [])) where
   abbrev next : List ℕ
   next = word_at word o
 
   -- what lies below a child waits as before where the walk goes on to it
   pub below_waits : AreWaiting shop best next rest
   below_waits =
-      let depth = (popped rest (Child o) all).own.depth
+      let depth = (popped rest (open_child o) all).own.depth
       in waits-below shop best word next rest o all (begins-child word o depth) (long-child word o depth)
 
   -- and the walk goes on from the child
   pub child_walks : (s t : Walk) → walk shop s next ≡ entered shop t next
-      → walk_stack shop next (entered shop t next) rest ≡ walk_stack shop word s (rest ++ Child o ∷ [])
+      → walk_stack shop next (entered shop t next) rest ≡ walk_stack shop word s (rest ++ open_child o ∷ [])
   child_walks s t h =
-      let depth = (popped rest (Child o) all).own.depth
+      let depth = (popped rest (open_child o) all).own.depth
       in ap (fold (walk shop) (entered shop t next))
       (words-below shop best word next rest o all (begins-child word o depth) (long-child word o depth))
-      ∙ (ap (λ u. walk_stack shop word u rest) (sym h) ∙ sym (walk-top shop s word rest (Child o)))
+      ∙ (ap (λ u. walk_stack shop word u rest) (sym h) ∙ sym (walk-top shop s word rest (open_child o)))
 
 -- the children of the word, on the stack
 pub children_walk : (shop : Shop) (w : List ℕ) (old new : List Waiting) (t : Walk) (best : ℕ)

@@ -6,8 +6,8 @@ use Rattle.std.specs.{Prelude.{take, drop}, List.{AllByRecursion, fold}}
 use Rattle.shop_model.specs.{Shop.{Shop, operation_count}, Word.IsWord}
 use Rattle.shop_bound.specs.Bound.{lb}
 use Rattle.shop_nodes.specs.{Branching.branch, Nodes.words_of, Pieces.walk_told, Walking.{walk, sheet}}
-use Rattle.shop_nodes.specs.{Halts.{word_at, last_of, waiting_words, stack_words, IsClosed}, declared.nodes.Node.Node}
-use Rattle.shop_nodes.specs.{declared.halts.Open.Open, declared.halts.Waiting.TheVariants.{Child, Rest}}
+use Rattle.shop_nodes.specs.Halts.{open_child, word_at, last_of, waiting_words, stack_words, IsClosed}
+use Rattle.shop_nodes.specs.declared.{nodes.Node.Node, halts.{Open.Open, Waiting.TheVariants.Rest}}
 use Rattle.shop_tree.specs.{inner.Opens.AreChildren, inner.Walkers.{node_walk, spent_one, stack_walk, turns_left}}
 use Rattle.shop_tree.specs.inner.Walkers.{Stage, HasExpanded, HasWalked, HasWalkedUpTo, IsInOrder, IsTurn, on_top}
 use Rattle.shop_tree.specs.inner.Searching.{walk_stack, opening_walk}
@@ -28,18 +28,18 @@ none_spent : (b jobs new one : ℕ) → 0 < b → new ≡ one → 0 * (jobs + 2)
 none_spent b jobs new one some same = grind arith
 
 -- a child is cut off
-pub turn_cut : (s : Stage) (o : Open) → IsInOrder (on_top s (Child o)) → 0 < s.walk.budget → s.walk.best ≤ o.bound
-    → IsTurn s (Child o) (record s { walk = spent_one s.walk })
+pub turn_cut : (s : Stage) (o : Open) → IsInOrder (on_top s (open_child o)) → 0 < s.walk.budget → s.walk.best ≤ o.bound
+    → IsTurn s (open_child o) (record s { walk = spent_one s.walk })
 turn_cut s o on some high =
-    let p = popped s.stack (Child o) on
+    let p = popped s.stack (open_child o) on
     in let own = p.own.bound
     in record {
       walk = ap (λ t. walk_stack s.shop s.word t s.stack)
           (sym (cuts s.shop s.walk (word_at s.word o) some (omega arith)))
-          ∙ sym (walk-top s.shop s.walk s.word s.stack (Child o));
+          ∙ sym (walk-top s.shop s.walk s.word s.stack (open_child o));
       in_order = p.rest_waits;
       fewer = one_less s.walk.budget (s.walk.budget - 1) (length s.shop.jobs) (length s.stack)
-          (length (s.stack ++ Child o ∷ [])) (omega arith) (length_push s.stack (Child o));
+          (length (s.stack ++ open_child o ∷ [])) (omega arith) (length_push s.stack (open_child o));
       shop = refl;
       spent = omega arith;
     }
@@ -48,20 +48,20 @@ turn_cut s o on some high =
 abbrev pub went_to : Stage → Open → Stage
 went_to s o = record s { word = word_at s.word o; walk = spent_one s.walk }
 
-pub went_in_order : (s : Stage) (o : Open) → IsInOrder (on_top s (Child o)) → IsInOrder (went_to s o)
+pub went_in_order : (s : Stage) (o : Open) → IsInOrder (on_top s (open_child o)) → IsInOrder (went_to s o)
 went_in_order s o on = below_waits s.shop s.walk.best s.word s.stack o on
 
-pub turn_expanded : (s t : Stage) (o : Open) → IsInOrder (on_top s (Child o)) → 0 < s.walk.budget
-    → o.bound < s.walk.best → HasExpanded (went_to s o) t → IsTurn s (Child o) t
+pub turn_expanded : (s t : Stage) (o : Open) → IsInOrder (on_top s (open_child o)) → 0 < s.walk.budget
+    → o.bound < s.walk.best → HasExpanded (went_to s o) t → IsTurn s (open_child o) t
 turn_expanded s t o on some below e =
-    let own = (popped s.stack (Child o) on).own.bound
+    let own = (popped s.stack (open_child o) on).own.bound
     in record {
       walk = e.walk ∙ child_walks s.shop s.walk.best s.word s.stack o on s.walk (spent_one s.walk)
           (enters s.shop s.walk (word_at s.word o) some (omega arith));
       in_order = e.in_order;
       fewer = one_spent s.walk.budget (length s.shop.jobs) (length t.shop.jobs) (turns_left t) (length s.stack)
-          (length (s.stack ++ Child o ∷ [])) some (ap (λ (x : Shop). length x.jobs) e.shop)
-          (length_push s.stack (Child o)) e.fewer;
+          (length (s.stack ++ open_child o ∷ [])) some (ap (λ (x : Shop). length x.jobs) e.shop)
+          (length_push s.stack (open_child o)) e.fewer;
       shop = e.shop;
       spent = (let a = e.spent in omega arith);
     }

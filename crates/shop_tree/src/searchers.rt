@@ -76,8 +76,9 @@ impl<'l, 'a> LaneWalker<'l, 'a> {
     }
 }
 
-/// The number of bytes, roughly, that the states of all waiting children may take together.
-const ROOM: usize = 1 << 19;
+/// The number of bytes, roughly, that the states of all waiting children may take together: those of some 250 at 50 x
+/// 15, and of one at 1000 x 100.
+const ROOM: usize = 400 << 10;
 
 /// Answers how many bytes one number of a state takes in `layout`.
 fn bytes_of_number(layout: &Layout) -> usize

@@ -42,8 +42,8 @@ pub(crate) struct Walker<'l, 'a, D: Dispatching<S>, S: Drop> {
 }
 
 impl<'l, 'a, D: Dispatching<S>, S: Drop> Walker<'l, 'a, D, S> {
-    ghost use Rattle.shop_nodes.specs.declared.halts.Waiting.TheVariants.{Child, Rest};
-    ghost use Rattle.shop_nodes.specs.Halts.{halted_words, AreHalted, stack_words, word_at};
+    ghost use Rattle.shop_nodes.specs.declared.halts.Waiting.TheVariants.{Rest};
+    ghost use Rattle.shop_nodes.specs.Halts.{open_child, halted_words, AreHalted, stack_words, word_at};
     ghost use Rattle.shop_tree.specs.inner.{Walkers.IsTurn, StateWalkers.{stage_of, HasStates}, Held.IsHeldOf};
     ghost use Rattle.shop_tree.specs.inner.Walkers.{on_top, stack_walk, node_walk, IsInOrder, HasWalked, HasWalkedUpTo};
 
@@ -86,11 +86,11 @@ impl<'l, 'a, D: Dispatching<S>, S: Drop> Walker<'l, 'a, D, S> {
         state: Option<Box<S>>,
     ) -> Result<(), NoMemory>
         requires some { 0 < self.old.budget }
-        requires on { IsInOrder (on_top (stage_of self.old) (Child child)) }
+        requires on { IsInOrder (on_top (stage_of self.old) (open_child child)) }
         requires state { IsHeldOf (D.IsStateOf self.old.states.dispatcher.now)
             (word_at self.old.path.items child) state }
         requires states { HasStates self.old }
-        ensures turn { OnOk result (IsTurn (stage_of self.old) (Child child) (stage_of self.new)) }
+        ensures turn { OnOk result (IsTurn (stage_of self.old) (open_child child) (stage_of self.new)) }
         ensures states { OnOk result (HasStates self.new) }
     {
         self.budget -= 1;
@@ -138,7 +138,9 @@ impl<'l, 'a, D: Dispatching<S>, S: Drop> Walker<'l, 'a, D, S> {
                 return Ok(());
             };
             match held.waiting {
-                Waiting::Child(child) => self.walk_open(alloc, child, held.state)?,
+                Waiting::Child { job, depth, bound } => {
+                    self.walk_open(alloc, Open { depth, job, bound }, held.state)?
+                }
                 Waiting::Rest { depth, count } => self.count_closed(depth, count)?,
             }
         }

@@ -7,17 +7,17 @@
 --     AreWithin word stack        so do those of all entries
 --     IsHaltWithin h              and those of what waited where a walk halted
 --     AreSharable nodes           the words of the nodes can share their jobs
-use Rattle.std.specs.Prelude.{ℕ, ◌≤◌, Option, Some, None, List, [], ◌∷◌, ◌++◌, length, All, filter, nat_lt}
+use Rattle.std.specs.Prelude.{ℕ, ◌≤◌, Option, Some, None, List, [], ◌∷◌, ◌++◌, length, take, All, filter, nat_lt}
 use Rattle.std.specs.{Arc.arc_slice_items, List.AllByRecursion}
 use Rattle.shop_model.specs.SharedWords.{CanBeShared}
-use Rattle.shop_nodes.specs.{Halts.word_at, declared.halts.Halt.Halt, declared.halts.Waiting.Waiting}
+use Rattle.shop_nodes.specs.{declared.halts.Halt.Halt, declared.halts.Waiting.Waiting}
 use Rattle.shop_nodes.specs.{declared.halts.Waiting.TheVariants.{Child, Rest}, declared.nodes.Node.Node}
 
 abbrev pub nodes_below : ℕ → List Node → List Node
 nodes_below c nodes = filter (λ n. nat_lt n.bound c) nodes
 
 abbrev pub child_nodes : List ℕ → Waiting → List Node
-child_nodes word (Child o) = record { word = word_at word o; bound = o.bound } ∷ []
+child_nodes word (Child job depth bound) = record { word = take depth word ++ job ∷ []; bound = bound } ∷ []
 child_nodes word (Rest depth count) = []
 
 abbrev pub stack_nodes : List ℕ → List Waiting → List Node
@@ -29,7 +29,7 @@ halted_nodes None = []
 halted_nodes (Some h) = stack_nodes (arc_slice_items h.path) h.waiting.items
 
 abbrev pub IsWithin : List ℕ → Waiting → Type 0
-IsWithin word (Child o) = o.depth ≤ length word
+IsWithin word (Child job depth bound) = depth ≤ length word
 IsWithin word (Rest depth count) = Unit {0}
 
 abbrev pub AreWithin : List ℕ → List Waiting → Type 0

@@ -9,9 +9,10 @@
 --     with_held_rest stack depth n    the stack with n closed children of a word of `depth` entries on top, if any
 --     HasSetRestBelow i depth n m ..  n closed children at place i, below some kids, become m
 --     AreStates slot is_scratch ..    what the states of a walk hold is room for states, and what a dispatch needs
-use Rattle.std.specs.Prelude.{◌≡◌, ℕ, zero, suc, [], ◌∷◌, ◌++◌, Option, Some, None, List, length, map, All}
+use Rattle.std.specs.Prelude.{◌≡◌, ℕ, zero, suc, [], ◌∷◌, ◌++◌, Option, Some, None, List, length, map, take, All}
 use Rattle.std.specs.Global.{Box}
-use Rattle.shop_nodes.specs.{declared.halts.{Open.Open, Waiting.{Waiting, TheVariants.{Child, Rest}}}, Halts.word_at}
+use Rattle.shop_nodes.specs.declared.halts.{Open.Open, Waiting.{Waiting, TheVariants.{Child, Rest}}}
+use Rattle.shop_nodes.specs.Halts.{open_child, word_at}
 use Rattle.shop_tree.specs.declared.held.Held.{Held}
 
 pub record Kept (S : Type 0) : Type 0 where
@@ -19,7 +20,7 @@ pub record Kept (S : Type 0) : Type 0 where
   pub state : Option (Box S)
 
 abbrev pub bound_of : Waiting → ℕ
-bound_of (Child o) = o.bound
+bound_of (Child job depth bound) = bound
 bound_of (Rest depth count) = 0
 
 module _ {S : Type 0} where
@@ -30,7 +31,7 @@ module _ {S : Type 0} where
   waiting_in hs = map (λ h. h.waiting) hs
 
   abbrev pub held : Kept S → Held S
-  held k = record { waiting = Child k.open; state = k.state }
+  held k = record { waiting = open_child k.open; state = k.state }
 
   abbrev pub with_held_rest : List (Held S) → ℕ → ℕ → List (Held S)
   with_held_rest stack depth zero = stack
@@ -49,7 +50,7 @@ module _ {S : Type 0} (is : List ℕ → S → Type 0) where
   IsKept word k = IsHeldOf (word_at word k.open) k.state
 
   abbrev pub IsHeldAs : List ℕ → Waiting → Option (Box S) → Type 0
-  IsHeldAs word (Child o) state = IsHeldOf (word_at word o) state
+  IsHeldAs word (Child job depth bound) state = IsHeldOf (take depth word ++ job ∷ []) state
   IsHeldAs word (Rest depth count) state = state ≡ None
 
   abbrev pub IsHeld : List ℕ → Held S → Type 0

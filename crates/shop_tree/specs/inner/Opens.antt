@@ -19,7 +19,7 @@ abbrev pub open_words : List ℕ → List Open → List (List ℕ)
 open_words word opens = map (word_at word) opens
 
 abbrev pub depth_of : Waiting → ℕ
-depth_of (Child o) = o.depth
+depth_of (Child job depth bound) = depth
 depth_of (Rest depth count) = depth
 
 abbrev pub IsFrom : ℕ → Waiting → Type 0

@@ -1,5 +1,6 @@
 use Rattle.std.proofs.{Common.arith, lemmas.List.length-map}
-use Rattle.shop_lanes.proofs.{BlockMasks.{least_begins, least_more, least_ends, length-lesser}, LaterTurns.ahead_block}
+use Rattle.shop_lanes.proofs.BlockMasks.{length-block, least_begins, least_more, least_ends, length-lesser}
+use Rattle.shop_lanes.proofs.LaterTurns.{ahead_block}
 use Rattle.shop_lanes.proofs.leaps.nearest_of.Goals as goal
 
 pub loop-block-init : goal.loop-block-init
@@ -10,3 +11,6 @@ loop-block-preserved g c = grind (arith, length-map, ahead_block, length-lesser,
 
 pub returns : goal.returns
 returns g c = grind (arith, least_ends, length-map)
+
+pub lesser-least-requires : goal.lesser-least-requires
+lesser-least-requires g c = grind (arith, length-map, length-block)

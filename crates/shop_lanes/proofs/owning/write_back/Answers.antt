@@ -1,3 +1,5 @@
+use Rattle.std.proofs.lemmas.List.{length-map}
+use Rattle.shop_lanes.proofs.BlockMasks.{length-block}
 use Rattle.std.proofs.Common.{◌≡◌, ℕ, List, max, ◌∙◌, ◌-◌, ap, sym, length, arith}
 use lib.Lanes.{zip2}
 use Rattle.shop_lanes.specs.Eights.{added, lessened}
@@ -100,3 +102,9 @@ waiting-requires-in-loop-block-clause-heads g c =
     in heads_eight_long cols c.requires.can.fits (c.loop-block.block - 1)
     (omega (arith, c.loop-block-test.true)) c.loop-block.invariant c.load-head.ensures c.load-time.ensures
     c.load-tail.ensures c.load-noted.ensures c.splat-one.ensures c.requires.ends.begins c.requires.ends.before
+
+pub waiting-requires-clause-heads : goal.waiting-requires-clause-heads
+waiting-requires-clause-heads g c = grind (arith, length-map, length-block)
+
+pub less-requires : goal.less-requires
+less-requires g c = grind (arith, length-map, length-block)

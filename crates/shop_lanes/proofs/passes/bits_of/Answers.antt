@@ -1,6 +1,6 @@
 use Rattle.std.proofs.{Common.{◌≤◌, length, map, arith}, lemmas.List.length-map}
 use Rattle.shop_lanes.specs.Eights.{is_marked}
-use Rattle.shop_lanes.proofs.BlockMasks.{mask_back, mask_fits, no_odd, odd_block}
+use Rattle.shop_lanes.proofs.BlockMasks.{length-block, mask_back, mask_fits, no_odd, odd_block}
 use Rattle.shop_lanes.proofs.passes.bits_of.Goals.{then-count-gt0, else-count-gt0}
 use Rattle.shop_lanes.proofs.passes.bits_of.Goals as goal
 
@@ -31,3 +31,6 @@ loop-pair-init g c = (
     | else-count-gt0 w ↦ grind (arith, no_odd, length-map)
   ],
 )
+
+pub bits-bits-requires-clause-eight : goal.bits-bits-requires-clause-eight
+bits-bits-requires-clause-eight g c = grind (arith, length-map, length-block)

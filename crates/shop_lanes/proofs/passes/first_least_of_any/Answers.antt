@@ -1,5 +1,6 @@
 use Rattle.std.proofs.{Common.{arith, length, map}, lemmas.List.length-map}
-use Rattle.shop_lanes.proofs.{BlockMasks.{least_found, position_in_block, none_in_block}, Extremes.least_le_top}
+use Rattle.shop_lanes.proofs.BlockMasks.{length-block, least_found, position_in_block, none_in_block}
+use Rattle.shop_lanes.proofs.Extremes.{least_le_top}
 use Rattle.shop_lanes.proofs.passes.first_least_of_any.Goals as goal
 
 pub bits-bits-requires-clause-fits : goal.bits-bits-requires-clause-fits
@@ -43,3 +44,6 @@ returns g c =
       found = λ lt. absurd (omega (arith, long));
       first = λ k lt. c.loop-block.invariant k (omega (arith, c.requires.whole_blocks));
     })
+
+pub bits-bits-requires-clause-eight : goal.bits-bits-requires-clause-eight
+bits-bits-requires-clause-eight g c = grind (arith, length-map, length-block)

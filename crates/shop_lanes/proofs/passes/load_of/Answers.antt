@@ -1,3 +1,5 @@
+use Rattle.std.proofs.lemmas.List.{length-map}
+use Rattle.shop_lanes.proofs.BlockMasks.{length-block}
 use Rattle.std.proofs.Common.{◌∙◌, ap, arith, length}
 use Rattle.shop_lanes.specs.Folds.{greatest}
 use Rattle.shop_lanes.proofs.ColumnTurns.{columns_in, parts, both_fit, served_more, served_whole}
@@ -52,3 +54,12 @@ returns g c =
     in c.greatest_of.ensures
     ∙ ap greatest (ends_eight c.args.least cols served.clocks_are c.sums_before.ensures served.most_are c.sum.ensures)
     ∙ last_end c.args.least cols
+
+pub serve-after-requires-clause-heads : goal.serve-after-requires-clause-heads
+serve-after-requires-clause-heads g c = grind (arith, length-map, length-block)
+
+pub serve-after-requires-clause-times : goal.serve-after-requires-clause-times
+serve-after-requires-clause-times g c = grind (arith, length-map, length-block)
+
+pub serve-after-requires-clause-tails : goal.serve-after-requires-clause-tails
+serve-after-requires-clause-tails g c = grind (arith, length-map, length-block)

@@ -1,13 +1,25 @@
-use Rattle.std.proofs.{Common.{arith, rules}, lemmas.List.length_push}
+use Rattle.std.proofs.Common.{◌≡◌, ◌∙◌, ℕ, ◌≤◌, ◌<◌, List, ap, length, map, sym, subst, take}
+use Rattle.std.proofs.lemmas.List.{length-map, take_all}
+use Rattle.std.specs.{List.flat_map, Prelude.Vec, declared.alloc.Global.Global}
+use Rattle.std.proofs.{Common.arith, lemmas.List.length_push}
 use Rattle.shop_layout.specs.Legs.{route_legs}
 use Rattle.shop_layout.proofs.RouteLegs.{legs_more, row_below}
 use Rattle.shop_layout.proofs.legs.legs_of.Goals as goal
 
+all_rows : (places : List (Vec ℕ Global)) {j : ℕ} → length places ≤ j
+    → take j (map (λ v. v.items) places) ≡ map (λ v. v.items) places
+all_rows places {j} past =
+    let long = length-map places (λ v. v.items) in take_all j (map (λ v. v.items) places) (omega arith)
+
 pub add_route-requires-clause-machines : goal.add_route-requires-clause-machines
-add_route-requires-clause-machines c = search (rules, row_below)
+add_route-requires-clause-machines c =
+    row_below c.args.places.now c.loop-j.j c.index-places-j.result c.as_slice.result.now c.loop-j-test.true
+    c.index-places-j.is c.as_slice.ensures.value (length c.args.machines.now) c.requires.machines
 
 pub add_route-requires-clause-times : goal.add_route-requires-clause-times
-add_route-requires-clause-times c = search (rules, row_below)
+add_route-requires-clause-times c =
+    row_below c.args.places.now c.loop-j.j c.index-places-j.result c.as_slice.result.now c.loop-j-test.true
+    c.index-places-j.is c.as_slice.ensures.value (length c.args.times.now) c.requires.times
 
 pub loop-j-preserved : goal.loop-j-preserved
 loop-j-preserved c =
@@ -20,3 +32,17 @@ loop-j-preserved c =
       long = grind (arith, length_push);
       firsts = grind arith;
     }
+
+pub returns-clause-firsts : goal.returns-clause-firsts
+returns-clause-firsts c =
+    let all : c.loop-j.j ≡ length c.args.places.now = omega arith
+    in let long = c.loop-j.invariant.long
+    in record {
+      long = long ∙ (all ∙ sym (length-map c.args.places.now (λ v. v.items)));
+      each = λ j here. c.loop-j.invariant.firsts j (subst (λ n. j < n) long here);
+    }
+
+pub returns-clause-legs : goal.returns-clause-legs
+returns-clause-legs c = c.loop-j.invariant.legs
+    ∙ ap (flat_map (route_legs c.args.machines.now c.args.times.now c.args.end))
+    (all_rows c.args.places.now c.loop-j-test.false)

@@ -1,3 +1,5 @@
+use Rattle.std.proofs.Common.{◌≡◌, ◌-◌, length, subst}
+use Rattle.shop_layout.specs.Positions.{AreMachinesOf}
 use Rattle.std.proofs.Common.{refl, arith}
 use Rattle.shop_layout.proofs.LaidLists.{machines_turn}
 use Rattle.shop_layout.proofs.positions.machines_of.Goals as goal
@@ -13,3 +15,8 @@ loop-machine-preserved c =
     (λ m below. c.requires.ordered m (omega arith)) (omega arith)
     (λ k d a b. c.in_ok-resize.ensures.by_index.0 k d a (omega arith))
     (λ k d a b. c.in_ok-resize.ensures.by_index.1 k d refl (omega arith) b)
+
+pub returns : goal.returns
+returns c =
+    let all : c.loop-machine.machine ≡ length c.args.blocks.now - 1 = omega arith
+    in subst (λ n. AreMachinesOf c.args.blocks.now n c.loop-machine.machines.items) all c.loop-machine.invariant

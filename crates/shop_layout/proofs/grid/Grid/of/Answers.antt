@@ -1,4 +1,4 @@
-use Rattle.std.proofs.Common.{◌≡◌, ◌∙◌, ℕ, ◌≤◌, ◌<◌, ◌^◌, List, ap, arith, length, subst}
+use Rattle.std.proofs.Common.{◌≡◌, ◌∙◌, ℕ, ◌≤◌, ◌<◌, ◌^◌, List, ap, arith, length, subst, sym}
 use Rattle.std.specs.List.{All, flat_map}
 use Rattle.shop_model.specs.Shop.{Shop}
 use Rattle.shop_layout.specs.{LaidOuts.IsReady, Legs.{all_legs, route_legs}, Positions.{AreEven, LayoutState}}
@@ -82,3 +82,11 @@ invariant_of-result g c =
       legs.0,
       legs.1,
     )
+
+pub behind_of-requires-clause-steps : goal.behind_of-requires-clause-steps
+behind_of-requires-clause-steps g c =
+    let laid = c.requires.ready.1.laid.positions
+    in ap length (c.as_slice-steps.ensures.value ∙ ap (λ (x : LayoutState). x.steps) c.positions.view_is)
+    ∙ (laid.steps
+    ∙ sym (ap length (c.as_slice-jobs.ensures.value ∙ ap (λ (x : LayoutState). x.jobs) c.positions.view_is)
+    ∙ laid.jobs))

@@ -3,7 +3,8 @@ use Rattle.std.proofs.lemmas.List.{length-map}
 use Rattle.std.specs.{List.All, Prelude.Vec, declared.alloc.Global.Global}
 use Rattle.shop_model.specs.{Limits.IsWithinLimits, Shop.Shop}
 use Rattle.shop_layout.specs.{declared.slots.Slot.Slot, Ranks.{AreRanks, ranked}, Slots.AreMachineSlots}
-use Rattle.shop_layout.specs.{inner.Layings.{AreCells, ArePlaces, AreShorter, place_after}, Positions.AreMachinesOf}
+use Rattle.shop_layout.specs.inner.Layings.{AreCells, ArePlaces, AreShorter, HaveRoom, place_after}
+use Rattle.shop_layout.specs.Positions.{AreMachinesOf}
 use Rattle.shop_layout.proofs.{LaidLists.{blocks_few, cells_known, laid_out, machine_few}, RankedSlots.places_ranked}
 use Rattle.shop_layout.proofs.RankedShops.{jobs_ranked, limits_ranked}
 use Rattle.shop_layout.proofs.positions.Positions.of.Goals as goal
@@ -41,6 +42,15 @@ module _ {shop : Shop} (limits : IsWithinLimits shop) {ranks : List ℕ} (by : A
     step_small : {read : List Slot} → read ≡ cells → All (λ s. s.step < 4294967296) read
     step_small e = λ k d here. let b = known e k d here in omega arith
 
+    slots_small : {read : List Slot} → read ≡ cells → length read < 4294967296
+    slots_small e = let l = ap length e in let n = laid.few in let m = limits.machines in omega arith
+
+    room_in : {again : List (Vec Slot Global)} → again ≡ lists → {read : List ℕ} → read ≡ blocks
+        → HaveRoom (map (λ v. v.items) again) shop.machines read
+    room_in {again} more e = subst (HaveRoom (map (λ v. v.items) again) shop.machines) (sym e)
+        (subst (λ (vs : List (Vec Slot Global)). HaveRoom (map (λ v. v.items) vs) shop.machines blocks)
+        (lent ∙ sym more) (λ m here. (laid.each m here).room))
+
     job_known : {read : List Slot} → read ≡ cells → (rows : ℕ) → rows ≡ length shop.jobs → All (λ s. s.job < rows) read
     job_known e rows many = λ k d here. let b = known e k d here in omega arith
 
@@ -54,10 +64,14 @@ pub places_of-requires-clause-few : goal.places_of-requires-clause-few
 places_of-requires-clause-few c = grind (arith, few)
 
 pub jobs_of-requires : goal.jobs_of-requires
-jobs_of-requires c = grind (arith, job_small)
+jobs_of-requires c =
+    job_small c.keeps_limits.ensures c.requires c.as_slice.ensures.value c.in_ok-lists.ensures
+    c.in_ok-slots.ensures c.as_slice-slots.ensures.value
 
 pub steps_of-requires : goal.steps_of-requires
-steps_of-requires c = grind (arith, step_small)
+steps_of-requires c =
+    step_small c.keeps_limits.ensures c.requires c.as_slice.ensures.value c.in_ok-lists.ensures
+    c.in_ok-slots.ensures c.as_slice-slots.ensures.value
 
 pub machines_of-requires : goal.machines_of-requires
 machines_of-requires c =
@@ -77,8 +91,10 @@ following_of-requires c =
           c.in_ok-slots.ensures c.as_slice-slots.ensures.value (length c.as_slice-5.result.now)
           (ap length c.as_slice-5.ensures.value
           ∙ (sym (length-map c.in_ok-places.places.items (λ v. v.items)) ∙ rows));
-      steps = grind (arith, step_small);
-      few = grind arith;
+      steps = step_small c.keeps_limits.ensures c.requires c.as_slice.ensures.value c.in_ok-lists.ensures
+          c.in_ok-slots.ensures c.as_slice-slots.ensures.value;
+      few = slots_small c.keeps_limits.ensures c.requires c.as_slice.ensures.value c.in_ok-lists.ensures
+          c.in_ok-slots.ensures c.as_slice-slots.ensures.value;
     }
 
 -- the lists that were lent, as they are
@@ -129,3 +145,23 @@ returns c =
     (following_is c.as_slice-slots.result.now slots c.as_slice-slots.ensures.value c.as_slice-5.result.now
     c.in_ok-places.places.items c.as_slice-5.ensures.value c.in_ok-following_of.field-0.items
     c.in_ok-following_of.ensures)
+
+pub overflow_cast-result : goal.overflow_cast-result
+overflow_cast-result c =
+    let small = slots_small c.keeps_limits.ensures c.requires c.as_slice.ensures.value c.in_ok-lists.ensures
+    c.in_ok-slots.ensures c.as_slice-slots.ensures.value
+    in record { fits = small }
+
+pub invariant_of-result : goal.invariant_of-result
+invariant_of-result c =
+    sym (ap length c.in_ok-following_of.ensures ∙ length-map c.as_slice-slots.result.now _)
+
+pub places_of-requires-clause-room : goal.places_of-requires-clause-room
+places_of-requires-clause-room c =
+    room_in c.keeps_limits.ensures c.requires c.as_slice.ensures.value c.in_ok-lists.ensures c.in_ok-slots.ensures
+    c.as_slice-2.ensures.value c.as_slice-3.ensures.value
+
+pub places_of-requires-clause-blocks : goal.places_of-requires-clause-blocks
+places_of-requires-clause-blocks c = ap length c.as_slice-3.ensures.value
+    ∙ (laid c.keeps_limits.ensures c.requires c.as_slice.ensures.value c.in_ok-lists.ensures
+    c.in_ok-slots.ensures).machines

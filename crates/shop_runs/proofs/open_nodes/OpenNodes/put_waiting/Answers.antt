@@ -15,7 +15,7 @@ loop-waiting-preserved c =
     in let now = c.loop-waiting
     in let next = c.put_if_open.new
     in let k = now.waiting-index
-    in let d : Waiting = Child (record { depth = 0; job = 0; bound = 0 })
+    in let d : Waiting = Child 0 0 0
     in let within : k < length items = search rules
     in part_put c.args.limit (stack_nodes path items) c.args.self.now c.args.distant.now
     (stack_nodes path (drop (k + 1) items)) (child_nodes path (get_or items k d)) now.self next.self now.distant

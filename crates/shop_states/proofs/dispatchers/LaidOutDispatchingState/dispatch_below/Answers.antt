@@ -1,8 +1,9 @@
-use Rattle.std.proofs.{Common.{rules, ℕ, List, ◌∙◌, ap, arith, length}, lemmas.List.length-set}
+use Rattle.std.proofs.{Common.{rules, ℕ, List, ◌∙◌, ap, arith, length, refl}, lemmas.List.length-set}
 use Rattle.shop_layout.specs.Positions.{LayoutState}
 use Rattle.shop_layout.proofs.Written.{written_vec}
 use Rattle.shop_states.proofs.{CandidateDispatches.{candidate_can, candidate_told}, ReadStates.kept_read}
 use Rattle.shop_states.proofs.{AskedStates.{bound_there, kept_on, told_behind}, Trials.{its_job, its_position}}
+use Rattle.shop_states.proofs.KeptRoom.{room_behind, room_kept, scratch_kept}
 use Rattle.shop_states.proofs.dispatchers.LaidOutDispatchingState.dispatch_below.Goals as goal
 
 pub of-dispatch-requires : goal.of-dispatch-requires
@@ -51,3 +52,47 @@ returns-clause-state g c = λ w of candidate.
     in let whole = written_vec c.args.state.now.next c.as_mut_slice.result.now c.go_on.new.next
     c.as_mut_slice.ensures.value long
     in rw whole (kept_on of (ready.kept c.args.self.now.shop w of.kept candidate.fits _ _ on))
+
+pub advance_below-requires-clause-at_rest : goal.advance_below-requires-clause-at_rest
+advance_below-requires-clause-at_rest g c = c.requires.scratch.at_rest
+
+pub advance_below-requires-clause-is : goal.advance_below-requires-clause-is
+advance_below-requires-clause-is g c = rw c.as_slice-next.ensures.value c.of-dispatch.ensures.is
+
+pub advance_below-requires-clause-limit : goal.advance_below-requires-clause-limit
+advance_below-requires-clause-limit g c = let limit = c.range_of-range.ensures.limit in omega arith
+
+pub go_on-requires-clause-keep : goal.go_on-requires-clause-keep
+go_on-requires-clause-keep g c = rw c.as_mut_slice.ensures.value (rw (
+  c.of-dispatch.ensures.job,
+  c.as_slice-next.ensures.value,
+) at c.in_ok-told.ensures.ready.keep)
+
+pub go_on-requires-clause-times : goal.go_on-requires-clause-times
+go_on-requires-clause-times g c =
+    let kept = c.requires.can.is.0.kept.kept in let timed = kept.laid.positions.times
+    in let long = kept.heads.positions in let now = c.advance_below.ensures.positions
+    in let same = ap (λ (l : LayoutState). length l.times) c.grid-grid.ensures.grid in omega arith
+
+pub returns-in_err-told-clause-slot : goal.returns-in_err-told-clause-slot
+returns-in_err-told-clause-slot g c = room_kept c.requires.can.is.0 (g.L.StateLanes.heads c.advance_below.new.lanes)
+    (g.L.StateLanes.ends c.advance_below.new.lanes) c.args.state.now.next.items c.advance_below.ensures.positions
+    c.advance_below.ensures.ends refl
+
+pub returns-in_err-told-clause-scratch : goal.returns-in_err-told-clause-scratch
+returns-in_err-told-clause-scratch g c =
+    scratch_kept c.requires.scratch c.advance_below.ensures.machines c.advance_below.ensures.rest refl
+
+pub returns-in_err-told-clause-kept : goal.returns-in_err-told-clause-kept
+returns-in_err-told-clause-kept g c = λ w j known. known
+
+pub returns-clause-slot : goal.returns-clause-slot
+returns-clause-slot g c = room_behind c.requires.can.is.0 c.args.state.now.next refl c.as_mut_slice.ensures.value
+    c.advance_below.ensures.positions c.advance_below.ensures.ends c.go_on.ensures
+
+pub returns-clause-scratch : goal.returns-clause-scratch
+returns-clause-scratch g c =
+    scratch_kept c.requires.scratch c.advance_below.ensures.machines c.advance_below.ensures.rest refl
+
+pub returns-clause-kept : goal.returns-clause-kept
+returns-clause-kept g c = λ w j known. known

@@ -1,16 +1,48 @@
-use Rattle.std.proofs.Common.{◌≡◌, ◌+◌, ◌-◌, arith}
-use Rattle.shop_layout.proofs.Written.{written_vec}
-use Rattle.shop_states.proofs.RaisedMachines.{lengths_in}
+use Rattle.std.proofs.Common.{arith}
+use Rattle.shop_states.proofs.WrittenRaises.{few_written, spans_given, spans_written}
 use Rattle.shop_states.proofs.machine_raises.MachineRaises.take_bound.Goals as goal
 
+pub take_any_spans-requires : goal.take_any_spans-requires
+take_any_spans-requires g c =
+    spans_given g.L.StateLanes.value c.as_mut_slice-raises.ensures.value c.self.view_is c.requires.can
+
+pub take_spans_of-requires-clause-can : goal.take_spans_of-requires-clause-can
+take_spans_of-requires-clause-can g c =
+    spans_given g.L.StateLanes.value c.as_mut_slice-raises.ensures.value c.self.view_is c.requires.can
+
+pub take_spans_of-requires-clause-even : goal.take_spans_of-requires-clause-even
+take_spans_of-requires-clause-even g c = c.fixed_blocks_each-each.ensures.even
+
+pub overflow_add-least : goal.overflow_add-least
+overflow_add-least g c = let limit = c.requires.limit in let below = c.requires.below in omega arith
+
+pub overflow_add-limit : goal.overflow_add-limit
+overflow_add-limit g c = let limit = c.requires.limit in omega arith
+
+pub overflow_sub-result : goal.overflow_sub-result
+overflow_sub-result g c = let low = c.take_any_spans.ensures.low in omega arith
+
+pub overflow_add-least-2 : goal.overflow_add-least-2
+overflow_add-least-2 g c = let limit = c.requires.limit in let below = c.requires.below in omega arith
+
+pub overflow_add-limit-2 : goal.overflow_add-limit-2
+overflow_add-limit-2 g c = let limit = c.requires.limit in omega arith
+
+pub overflow_sub-result-2 : goal.overflow_sub-result-2
+overflow_sub-result-2 g c = let low = c.take_spans_of.ensures.low in omega arith
+
+pub invariant_of-self : goal.invariant_of-self
+invariant_of-self g c = few_written g.L.StateLanes.value c.self.inside.raises c.take_any_spans.new.raises
+    c.as_mut_slice-raises.ensures.value c.take_any_spans.ensures.long g.L.StateLanes.EACH c.self.invariant
+
+pub invariant_of-self-2 : goal.invariant_of-self-2
+invariant_of-self-2 g c = few_written g.L.StateLanes.value c.self.inside.raises c.take_spans_of.new.raises
+    c.as_mut_slice-raises.ensures.value c.take_spans_of.ensures.long g.L.StateLanes.EACH c.self.invariant
+
 pub returns-then-each-eq0 : goal.returns-then-each-eq0
-returns-then-each-eq0 g c =
-    let low = c.take_any_spans.ensures.low
-    in let is : c.take_any_spans.result - 1 + 1 ≡ c.take_any_spans.result = omega arith
-    in rw is (grind (arith, written_vec, lengths_in))
+returns-then-each-eq0 g c = spans_written g.L.StateLanes.value c.self.inside.raises c.take_any_spans.new.raises
+    c.as_mut_slice-raises.ensures.value c.self.view_is c.take_any_spans.ensures (omega arith)
 
 pub returns : goal.returns
-returns g c =
-    let low = c.take_spans_of.ensures.low
-    in let is : c.take_spans_of.result - 1 + 1 ≡ c.take_spans_of.result = omega arith
-    in rw is (grind (arith, written_vec, lengths_in))
+returns g c = spans_written g.L.StateLanes.value c.self.inside.raises c.take_spans_of.new.raises
+    c.as_mut_slice-raises.ensures.value c.self.view_is c.take_spans_of.ensures (omega arith)

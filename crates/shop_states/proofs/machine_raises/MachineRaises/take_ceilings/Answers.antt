@@ -1,12 +1,12 @@
-use Rattle.std.proofs.Common.{◌≡◌, ◌+◌, ◌-◌, ◌<◌, ◌∙◌, ap, inl, inr, List, arith, length, subst, sym, refl, set}
+use Rattle.std.proofs.Common.{◌+◌, ◌<◌, ◌∙◌, ap, inl, inr, List, arith, length, subst, sym, refl, set}
 use Rattle.std.proofs.lemmas.List.{length-map, length-set}
-use Rattle.shop_layout.proofs.Written.{written_vec}
 use Rattle.shop_layout.specs.Lanes.{lanes_on}
 use Rattle.shop_states.specs.inner.HeadRaises.{Raise, nothing_raised, raise_in, raise_of, raises_in}
 use Rattle.shop_states.specs.inner.LaidLanes.{laid_rows}
 use Rattle.shop_states.proofs.{LookedUpRows.its_small, FittingSpans.spans_within}
 use Rattle.shop_states.proofs.LookedUpRows.{can_bound, cut_ordered, cut_span, cut_within, its_blocks, its_known}
-use Rattle.shop_states.proofs.RaisedMachines.{IsFoundSo, first_known, found_all, found_more, lengths_in}
+use Rattle.shop_states.proofs.RaisedMachines.{IsFoundSo, first_known, found_all, found_begins, found_more}
+use Rattle.shop_states.proofs.WrittenRaises.{bounds_written, few_written, long_given}
 use Rattle.shop_states.proofs.machine_raises.MachineRaises.take_ceilings.Goals as goal
 
 pub take_raise-raise-requires : goal.take_raise-raise-requires
@@ -71,21 +71,46 @@ pub returns-clause-bounds : goal.returns-clause-bounds
 returns-clause-bounds g c =
     let so = c.loop-machine.invariant.found
     in let all = found_all c.in_default.ensures.0 so
-    in let low = so.low
-    in let is : c.loop-machine.greatest - 1 + 1 ≡ c.loop-machine.greatest = omega arith
-    in let long = lengths_in g.L.StateLanes.value c.as_mut_slice-raises.result.now c.loop-machine.raises
-    (so.left.long ∙ ap length
-    (sym (ap (raises_in g.L.StateLanes.value) c.as_mut_slice-raises.ensures.value ∙ c.self.view_is)))
-    in let whole = written_vec c.self.inside.raises c.as_mut_slice-raises.result.now c.loop-machine.raises
-    c.as_mut_slice-raises.ensures.value long
-    in rw (is, whole) (record {
+    in bounds_written g.L.StateLanes.value c.self.inside.raises c.loop-machine.raises
+    c.as_mut_slice-raises.ensures.value (long_given g.L.StateLanes.value c.as_mut_slice-raises.ensures.value
+    c.self.view_is (raises_in g.L.StateLanes.value c.loop-machine.raises) so.left.long) (record {
       empty = all.0;
       long = so.left.long;
       low = so.low;
       least_of = so.least_of;
       covers = all.1;
       most = so.most;
-    })
+    }) (omega arith)
+
+pub returns-clause-long : goal.returns-clause-long
+returns-clause-long g c = c.loop-machine.invariant.long
+
+pub invariant_of-self : goal.invariant_of-self
+invariant_of-self g c =
+    few_written g.L.StateLanes.value c.self.inside.raises c.loop-machine.raises
+    c.as_mut_slice-raises.ensures.value (long_given g.L.StateLanes.value c.as_mut_slice-raises.ensures.value
+    c.self.view_is (raises_in g.L.StateLanes.value c.loop-machine.raises) c.loop-machine.invariant.found.left.long)
+    g.L.StateLanes.EACH c.self.invariant
+
+pub loop-machine-init : goal.loop-machine-init
+loop-machine-init g c = record {
+  found = found_begins (ap (raises_in g.L.StateLanes.value) c.as_mut_slice-raises.ensures.value ∙ c.self.view_is)
+      c.requires.can.listed (λ m here. (let long = c.fill.ensures.len
+      in let is = c.fill.ensures.clones m 0 (omega arith) refl in omega arith));
+  long = c.fill.ensures.len;
+}
+
+pub overflow_add-lowest : goal.overflow_add-lowest
+overflow_add-lowest g c = let least = c.requires.least in omega arith
+
+pub overflow_sub-result : goal.overflow_sub-result
+overflow_sub-result g c = let low = c.loop-machine.invariant.found.low in omega arith
+
+pub rows-rows-requires-clause-tails : goal.rows-rows-requires-clause-tails
+rows-rows-requires-clause-tails g c = c.requires.can.tails
+
+pub rows-rows-requires-clause-times : goal.rows-rows-requires-clause-times
+rows-rows-requires-clause-times g c = c.requires.can.times
 
 pub offset_bounds-ceilings-machine : goal.offset_bounds-ceilings-machine
 offset_bounds-ceilings-machine g c = grind (arith, first_known)

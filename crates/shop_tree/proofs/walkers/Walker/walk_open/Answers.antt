@@ -5,7 +5,7 @@ use Rattle.shop_bound.specs.Bound.{lb}
 use Rattle.shop_bound.proofs.WordLengths.{room_left}
 use Rattle.shop_tree.specs.inner.{Held.waiting_in, Slots.IsStateIn, StateWalkers.{stage_of, walked, AreHeld}}
 use Rattle.shop_tree.specs.inner.Walkers.{HasExpanded, IsInOrder, IsTurn, spent_one}
-use Rattle.shop_nodes.specs.{Halts.word_at, declared.halts.Waiting.TheVariants.Child}
+use Rattle.shop_nodes.specs.{Halts.{open_child, word_at}}
 use Rattle.shop_tree.proofs.{OpenLemmas.popped, ListLemmas.on_ok, StateLemmas.held_below}
 use Rattle.shop_tree.proofs.WalkerLemmas.{turn_cut, turn_expanded, went_in_order}
 use Rattle.shop_tree.proofs.walkers.Walker.walk_open.Goals as goal
@@ -13,7 +13,7 @@ use Rattle.shop_tree.proofs.walkers.Walker.walk_open.Goals as goal
 pub returns-then-child-self-clause-turn : goal.returns-then-child-self-clause-turn
 returns-then-child-self-clause-turn g c =
     let s = stage_of c.args.self.now
-    in on_ok _ (IsTurn s (Child c.args.child) (record s { walk = spent_one s.walk }))
+    in on_ok _ (IsTurn s (open_child c.args.child) (record s { walk = spent_one s.walk }))
     (λ e. turn_cut s c.args.child c.requires.on c.requires.some c.if-child-self.true)
     c.give_back.result c.give_back.ensures.stayed
 
@@ -22,7 +22,7 @@ unwrap-requires g c =
     let self = c.args.self.now
     in let o = c.args.child
     in let word = self.path.items
-    in let own = (popped (waiting_in self.stack.items) (Child o) c.requires.on).own
+    in let own = (popped (waiting_in self.stack.items) (open_child o) c.requires.on).own
     in let few = room_left self.instance.now (take o.depth word) o.job own.is_word
     in let depth = length-take-le o.depth word own.depth
     in c.push.ensures.succeeds (let a = c.truncate.ensures.len in let b = c.truncate.ensures.capacity
@@ -33,7 +33,7 @@ go_on_in-requires-clause-word g c =
     let self = c.args.self.now
     in let o = c.args.child
     in let word = self.path.items
-    in let own = (popped (waiting_in self.stack.items) (Child o) c.requires.on).own
+    in let own = (popped (waiting_in self.stack.items) (open_child o) c.requires.on).own
     in let went : c.as_slice.result.now ≡ word_at word o = c.as_slice.ensures.value
     ∙ rw (c.unwrap.ensures, c.truncate.ensures.items) at c.push.ensures.items
     in subst (λ (w : List ℕ). IsWord (g.D.Dispatching.shop self.states.dispatcher.now) w) (sym went)
@@ -46,7 +46,7 @@ expand-requires g c =
     in let d = self.states.dispatcher.now
     in let word = self.path.items
     in let hs = self.stack.items
-    in let own = (popped (waiting_in hs) (Child o) c.requires.on).own
+    in let own = (popped (waiting_in hs) (open_child o) c.requires.on).own
     in let went : c.push.new.self.items ≡ word_at word o =
     rw (c.unwrap.ensures, c.truncate.ensures.items) at c.push.ensures.items
     in record {
@@ -80,7 +80,7 @@ returns-clause-turn g c =
     rw (c.unwrap.ensures, c.truncate.ensures.items) at c.push.ensures.items
     in let below : o.bound < self.best = (let a = c.if-child-self.false in omega arith)
     in let t = stage_of c.expand.new.self
-    in on_ok _ (IsTurn (stage_of self) (Child o) t)
+    in on_ok _ (IsTurn (stage_of self) (open_child o) t)
     (λ e. turn_expanded (stage_of self) t o c.requires.on c.requires.some below
     (subst (λ (w : List ℕ). HasExpanded (record {
       shop = self.instance.now;

@@ -1,0 +1,8 @@
+use Rattle.std.proofs.{Common.{◌∙◌, ap, length, map}, lemmas.List.take_all}
+use Rattle.shop_layout.specs.inner.Layings.{place_after}
+use Rattle.shop_layout.proofs.positions.following_of.Goals as goal
+
+pub returns : goal.returns
+returns c = c.loop-s.invariant
+    ∙ ap (map (place_after (length c.args.slots.now) (map (λ v. v.items) c.args.places.now)))
+    (take_all c.loop-s.s-index c.args.slots.now c.loop-s-test.false)
