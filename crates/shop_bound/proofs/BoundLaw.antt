@@ -3,12 +3,11 @@ use Rattle.std.proofs.Common.{◌≡◌, ℕ, zero, suc, ◌+◌, ◌-◌, ◌�
 use Rattle.std.proofs.{Common.{map, drop, get_or, refl, sym, ◌∙◌, ap, arith, eqb}, lemmas.Bool.{cases_lt, eqb-true}}
 use Rattle.std.proofs.{lemmas.List.{drop_more, drop_all}, lemmas.List.Sums.sum_by-cons}
 use Rattle.std.specs.List.{AllByRecursion, filter, flat_map, sum_by, range_with_len}
-use Rattle.shop_model.specs.{declared.ops.Op.Op, Shop.{finish_of, end_of, greatest_below}}
-use Rattle.shop_model.specs.Shop.{Shop, Starts, no_op, route_of, machine_of, time_of, IsOperation, IsFeasible}
-use Rattle.shop_model.specs.Word.{Placing, placing, IsWord, IsFull, IsUnder}
-use Rattle.shop_model.proofs.{Greatest.{greatest_below-le, greatest_below-equal}, WordLemmas.full_is_word}
-use Rattle.shop_model.proofs.{PlacedTables.{full_under, under_beginning}, Ends.le-end_of, Placings.Follows}
-use Rattle.shop_model.proofs.Unders.{follows_word, after_word}
+use Rattle.shop_model.specs.{declared.ops.Op.Op, Shop.{finish_of, end_of, greatest_below, Shop, Starts, no_op}}
+use Rattle.shop_model.specs.{Shop.{route_of, machine_of, time_of, IsOperation, IsFeasible}, Word.{Placing, placing}}
+use Rattle.shop_model.{specs.Word.{IsWord, IsFull, IsUnder}, proofs.Greatest.{greatest_below-le, greatest_below-equal}}
+use Rattle.shop_model.proofs.{WordLemmas.full_is_word, PlacedTables.{full_under, under_beginning}, Ends.le-end_of}
+use Rattle.shop_model.proofs.{Placings.Follows, Unders.{follows_word, after_word}}
 use Rattle.shop_bound.specs.{declared.triples.Triple.Triple, OneMachine.{one, span_of, least_of}, Laws.EndsAtItsBound}
 use Rattle.shop_bound.specs.Bound.{Waiting, waiting_from, waiting_of, waiting, triples_on, lb}
 use Rattle.shop_bound.proofs.Lists.{Pairwise, all_map, all_both, all_append, all_filter, pairwise_filter}

@@ -1,14 +1,13 @@
 -- Heads, as a walk along a route finds them.
 use Rattle.std.proofs.Common.{◌≡◌, ℕ, ◌+◌, ◌*◌, ◌-◌, ◌≤◌, ◌<◌, max, List, length, map, get_or, Option, Some, None, refl}
-use Rattle.std.proofs.{Common.arith, lemmas.Bool.{cases_lt, lt-leb, lt-ltb, le-leb}, lemmas.Bool.Decides.nat_tests}
-use Rattle.std.proofs.lemmas.List.{get_or_past}
-use Rattle.std.proofs.lemmas.List.FromFn.{get_or-map-range_with_len, length-map-range_with_len}
+use Rattle.std.proofs.{Common.arith, lemmas.Bool.{cases_lt, lt-leb, lt-ltb, le-leb, Decides.nat_tests}}
+use Rattle.std.proofs.lemmas.List.{get_or_past, FromFn.{get_or-map-range_with_len, length-map-range_with_len}}
 use Rattle.std.specs.List.{range_with_len}
 use Rattle.shop_model.specs.{declared.ops.Op.Op, Limits.IsWithinLimits, Shop.{Shop, no_op, route_of, time_of}}
 use Rattle.shop_model.specs.{Word.Placing, Placements.{PlacementState, IsPlacement}}
+use Rattle.shop_model.proofs.WordLengths.{word_length, ready_word}
 use Rattle.shop_bound.specs.{Heads.{ready_after, head_of, head_if_left, heads_at}, inner.HeadRows.heads_of}
 use Rattle.shop_bound.specs.inner.PlacedWords.{IsOfWord}
-use Rattle.shop_model.proofs.WordLengths.{word_length, ready_word}
 
 -- the ends of what a word places are small
 pub record AreEndsSmall (shop : Shop) (s : PlacementState) : Type 0 where

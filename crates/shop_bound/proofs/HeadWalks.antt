@@ -1,8 +1,7 @@
 -- The operations that wait, as the walk along the routes lists them, have the heads and the tails of their
 -- definitions.
 use Rattle.std.proofs.Common.{◌≡◌, ℕ, ◌+◌, ◌-◌, ◌≤◌, List, [], ◌∷◌, length, map, drop, refl, arith}
-use Rattle.std.proofs.lemmas.List.{length-drop}
-use Rattle.std.specs.List.{flat_map, range_with_len}
+use Rattle.std.{proofs.lemmas.List.length-drop, specs.List.{flat_map, range_with_len}}
 use Rattle.shop_model.specs.{declared.ops.Op.Op, Shop.{Shop, route_of}, Word.Placing}
 use Rattle.shop_bound.specs.{Bound.{waiting_from, waiting_of, waiting}, Heads.{ready_after, waiting_at, steps_left}}
 use Rattle.shop_bound.proofs.{HeadTurns.{ready_first, ready_more}, BoundLaw.front_of}

@@ -1,7 +1,6 @@
 -- No head falls once one more operation is placed.
 use Rattle.std.proofs.Common.{◌≡◌, ℕ, zero, suc, ◌+◌, ◌-◌, ◌≤◌, refl, ap, arith}
-use Rattle.shop_model.specs.{Shop.{Shop, machine_of}, Word.Placing}
-use Rattle.shop_model.proofs.Placings.{IsNext, steps_grow, free_grows}
+use Rattle.shop_model.{specs.{Shop.{Shop, machine_of}, Word.Placing}, proofs.Placings.{IsNext, steps_grow, free_grows}}
 use Rattle.shop_bound.specs.Heads.{ready_after, head_of}
 use Rattle.shop_bound.proofs.{HeadTurns.{ready_first, ready_more}, HeadsStay.ready_first_same}
 

@@ -1,9 +1,7 @@
 -- Where heads stay as they are once one more operation is placed.
 use Rattle.std.proofs.{Common.{◌≡◌, ℕ, zero, suc, ◌+◌, ◌-◌, ◌≤◌, ◌<◌, ◌⊎◌, refl, ap, arith}, lemmas.Bool.cases_eq}
-use Rattle.shop_model.specs.{Shop.{Shop, machine_of}, Word.Placing}
-use Rattle.shop_model.proofs.Placings.{IsNext, steps_grow}
-use Rattle.shop_bound.specs.Heads.{ready_after, head_of}
-use Rattle.shop_bound.proofs.HeadTurns.{ready_first, ready_more}
+use Rattle.shop_model.{specs.{Shop.{Shop, machine_of}, Word.Placing}, proofs.Placings.{IsNext, steps_grow}}
+use Rattle.shop_bound.{specs.Heads.{ready_after, head_of}, proofs.HeadTurns.{ready_first, ready_more}}
 
 module _ (shop : Shop) (p : Placing) (j : ℕ) (q : Placing) (n : IsNext shop p j q) where
   -- the machine of the operation

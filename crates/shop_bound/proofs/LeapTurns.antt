@@ -1,9 +1,8 @@
 -- The loads of operations with late heads, and what they say of spans.
 use Rattle.std.proofs.Common.{◌≡◌, ℕ, ◌+◌, ◌≤◌, ◌<◌, max, true, false, refl, List, [], ◌∷◌, ◌++◌, arith}
-use Rattle.std.proofs.{lemmas.Bool.{cases_Bool, cases_lt}, lemmas.List.{append-nil, length-append}}
-use Rattle.std.proofs.{lemmas.List.Elements.{filter-append, recursion_from_All}, lemmas.List.Sums.sum_by_push}
-use Rattle.std.proofs.lemmas.List.Sorted.{All-permutation, sum_by-IsPermutation}
-use Rattle.std.specs.{List.{filter, sum_by}, Prelude.IsPermutation}
+use Rattle.std.proofs.lemmas.{Bool.{cases_Bool, cases_lt}, List.{append-nil, length-append, Elements.filter-append}}
+use Rattle.std.proofs.lemmas.List.{Elements.recursion_from_All, Sums.sum_by_push, Sorted.All-permutation}
+use Rattle.std.{proofs.lemmas.List.Sorted.sum_by-IsPermutation, specs.{List.{filter, sum_by}, Prelude.IsPermutation}}
 use Rattle.shop_bound.specs.{declared.triples.Triple.Triple, OneMachine.{greatest_of, one, IsSmall}}
 use Rattle.shop_bound.specs.inner.Thresholds.{is_above, span_above}
 use Rattle.shop_bound.proofs.{Lists.{greatest_of-le, get_or-le-greatest_of}, SameSums.{permuted_sums, same_one}}
@@ -65,14 +64,6 @@ pub all_settled : (ts : List Triple) (from load bound : ℕ)
     → ((head tail : ℕ) → from ≤ head → span_above ts head tail ≤ head + load)
     → greatest_of (λ t. t.head) ts + load ≤ bound → one ts ≤ bound
 all_settled ts from load bound early late all = grind (arith, one-le, cases_lt, get_or-le-greatest_of)
-
--- one leap further
-pub leap : (ts : List Triple) (from load bound next : ℕ)
-    → ((head tail : ℕ) → head < from → span_above ts head tail ≤ bound)
-    → ((head tail : ℕ) → from ≤ head → span_above ts head tail ≤ head + load)
-    → from + load ≤ bound → next + load ≡ bound + 1
-    → (head tail : ℕ) → head < next → span_above ts head tail ≤ bound
-leap ts from load bound next early late can e head tail h = grind (arith, cases_lt)
 
 -- in another order the operations have the same greatest numbers and times
 module _ (xs ys : List Triple) (same : IsPermutation xs ys) where

@@ -1,8 +1,7 @@
 -- One-machine bounds of operations by nonincreasing tails.
 use Rattle.std.proofs.Common.{◌≡◌, ℕ, ◌+◌, ◌^◌, ◌≤◌, ◌<◌, Bool, true, List, [], ◌∷◌, ◌++◌, length, length-append, refl}
 use Rattle.std.proofs.{Common.{sym, ◌∙◌, ap, subst, arith, leb}, lemmas.Bool.{cases_Bool, leb-true, le-leb, and_parts}}
-use Rattle.std.proofs.{lemmas.List.append-nil, lemmas.List.Elements.filter-append}
-use Rattle.std.proofs.lemmas.List.Sums.{sum_by-cons, sum_by_push, sum_by-append}
+use Rattle.std.proofs.lemmas.List.{append-nil, Elements.filter-append, Sums.{sum_by-cons, sum_by_push, sum_by-append}}
 use Rattle.std.specs.List.{AllByRecursion, filter, sum_by}
 use Rattle.shop_bound.specs.{declared.triples.Triple.Triple, OneMachine.{sublists, least_of, span_of, one}}
 use Rattle.shop_bound.specs.inner.Thresholds.{is_above, span_above, head_at, no_triple}

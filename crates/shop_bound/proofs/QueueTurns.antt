@@ -2,11 +2,10 @@
 use Rattle.std.proofs.Common.{rules, ◌≡◌, ◌≢◌, ℕ, zero, suc, ◌+◌, ◌≤◌, ◌<◌, min, inl, inr, true, false, cond, ◌==◌}
 use Rattle.std.proofs.Common.{List, [], ◌∷◌, length, get_or, map, Option, Some, None, refl, sym, ◌∙◌, ap, subst, arith}
 use Rattle.std.proofs.{Common.eq-eqb, Math.ListN.set, lemmas.Bool.{cases_Bool, cases_lt, cases_eq, ne_eqb, true≢false}}
-use Rattle.std.proofs.lemmas.List.{get_or-set_same, get_or-set_other, length-set, length-map}
-use Rattle.std.proofs.{lemmas.List.Elements.{All-cons, All-head, All-tail}, lemmas.List.Sums.sum_by-cons}
-use Rattle.std.proofs.lemmas.List.Sorted.{All-permutation, sum_by-IsPermutation}
-use Rattle.std.specs.{BinaryHeap.{heap_items, heap_len, heap_capacity}, List.All, Prelude.IsPermutation}
-use Rattle.std.specs.Option.{is_some, unwrap_or}
+use Rattle.std.proofs.lemmas.List.{get_or-set_same, get_or-set_other, length-set, length-map, Elements.All-cons}
+use Rattle.std.proofs.lemmas.List.{Elements.{All-head, All-tail}, Sums.sum_by-cons, Sorted.All-permutation}
+use Rattle.std.{proofs.lemmas.List.Sorted.sum_by-IsPermutation, specs.BinaryHeap.{heap_items, heap_len, heap_capacity}}
+use Rattle.std.specs.{List.All, Prelude.IsPermutation, Option.{is_some, unwrap_or}}
 use Rattle.shop_bound.specs.{declared.triples.Triple.Triple, declared.queues.Work.Work, inner.Thresholds.no_triple}
 use Rattle.shop_bound.specs.inner.Serving.{work_at, fresh, undone_of, Waits, IsServed, IsStop, IsReady}
 use Rattle.shop_bound.specs.{inner.HeapOrders.{Coming, Waiting}, inner.Queues.KeepsRoom, declared.queues.Queue.Queue}

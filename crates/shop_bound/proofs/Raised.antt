@@ -1,7 +1,6 @@
 -- Lists of operations whose heads are raised, and from which one is taken.
 use Rattle.std.proofs.Common.{◌≡◌, ℕ, ◌+◌, ◌≤◌, ◌⊎◌, inl, inr, List, [], ◌∷◌, ◌++◌, refl, arith, rules}
-use Rattle.std.proofs.{lemmas.Bool.cases_Bool, lemmas.List.Sums.sum_by-cons}
-use Rattle.std.specs.List.{AllByRecursion, sum_by}
+use Rattle.std.{proofs.lemmas.{Bool.cases_Bool, List.Sums.sum_by-cons}, specs.List.{AllByRecursion, sum_by}}
 use Rattle.shop_bound.specs.{declared.triples.Triple.Triple, Bound.{Waiting, triples_on}}
 use Rattle.shop_bound.specs.OneMachine.{sublists, least_of, span_of, one}
 use Rattle.shop_bound.proofs.Lists.{IsSublist, none, skip, keep, all_map, all_sublist, least_of-le, greatest_of-le}

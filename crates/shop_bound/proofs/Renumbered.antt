@@ -1,10 +1,9 @@
 -- Instances that differ in the numbers of their machines alone have the same words, with the same bounds and conflict
 -- sets.
 use Rattle.std.proofs.Common.{◌≡◌, ℕ, suc, ◌+◌, ◌≤◌, ◌<◌, max, Bool, List, [], ◌∷◌, length, rules, drop, get_or, eqb}
-use Rattle.std.proofs.{Common.{refl, sym, ◌∙◌, ap, arith, eq-eqb, ◌↔◌}, lemmas.Bool.Decides.eqb_tells}
-use Rattle.std.proofs.{lemmas.Bool.{cases_eq, eqb-true, ltb-true, ne_eqb}, lemmas.List.{get_or-drop, length-drop}}
-use Rattle.std.proofs.lemmas.List.Elements.{filter_agree, filter_passes, recursion_from_All}
-use Rattle.std.proofs.lemmas.List.Sums.{sum_by-cons}
+use Rattle.std.proofs.{Common.{refl, sym, ◌∙◌, ap, arith, eq-eqb, ◌↔◌}, lemmas.Bool.{Decides.eqb_tells, cases_eq}}
+use Rattle.std.proofs.lemmas.{Bool.{eqb-true, ltb-true, ne_eqb}, List.{get_or-drop, length-drop, Elements.filter_agree}}
+use Rattle.std.proofs.lemmas.List.{Elements.{filter_passes, recursion_from_All}, Sums.sum_by-cons}
 use Rattle.std.specs.List.{AllByRecursion, AllZip, filter, flat_map, range_with_len, sum_by}
 use Rattle.shop_model.specs.{declared.ops.Op.Op, Limits.IsWithinLimits, Word.{Placing, IsWord, placing, place_next}}
 use Rattle.shop_model.specs.Shop.{Shop, IsOperation, no_op, route_of, machine_of, greatest_below}
@@ -13,9 +12,8 @@ use Rattle.shop_model.proofs.Placings.{IsNext, place_next-is, each_placed}
 use Rattle.shop_model.proofs.Unders.{after_word, next_operation, placing-snoc}
 use Rattle.shop_bound.specs.Bound.{Waiting, waiting_from, waiting_of, waiting, triples_on, placed_end, lb}
 use Rattle.shop_bound.specs.Conflicts.{open_jobs, next_head, chosen_of, conflicts_with, conflict_among, conflict}
-use Rattle.shop_bound.specs.{OneMachine.one, Renumbered.{IsRenumbered, NumbersDontMatter}}
-use Rattle.shop_bound.proofs.{BoundLaw.front_of, Lists.{all_append, all_filter, all_map}}
-use Rattle.shop_bound.proofs.PlacedEnds.{le-placed_end, placed_end-le}
+use Rattle.shop_bound.{specs.{OneMachine.one, Renumbered.{IsRenumbered, NumbersDontMatter}}, proofs.BoundLaw.front_of}
+use Rattle.shop_bound.proofs.{Lists.{all_append, all_filter, all_map}, PlacedEnds.{le-placed_end, placed_end-le}}
 use Rattle.shop_bound.proofs.UnplacedTurns.{first_on, first_off, triples_on-append}
 
 -- lists that agree place by place

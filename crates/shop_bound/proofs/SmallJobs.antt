@@ -1,8 +1,6 @@
 -- Jobs of words are small.
-use Rattle.std.proofs.Common.{ℕ, ◌<◌, List, [], ◌∷◌, ◌++◌, length, arith}
-use Rattle.std.specs.List.{AllByRecursion}
-use Rattle.shop_model.specs.{Limits.IsWithinLimits, Shop.Shop, Word.IsWord}
-use Rattle.shop_model.proofs.WordLemmas.{jobs_below}
+use Rattle.std.{proofs.Common.{ℕ, ◌<◌, List, [], ◌∷◌, ◌++◌, length, arith}, specs.List.AllByRecursion}
+use Rattle.shop_model.{specs.{Limits.IsWithinLimits, Shop.Shop, Word.IsWord}, proofs.WordLemmas.jobs_below}
 
 last_of : (P : ℕ → Type 0) (w : List ℕ) (j : ℕ) → AllByRecursion P (w ++ j ∷ []) → P j
 last_of P [] j all = all.0

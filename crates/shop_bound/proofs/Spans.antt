@@ -1,6 +1,5 @@
 -- The greatest span of a sublist, as a least upper bound.
-use Rattle.std.proofs.Common.{rules, arith, ◌≡◌, ℕ, ◌≤◌, List, [], ◌∷◌, map, refl, ap}
-use Rattle.std.specs.List.{AllByRecursion}
+use Rattle.std.{proofs.Common.{rules, arith, ◌≡◌, ℕ, ◌≤◌, List, [], ◌∷◌, map, refl, ap}, specs.List.AllByRecursion}
 use Rattle.shop_bound.specs.OneMachine.{sublists, greatest_of}
 use Rattle.shop_bound.proofs.Lists.{IsSublist, none, skip, keep, all_append, all_map, greatest_of-le}
 

@@ -1,10 +1,8 @@
 -- The greatest span over the thresholds that occur is the greatest over all sublists.
 use Rattle.std.proofs.Common.{◌≡◌, ℕ, zero, suc, ◌+◌, ◌≤◌, ◌<◌, max, Bool, true, List, [], ◌∷◌, ◌++◌, length, get_or}
-use Rattle.std.proofs.{Common.{take, map, fold, unwrap_or, refl, sym, ◌∙◌, ap, subst, arith}}
-use Rattle.std.proofs.{lemmas.Bool.Decides.eqb_tells}
-use Rattle.std.proofs.{lemmas.Bool.{cases_Bool, leb-true, le-leb, and_from, and_parts}, lemmas.List.take_more}
-use Rattle.std.proofs.lemmas.List.Sums.{sum_by-cons}
-use Rattle.std.specs.List.{AllByRecursion, filter, reduce, sum_by}
+use Rattle.std.proofs.Common.{take, map, fold, unwrap_or, refl, sym, ◌∙◌, ap, subst, arith}
+use Rattle.std.proofs.lemmas.Bool.{Decides.eqb_tells, cases_Bool, leb-true, le-leb, and_from, and_parts}
+use Rattle.std.{proofs.lemmas.List.{take_more, Sums.sum_by-cons}, specs.List.{AllByRecursion, filter, reduce, sum_by}}
 use Rattle.shop_bound.specs.declared.triples.Triple.{Triple}
 use Rattle.shop_bound.specs.OneMachine.{sublists, greatest_of, least_of, span_of, one, extent}
 use Rattle.shop_bound.specs.inner.Thresholds.{is_above, span_above, head_at, tail_at, no_triple, greatest_span_of}

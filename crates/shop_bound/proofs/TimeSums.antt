@@ -1,7 +1,6 @@
 -- Sums of the times of routes.
 use Rattle.std.proofs.Common.{◌≡◌, ℕ, suc, ◌+◌, ◌*◌, ◌≤◌, ◌<◌, List, [], ◌∷◌, length, drop, get_or, ◌∙◌, ap, arith}
-use Rattle.std.proofs.{lemmas.List.drop_more, lemmas.List.Sums.sum_by-cons}
-use Rattle.std.specs.List.{sum_by}
+use Rattle.std.{proofs.lemmas.List.{drop_more, Sums.sum_by-cons}, specs.List.sum_by}
 use Rattle.shop_model.specs.{declared.ops.Op.Op, Limits.IsWithinLimits, Shop.{Shop, no_op, route_of}}
 use Rattle.shop_bound.specs.Heads.{tail_in, AreTimesSmall}
 

@@ -1,9 +1,8 @@
 -- How many turns are left, and how many works are not done.
 use Rattle.std.proofs.Common.{◌≡◌, ℕ, zero, suc, ◌+◌, ◌≤◌, ◌<◌, true, false, List, [], ◌∷◌, length, refl, arith}
 use Rattle.std.proofs.{Math.ListN.set, lemmas.Bool.Decides.nat_tests, lemmas.List.Sums.{sum_by-cons, sum_by-set}}
-use Rattle.shop_bound.specs.declared.queues.Work.{Work}
-use Rattle.shop_bound.specs.inner.Serving.{no_work, work_at, IsReady, turns_of, turns_left, undone_of, undone}
-use Rattle.shop_bound.proofs.WorkSums.{IsFresh}
+use Rattle.shop_bound.specs.{declared.queues.Work.Work, inner.Serving.{no_work, work_at, IsReady, turns_of, turns_left}}
+use Rattle.shop_bound.{specs.inner.Serving.{undone_of, undone}, proofs.WorkSums.IsFresh}
 
 -- the turns left
 turn_of-le : (a b : ℕ) (w : Work) → a ≤ b → turns_of b w ≤ turns_of a w

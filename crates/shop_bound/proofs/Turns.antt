@@ -1,19 +1,17 @@
 -- What a turn of Jackson's schedule keeps, and why the schedule ends at the one-machine bound.
 use Rattle.std.proofs.Common.{◌≡◌, ◌≢◌, ℕ, ◌+◌, ◌-◌, ◌^◌, ◌≤◌, ◌<◌, max, ◌⊎◌, inl, inr, Bool, true, false, cond, List}
-use Rattle.std.proofs.{Common.{length, refl, sym, ◌∙◌, ap, subst, arith}, Math.ListN.set}
-use Rattle.std.proofs.lemmas.Bool.{cases_Bool, cases_lt, cases_eq, true≢false}
-use Rattle.std.proofs.lemmas.List.{get_or-set_same, get_or-set_other, length-set}
-use Rattle.std.specs.List.{filter, sum_by}
-use Rattle.shop_bound.specs.{declared.triples.Triple.Triple, declared.queues.Work.Work}
-use Rattle.shop_bound.specs.{OneMachine.{one, greatest_of, IsSmall}, inner.Thresholds.{is_above, span_above}}
-use Rattle.shop_bound.specs.inner.Serving.{no_work, work_at, triples_of, Waits, fresh, IsServed, IsStop}
-use Rattle.shop_bound.specs.inner.Serving.{IsRelease, IsReady, worked, IsBusy, IsRun, turns_left, undone}
-use Rattle.shop_bound.proofs.{Lists.get_or-le-greatest_of, WorkSums.{IsFresh, span_above-parts, worked-none}}
-use Rattle.shop_bound.proofs.ThresholdLemmas.{one-le, span_above-some, span_above-le, is_above-from, is_above-true}
-use Rattle.shop_bound.proofs.ThresholdLemmas.{sublist_sum, sublist_filter, greatest_of-map}
-use Rattle.shop_bound.proofs.WorkSums.{none_above}
-use Rattle.shop_bound.proofs.WorkSums.{triple_at, triples-set, set_all, worked-set, some_above, worked-le, worked-all}
-use Rattle.shop_bound.proofs.TurnCounts.{turns_left-le, turns_left-release, turns_left-same, turns_left-done}
+use Rattle.std.proofs.{Common.{length, refl, sym, ◌∙◌, ap, subst, arith}, Math.ListN.set, lemmas.Bool.cases_Bool}
+use Rattle.std.proofs.lemmas.{Bool.{cases_lt, cases_eq, true≢false}, List.{get_or-set_same, get_or-set_other}}
+use Rattle.std.{proofs.lemmas.List.length-set, specs.List.{filter, sum_by}}
+use Rattle.shop_bound.specs.{declared.{triples.Triple.Triple, queues.Work.Work}, OneMachine.{one, greatest_of, IsSmall}}
+use Rattle.shop_bound.specs.inner.{Thresholds.{is_above, span_above}, Serving.{no_work, work_at, triples_of, Waits}}
+use Rattle.shop_bound.specs.inner.Serving.{fresh, IsServed, IsStop, IsRelease, IsReady, worked, IsBusy, IsRun}
+use Rattle.shop_bound.{specs.inner.Serving.{turns_left, undone}, proofs.{Lists.get_or-le-greatest_of, WorkSums.IsFresh}}
+use Rattle.shop_bound.proofs.WorkSums.{span_above-parts, worked-none, none_above, triple_at, triples-set, set_all}
+use Rattle.shop_bound.proofs.{WorkSums.{worked-set, some_above, worked-le, worked-all}, ThresholdLemmas.one-le}
+use Rattle.shop_bound.proofs.ThresholdLemmas.{span_above-some, span_above-le, is_above-from, is_above-true, sublist_sum}
+use Rattle.shop_bound.proofs.{ThresholdLemmas.{sublist_filter, greatest_of-map}, TurnCounts.turns_left-le}
+use Rattle.shop_bound.proofs.TurnCounts.{turns_left-release, turns_left-same, turns_left-done}
 
 -- An operation that is served until the clock and d more: v is what becomes of it.
 pub record IsServing (ws : List Work) (clock i d : ℕ) (v : Work) : Type 0 where

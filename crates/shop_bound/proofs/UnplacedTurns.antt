@@ -5,12 +5,10 @@ use Rattle.std.proofs.{lemmas.Bool.{cases_eq, ne_eqb}, lemmas.List.Elements.filt
 use Rattle.std.proofs.lemmas.List.{append-nil, take_all, drop_more, get_or-drop, length-drop, map-append}
 use Rattle.std.specs.List.{flat_map, range_with_len, sum_by}
 use Rattle.shop_model.specs.{declared.ops.Op.Op, Limits.IsWithinLimits, Shop.{Shop, no_op, route_of}, Word.Placing}
-use Rattle.shop_model.specs.Placements.{PlacementState, IsPlacement}
-use Rattle.shop_model.proofs.Unders.{after_word}
+use Rattle.shop_model.{specs.Placements.{PlacementState, IsPlacement}, proofs.Unders.after_word}
 use Rattle.shop_bound.specs.{declared.triples.Triple.Triple, Bound.{Waiting, waiting_from, waiting_of, triples_on}}
-use Rattle.shop_bound.specs.{Heads.{tail_in, AreTimesSmall}, inner.PlacedWords.IsOfWord}
-use Rattle.shop_bound.specs.inner.Unplaced.{unplaced_from, CanGoOn}
-use Rattle.shop_bound.proofs.{HeadTurns.ends_of_word, TimeSums.sum_by-le-each}
+use Rattle.shop_bound.specs.{Heads.{tail_in, AreTimesSmall}, inner.{PlacedWords.IsOfWord, Unplaced.unplaced_from}}
+use Rattle.shop_bound.{specs.inner.Unplaced.CanGoOn, proofs.{HeadTurns.ends_of_word, TimeSums.sum_by-le-each}}
 
 -- the first of a route, where it is on the machine and where it isn't
 pub first_on : (m : ℕ) (free : ℕ → ℕ) (j k ready : ℕ) (o : Op) (os : List Op) (head : ℕ)

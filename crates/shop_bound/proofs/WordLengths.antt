@@ -1,9 +1,7 @@
 -- A word has no more entries than the instance has operations.
 use Rattle.std.proofs.Common.{◌≡◌, ℕ, zero, suc, ◌+◌, ◌≤◌, ◌<◌, List, [], ◌∷◌, ◌++◌, length, refl, arith, eqb, ltb}
-use Rattle.std.proofs.{Common.{cond, add-one}, lemmas.Bool.Decides.nat_tests, lemmas.List.length_push}
-use Rattle.std.proofs.lemmas.List.Sums.{sum_by-cons}
-use Rattle.shop_model.specs.{Shop.{Shop, operation_count}, Word.{count_of, IsWord}}
-use Rattle.shop_model.proofs.Ends.{IsOperation-job}
+use Rattle.std.proofs.{Common.{cond, add-one}, lemmas.{Bool.Decides.nat_tests, List.{length_push, Sums.sum_by-cons}}}
+use Rattle.shop_model.{specs.{Shop.{Shop, operation_count}, Word.{count_of, IsWord}}, proofs.Ends.IsOperation-job}
 use Rattle.shop_bound.proofs.Routes.{operations_before, before_more, before_at_most}
 
 -- how many entries are below n

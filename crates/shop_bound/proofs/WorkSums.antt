@@ -1,12 +1,10 @@
 -- The time spent on works, as they change.
 use Rattle.std.proofs.Common.{◌≡◌, ℕ, zero, suc, ◌+◌, ◌≤◌, ◌<◌, Bool, true, false, cond, List, [], ◌∷◌, length, map}
-use Rattle.std.proofs.{Common.{refl, ap, arith}, Math.ListN.set, Math.Seq.map-set_same}
-use Rattle.std.proofs.{lemmas.Bool.{cases_lt, cases_eq}, lemmas.List.{get_or-set_same, get_or-set_other, length-set}}
-use Rattle.std.proofs.lemmas.List.Sums.{sum_by-cons, sum_by-set}
+use Rattle.std.proofs.{Common.{refl, ap, arith}, Math.{ListN.set, Seq.map-set_same}, lemmas.Bool.{cases_lt, cases_eq}}
+use Rattle.std.proofs.lemmas.List.{get_or-set_same, get_or-set_other, length-set, Sums.{sum_by-cons, sum_by-set}}
 use Rattle.std.specs.List.{filter, sum_by}
-use Rattle.shop_bound.specs.{declared.triples.Triple.Triple, declared.queues.Work.Work}
-use Rattle.shop_bound.specs.inner.Thresholds.{is_above, span_above}
-use Rattle.shop_bound.specs.inner.Serving.{no_work, work_at, triples_of, fresh, worked, undone}
+use Rattle.shop_bound.specs.{declared.{triples.Triple.Triple, queues.Work.Work}, inner.Thresholds.is_above}
+use Rattle.shop_bound.specs.inner.{Thresholds.span_above, Serving.{no_work, work_at, triples_of, fresh, worked, undone}}
 use Rattle.shop_bound.proofs.ThresholdLemmas.{span_above-some}
 
 -- one operation changed

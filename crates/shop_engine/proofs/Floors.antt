@@ -12,8 +12,7 @@ use Rattle.shop_bound.specs.{OneMachine.{span_of, one}, declared.triples.Triple.
 use Rattle.shop_bound.proofs.{BoundsRise.bounds_rise, ThresholdLemmas.{le-greatest_sublist, le-least_of}}
 use Rattle.shop_bound.proofs.Lists.{IsSublist, none, skip, keep, all_append, all_filter, all_map}
 use Rattle.shop_nodes.proofs.Members.{In, in_map, in_filter, in_flat_map, in_range}
-use Rattle.shop_runs.specs.{Round.{Planned, opening}, Answers.{answer, bound_of}}
-use Rattle.shop_runs.proofs.Covering.{opens_covering}
+use Rattle.shop_runs.{specs.{Round.{Planned, opening}, Answers.{answer, bound_of}}, proofs.Covering.opens_covering}
 use Rattle.shop_engine.proofs.{WalksAbove.IsAbove, LaterBounds.{least_above, rounds_above}}
 use Rattle.shop_engine.specs.Floors.{times_of, work_in, work_of, AreLeastOn, BoundsReachTheFloor}
 

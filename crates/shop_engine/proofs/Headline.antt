@@ -1,7 +1,6 @@
 -- What was read, made and written is a transfer, also where the bytes of source and sink are known.
 use Rattle.std.proofs.Common.{◌≡◌, ℕ, List, ◌++◌, Option, Some, None, Result, Ok, Err, OnOk, IfErr, rules, arith}
-use Rattle.std.proofs.lemmas.Grind.{common_steps}
-use Rattle.std.specs.Io.KnownBytes.{Consumes, Appends, IsAtEnd}
+use Rattle.std.{proofs.lemmas.Grind.common_steps, specs.Io.KnownBytes.{Consumes, Appends, IsAtEnd}}
 use Rattle.shop_text.specs.declared.faults.ReadFault.{ReadFault}
 use Rattle.shop_engine.specs.{declared.faults.Fault.Fault, Headline.WhereKnown}
 use Rattle.shop_engine.specs.Devices.{Device, IsReadToEnd, IsWritten, IsUnwritten, Passes, IsTransfer}

@@ -1,20 +1,16 @@
 -- A round lowers no bound.
 use Rattle.std.proofs.Common.{◌≡◌, ℕ, zero, suc, ◌-◌, ◌≤◌, min, Option, Some, None, List, [], ◌∷◌, ◌++◌, map, sym, ap}
-use Rattle.std.proofs.{Common.{arith, ltb}, lemmas.List.append-nil}
-use Rattle.std.specs.List.{AllByRecursion, flat_map}
+use Rattle.std.{proofs.{Common.{arith, ltb}, lemmas.List.append-nil}, specs.List.{AllByRecursion, flat_map}}
 use Rattle.shop_model.specs.{Shop.Shop, Limits.IsWithinLimits, Word.placed}
-use Rattle.shop_bound.specs.Bound.{lb}
-use Rattle.shop_bound.proofs.{BoundLaw.full_word, Lists.{all_append, all_filter}}
-use Rattle.shop_nodes.specs.Walking.{Walk}
-use Rattle.shop_nodes.proofs.Members.{all_contains}
+use Rattle.shop_bound.{specs.Bound.lb, proofs.{BoundLaw.full_word, Lists.{all_append, all_filter}}}
+use Rattle.shop_nodes.{specs.Walking.Walk, proofs.Members.all_contains}
 use Rattle.shop_runs.specs.Round.{Planned, Stand, Told, least_bound, sheet_in, sheets_of, up_to_hit, best_word}
 use Rattle.shop_runs.specs.{Round.{words_of_round, after_round, cut_of, round, opening, makespan_of}, Exact.with_rounds}
 use Rattle.shop_runs.specs.Answers.{unless_closed, rounds_from, answer, bound_of}
 use Rattle.shop_runs.specs.Laws.{IsStanding, IsRound, StandsCovering}
 use Rattle.shop_runs.proofs.{Covering.{cut_is_round, round_covers, opens_covering}, Trusting.{rounds_cover, trust}}
 use Rattle.shop_runs.proofs.{Cutting.{all_front, all_back, all_pieces}, Ending.goes_on_from, FrontLemmas.least_order}
-use Rattle.shop_engine.proofs.WalksAbove.{IsAbove, sheet_above}
-use Rattle.shop_engine.specs.AnswerLaws.{MoreRoundsLowerNoBound}
+use Rattle.shop_engine.{proofs.WalksAbove.{IsAbove, sheet_above}, specs.AnswerLaws.MoreRoundsLowerNoBound}
 
 module _ (shop : Shop) (limits : IsWithinLimits shop) (b : ℕ) where
   pub least_above : (c : ℕ) (ws : List (List ℕ)) → b ≤ c → AllByRecursion (IsAbove shop limits b) ws

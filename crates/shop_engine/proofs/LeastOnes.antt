@@ -2,8 +2,7 @@
 use Rattle.std.proofs.{lemmas.Grind.common_steps, Common.{◌≡◌, ℕ, arith}}
 use Rattle.shop_model.specs.Shop.{Shop, IsLeast}
 use Rattle.shop_runs.specs.{Round.{Planned, makespan_of}, Answers.answer, Exact.with_rounds}
-use Rattle.shop_runs.specs.declared.plans.Order.TheVariants.{Kept}
-use Rattle.shop_runs.proofs.Ending.{searches_end}
+use Rattle.shop_runs.{specs.declared.plans.Order.TheVariants.Kept, proofs.Ending.searches_end}
 use Rattle.shop_engine.specs.Easier.{EachHasOneLeast}
 
 abbrev plan : Planned

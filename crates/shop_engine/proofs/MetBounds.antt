@@ -8,8 +8,7 @@ use Rattle.shop_model.proofs.Ends.{end_of-le}
 use Rattle.shop_text.specs.{Texts.NamedShop, Writing.verdict_text, declared.formats.Format.Format}
 use Rattle.shop_text.proofs.TableRows.{table_within}
 use Rattle.shop_engine.specs.{Checking.{IsVerdictOn, IsCheckOf}, Headline.{IsBound, IsRightOf}}
-use Rattle.shop_engine.specs.AnswerLaws.{MetBoundsAreLeast}
-use Rattle.shop_engine.proofs.{SolvedSchedules.one_asked, TextLimits.asked_within}
+use Rattle.shop_engine.{specs.AnswerLaws.MetBoundsAreLeast, proofs.{SolvedSchedules.one_asked, TextLimits.asked_within}}
 
 -- a table of small starts ends early enough for its end to be printed in full
 end_small : (shop : Shop) (rows : List (List ℕ)) → IsWithinLimits shop → AreStarts rows

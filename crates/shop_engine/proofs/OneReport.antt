@@ -7,8 +7,7 @@ use Rattle.shop_text.specs.Writing.{Reported, text_of, answer_lines, job_line, j
 use Rattle.shop_text.proofs.{PrintedLines.{lines_of_front, are_lines_append}, PrintedJobLines.values_read}
 use Rattle.shop_text.proofs.PrintedJobLines.{AreSmallStarts, jobs_from, job_lines_are_lines, line_is_tokens}
 use Rattle.shop_text.proofs.ReportReading.{answer_is_lines}
-use Rattle.shop_engine.specs.OneReport.{OneReport}
-use Rattle.shop_engine.proofs.Reported.{same_report, chart_of}
+use Rattle.shop_engine.{specs.OneReport.OneReport, proofs.Reported.{same_report, chart_of}}
 
 same_row : (j : ℕ) (row other : List ℕ) → AreSmallStarts row → AreSmallStarts other
     → join_with_byte 32 (job_line j row) ≡ join_with_byte 32 (job_line j other) → row ≡ other

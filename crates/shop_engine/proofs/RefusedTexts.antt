@@ -4,8 +4,7 @@ use Rattle.std.proofs.{Common.{refl, sym, ◌∙◌, subst, rules, arith}, lemma
 use Rattle.std.specs.Io.KnownBytes.{Consumes}
 use Rattle.shop_model.specs.Shop.{Shop}
 use Rattle.shop_text.specs.{Formats.grammar_of, Texts.{NamedShop, IsTextFault}, Names.first_named}
-use Rattle.shop_text.specs.{declared.faults.ReadFault.ReadFault, declared.faults.ReadFault.TheVariants.TooLong}
-use Rattle.shop_text.specs.declared.formats.Format.{Format}
+use Rattle.shop_text.specs.declared.{faults.ReadFault.{ReadFault, TheVariants.TooLong}, formats.Format.Format}
 use Rattle.shop_text.proofs.ReaderTurns.{one_reading}
 use Rattle.shop_engine.specs.{declared.args.CheckArgs.CheckArgs, declared.args.SolveArgs.SolveArgs, Listing.IsListOf}
 use Rattle.shop_engine.specs.{declared.faults.Fault.Fault, Devices.{Device, IsReadToEnd, IsSourceRefused, Passes}}

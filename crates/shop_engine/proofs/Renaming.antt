@@ -1,9 +1,8 @@
 -- Machines under other names, and jobs in another order.
-use Rattle.std.proofs.{lemmas.Grind.common_steps, Common.{sym, ap, ◌∙◌, arith}, lemmas.Bool.{cases_eq, eq-eqb, ne_eqb}}
-use Rattle.std.proofs.Common.{◌≡◌, ℕ, zero, suc, ◌<◌, cond, eqb, inl, inr, List, [], ◌∷◌, length, get_or, map, refl}
-use Rattle.std.proofs.{lemmas.List.length-map, lemmas.List.Edits.swapped_from_swap}
-use Rattle.std.proofs.lemmas.List.Sorted.{IsPermutation-keeps, IsPermutation-sym}
-use Rattle.std.specs.{List.swap, List.Sorted.IsPermutation}
+use Rattle.std.proofs.{lemmas.Grind.common_steps, Common.{sym, ap, ◌∙◌, arith, ◌≡◌, ℕ, zero, suc, ◌<◌, cond, eqb, inl}}
+use Rattle.std.proofs.{Common.{inr, List, [], ◌∷◌, length, get_or, map, refl}, lemmas.Bool.{cases_eq, eq-eqb, ne_eqb}}
+use Rattle.std.proofs.lemmas.List.{length-map, Edits.swapped_from_swap, Sorted.{IsPermutation-keeps, IsPermutation-sym}}
+use Rattle.std.specs.List.{swap, Sorted.IsPermutation}
 use Rattle.shop_model.specs.declared.ops.Op.{Op}
 use Rattle.shop_model.specs.Shop.{Shop, ShopJob, no_job, no_op, release_of, route_of, machine_of, time_of, IsOperation}
 use Rattle.shop_engine.specs.{Easier.{AsksNoMore, AskTheSame}, Relaxations.{IsRelaxation, shop_with}}

@@ -1,6 +1,5 @@
 -- What is printed of an answer that can be trusted is right, and is the report of the plan's answer.
-use Rattle.std.proofs.{Common.{arith, ◌≡◌, ℕ, List, [], Bool}, lemmas.Grind.common_steps}
-use Rattle.std.specs.Prelude.{if◌then◌else◌}
+use Rattle.std.{proofs.{Common.{arith, ◌≡◌, ℕ, List, [], Bool}, lemmas.Grind.common_steps}, specs.Prelude.if◌then◌else◌}
 use Rattle.shop_model.specs.Checking.{starts_of}
 use Rattle.shop_text.specs.{Texts.NamedShop, Writing.{Reported, gantt_text, text_with_gantt}}
 use Rattle.shop_runs.specs.{Round.Planned, Answers.answer, Runs.{Says, IsTrusted}, declared.runs.Answer.Answer}

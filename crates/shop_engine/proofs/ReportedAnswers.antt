@@ -7,12 +7,10 @@ use Rattle.shop_model.proofs.{Ends.end_of-le, Unders.after_word, WordLemmas.full
 use Rattle.shop_model.proofs.WordLengths.{word_length, ready_word}
 use Rattle.shop_text.specs.{Formats.is_visible, Lines.lines_of, Texts.NamedShop, Writing.{status_word, report_lines}}
 use Rattle.shop_text.proofs.VisibleNames.{asked_visible}
-use Rattle.shop_runs.specs.{Round.Planned, Runs.planned, Answers.answer}
-use Rattle.shop_runs.proofs.Trusting.{trustworthy}
-use Rattle.shop_engine.specs.{Answers.answer_of, Headline.{IsRight, IsDetermined}}
-use Rattle.shop_engine.specs.AnswerLaws.{TellsTheAnswer, ReportsTellTheAnswer}
-use Rattle.shop_engine.proofs.{OneReport.lines_are, Reported.chart_of, SolvedSchedules.one_asked}
-use Rattle.shop_engine.proofs.TextLimits.{asked_within}
+use Rattle.shop_runs.{specs.{Round.Planned, Runs.planned, Answers.answer}, proofs.Trusting.trustworthy}
+use Rattle.shop_engine.specs.{Answers.answer_of, Headline.{IsRight, IsDetermined}, AnswerLaws.TellsTheAnswer}
+use Rattle.shop_engine.{specs.AnswerLaws.ReportsTellTheAnswer, proofs.{OneReport.lines_are, Reported.chart_of}}
+use Rattle.shop_engine.proofs.{SolvedSchedules.one_asked, TextLimits.asked_within}
 
 -- the table of a full word ends within the limit of starts
 placed_small : (shop : Shop) (w : List ℕ) → IsWithinLimits shop → IsFull shop w

@@ -5,8 +5,7 @@ use Rattle.shop_model.specs.{Checking.{HasShape, starts_of}, declared.checking.V
 use Rattle.shop_model.specs.Shop.{Shop, release_of, IsFeasible, IsLeast}
 use Rattle.shop_model.proofs.{Deciding.{shape_by_test, feasible_by_test}, Rows.{op, job, shop_a}}
 use Rattle.shop_text.specs.{Schedules.IsTable, Writing.{Reported, verdict_text, text_with_gantt}}
-use Rattle.shop_text.specs.declared.formats.Format.TheVariants.{Orlib}
-use Rattle.shop_text.proofs.TableRows.{table_within}
+use Rattle.shop_text.{specs.declared.formats.Format.TheVariants.Orlib, proofs.TableRows.table_within}
 use Rattle.shop_runs.proofs.{Trusting.trustworthy, Rows.plan, CoverRows.least_7}
 use Rattle.shop_engine.specs.{Answers.answer_of, Easier.AskTheSame, Reversing.reversed, Scaling.scaled}
 use Rattle.shop_engine.specs.{Checking.IsCheckOf, Headline.IsRightOf, WholeRun.crossing_text}

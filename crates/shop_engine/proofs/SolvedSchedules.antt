@@ -1,19 +1,16 @@
 -- What `solve` writes, read as a schedule and checked.
-use Rattle.std.proofs.lemmas.Grind.{common_steps}
-use Rattle.std.proofs.Common.{◌≡◌, ℕ, ◌≤◌, inl, inr, Bool, List, length, Option, Some, sym, ap, ◌∙◌, subst, arith}
-use Rattle.std.specs.Prelude.{IsTrue}
+use Rattle.std.proofs.{lemmas.Grind.common_steps, Common.{◌≡◌, ℕ, ◌≤◌, inl, inr, Bool, List, length, Option, Some, sym}}
+use Rattle.std.{proofs.Common.{ap, ◌∙◌, subst, arith}, specs.Prelude.IsTrue}
 use Rattle.shop_model.specs.{Shop.{Shop, Starts, IsFeasible}, Limits.AreStarts, declared.checking.Verdict.Verdict}
 use Rattle.shop_model.specs.Checking.{EndsAt, IsVerdict, IsBefore, IsFirstEarly, IsFirstOverlap}
 use Rattle.shop_model.specs.declared.checking.Verdict.TheVariants.{Feasible, WrongSize, Unreleased, Early, Overlap}
 use Rattle.shop_model.proofs.Ends.{AreDifferent, feasible-in_time}
-use Rattle.shop_text.specs.{Texts.NamedShop, Names.first_named, Schedules.{IsTable, IsTableFault}}
-use Rattle.shop_text.specs.{Writing.{verdict_text, text_with_gantt}, declared.formats.Format.Format}
-use Rattle.shop_text.proofs.{ReaderTurns.one_reading, ReportReading.reports_are_schedules, TableReadings.one_table}
-use Rattle.shop_text.proofs.VisibleNames.{asked_visible}
+use Rattle.shop_text.specs.{Texts.NamedShop, Names.first_named, Schedules.{IsTable, IsTableFault}, Writing.verdict_text}
+use Rattle.shop_text.{specs.{Writing.text_with_gantt, declared.formats.Format.Format}, proofs.ReaderTurns.one_reading}
+use Rattle.shop_text.proofs.{ReportReading.reports_are_schedules, TableReadings.one_table, VisibleNames.asked_visible}
 use Rattle.shop_runs.specs.{Runs.IsTrusted, declared.runs.Answer.Answer}
-use Rattle.shop_engine.specs.{inner.Told.told_by, Asking.IsAsked, Checking.IsVerdictOn}
-use Rattle.shop_engine.specs.SolvedSchedules.{GivesSchedule, PassesCheck}
-use Rattle.shop_engine.proofs.{Reported.chart_of, RefusedTexts.not_had}
+use Rattle.shop_engine.specs.{inner.Told.told_by, Asking.IsAsked, Checking.IsVerdictOn, SolvedSchedules.GivesSchedule}
+use Rattle.shop_engine.{specs.SolvedSchedules.PassesCheck, proofs.{Reported.chart_of, RefusedTexts.not_had}}
 
 -- ---- the table is read back
 

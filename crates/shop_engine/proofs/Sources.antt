@@ -1,7 +1,6 @@
 -- Why no text came of a source.
 use Rattle.std.proofs.Common.{arith, ◌≡◌, ℕ, ◌≤◌, inl, inr, List, length, Result, Ok, Err, sym, subst}
-use Rattle.std.proofs.lemmas.Grind.{common_steps}
-use Rattle.std.specs.Result.{IsErrAnd}
+use Rattle.std.{proofs.lemmas.Grind.common_steps, specs.Result.IsErrAnd}
 use Rattle.shop_text.specs.{Texts.OrNoMemory, declared.faults.ReadFault.ReadFault}
 use Rattle.shop_engine.specs.{declared.faults.Fault.Fault, Faults.fault_of}
 use Rattle.shop_engine.specs.Devices.{Device, IsReadToEnd, IsUnread, IsSourceRefused}

@@ -8,8 +8,7 @@ use Rattle.shop_text.specs.{Grammar.{Row, Entry, Part, entry_rows, IsPart}, Form
 use Rattle.shop_text.specs.Formats.{pairs_of, orlib_job, routes_job, shop_by_rows, taillard_op, taillard_job}
 use Rattle.shop_text.specs.Shapes.{IsSize, ArePairs, IsOrlibRow, IsRoutesRow, IsRowLine, IsPartOfRows, IsRowOf, IsTime}
 use Rattle.shop_text.specs.{Shapes.{IsMachineNumber, IsMatrix, IsTaillardPart}, Texts.{NamedShop, named_from}}
-use Rattle.shop_text.specs.declared.formats.Format.{Format}
-use Rattle.shop_text.specs.declared.formats.Format.TheVariants.{Orlib, Taillard, Routes}
+use Rattle.shop_text.specs.declared.formats.Format.{Format, TheVariants.{Orlib, Taillard, Routes}}
 use Rattle.shop_text.proofs.{ShapeLaw.{orlib_shape, routes_shape}, MatrixShape.taillard_shape, VisibleNames.picked_has}
 use Rattle.shop_engine.specs.{Asking.IsAsked, Limits.TextsKeepTheLimits}
 

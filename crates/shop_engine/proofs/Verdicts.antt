@@ -4,11 +4,10 @@ use Rattle.std.proofs.lemmas.Grind.{common_steps}
 use Rattle.shop_text.specs.{Schedules.IsTableFault, Texts.{NamedShop, OrNoMemory}, declared.faults.ReadFault.ReadFault}
 use Rattle.shop_text.specs.declared.formats.Format.{Format}
 use Rattle.shop_model.specs.Shop.{Shop}
-use Rattle.shop_engine.specs.{declared.args.CheckArgs.CheckArgs, declared.faults.Fault.Fault, Faults.fault_of}
-use Rattle.shop_engine.specs.{Devices.{Device, IsReadToEnd}, Asking.{name_in, IsAsked}}
-use Rattle.shop_engine.specs.Checking.{Second, IsScheduleRead, IsSecondUnread, IsScheduleRefused, IsVerdictOn, Checks}
-use Rattle.shop_engine.specs.Checking.{IsChecking, schedule_in, IsCheckOf, IsCheckFault}
-use Rattle.shop_engine.proofs.Sources.{unread, bad_text}
+use Rattle.shop_engine.specs.{declared.{args.CheckArgs.CheckArgs, faults.Fault.Fault}, Faults.fault_of, Devices.Device}
+use Rattle.shop_engine.specs.{Devices.IsReadToEnd, Asking.{name_in, IsAsked}, Checking.{Second, IsScheduleRead}}
+use Rattle.shop_engine.specs.Checking.{IsSecondUnread, IsScheduleRefused, IsVerdictOn, Checks, IsChecking, schedule_in}
+use Rattle.shop_engine.{specs.Checking.{IsCheckOf, IsCheckFault}, proofs.Sources.{unread, bad_text}}
 
 -- ---- the schedule is refused
 

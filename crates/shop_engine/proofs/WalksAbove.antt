@@ -2,11 +2,9 @@
 use Rattle.std.proofs.Common.{ℕ, zero, suc, ◌≤◌, Bool, true, false, None, List, [], ◌∷◌, ◌++◌, map, arith, leb}
 use Rattle.std.specs.List.{AllByRecursion, fold}
 use Rattle.shop_model.specs.{Shop.Shop, Limits.IsWithinLimits, Word.IsWord}
-use Rattle.shop_bound.specs.Bound.{lb}
-use Rattle.shop_bound.proofs.{BoundsRise.bounds_rise, Lists.all_append}
-use Rattle.shop_nodes.specs.Branching.{conflict, branch}
-use Rattle.shop_nodes.specs.Walking.{Walk, walk, walk_within, operations_left, taking, unless_cut, sheet}
-use Rattle.shop_nodes.proofs.{Found.conflict_words, Members.all_sort}
+use Rattle.shop_bound.{specs.Bound.lb, proofs.{BoundsRise.bounds_rise, Lists.all_append}}
+use Rattle.shop_nodes.specs.{Branching.{conflict, branch}, Walking.{Walk, walk, walk_within, operations_left, taking}}
+use Rattle.shop_nodes.{specs.Walking.{unless_cut, sheet}, proofs.{Found.conflict_words, Members.all_sort}}
 
 module _ (shop : Shop) (limits : IsWithinLimits shop) (b : ℕ) where
   -- a word of a bound of b or more

@@ -1,7 +1,6 @@
 -- The least and the greatest of lanes are the same in any order.
 use Rattle.std.proofs.Common.{◌≡◌, ℕ, zero, suc, ◌*◌, ◌/◌, ◌%◌, ◌<◌, ◌≤◌, List, [], ◌∷◌, length, map, ◌+◌, get_or, min}
-use Rattle.std.proofs.{Common.{◌∙◌, arith}, lemmas.List.length-map}
-use Rattle.std.specs.List.{All}
+use Rattle.std.{proofs.{Common.{◌∙◌, arith}, lemmas.List.length-map}, specs.List.All}
 use Rattle.shop_lanes.specs.{Eights.{ahead_of, later_head}, Folds.least_up_to, Rows.{Lane, lanes, by_columns, lanes_in}}
 use Rattle.shop_lanes.specs.{declared.lane_rows.LaneRows.LaneRows, Spans.greatest_by}
 use Rattle.shop_lanes.proofs.{Columns.{All-by_columns, All-by_places}, LaneLists.length-lanes, RowValues.as_long}

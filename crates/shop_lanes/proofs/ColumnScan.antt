@@ -4,10 +4,9 @@ use Rattle.std.proofs.{Common.{ap, sym, ◌∙◌, arith, take-append-drop}, Mat
 use Rattle.std.proofs.lemmas.List.{drop-drop, drop_all}
 use lib.Lanes.{sum_l}
 use Rattle.shop_lanes.specs.{Eights.{added, AddsFit}, Folds.{greatest, sums_before}, Rows.Lane, Spans.{span, FitsSpan}}
-use Rattle.shop_lanes.specs.inner.Passes.{clock_after, column, eight}
-use Rattle.shop_lanes.proofs.{Extremes.greatest-append, ColumnTurns.{AreColumnsOf, eight_fit, in_eight}}
-use Rattle.shop_lanes.proofs.Loads.{work-append, load-append, work_le, load_le, work_le_load}
-use Rattle.shop_lanes.proofs.SpanParts.{sum_part, greatest_part}
+use Rattle.shop_lanes.{specs.inner.Passes.{clock_after, column, eight}, proofs.Extremes.greatest-append}
+use Rattle.shop_lanes.proofs.{ColumnTurns.{AreColumnsOf, eight_fit, in_eight}, Loads.{work-append, load-append}}
+use Rattle.shop_lanes.proofs.{Loads.{work_le, load_le, work_le_load}, SpanParts.{sum_part, greatest_part}}
 
 pub next_column : (k count : ℕ) → suc k * count ≡ k * count + count
 next_column k count = omega arith

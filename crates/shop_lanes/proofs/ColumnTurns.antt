@@ -5,11 +5,10 @@ use Rattle.std.proofs.{Math.Seq.take-suc, lemmas.List.{get_or-drop, length-drop,
 use lib.Lanes.{zip2}
 use Rattle.shop_lanes.specs.{Eights.{added, waiting, AddsFit}, Rows.{Lane, lanes, by_columns, lanes_in}}
 use Rattle.shop_lanes.specs.{declared.lane_rows.LaneRows.LaneRows, Spans.{span, greatest_by, FitsSpan}}
-use Rattle.shop_lanes.specs.inner.Passes.{clock_after, eight}
-use Rattle.shop_lanes.proofs.{Eights.{on_eight, same_eight}, BlockMasks.length-block, RowValues.as_long}
-use Rattle.shop_lanes.proofs.Columns.{rank_below, length-by_columns, by_columns-at, place_of_rank}
-use Rattle.shop_lanes.proofs.{LaneLists.{lane_at, length-lanes, get_or-lanes}, Loads.{work_more, load_more, work_le}}
-use Rattle.shop_lanes.proofs.SpanParts.{each_greatest, sum_part}
+use Rattle.shop_lanes.{specs.inner.Passes.{clock_after, eight}, proofs.Eights.{on_eight, same_eight}}
+use Rattle.shop_lanes.proofs.{BlockMasks.length-block, RowValues.as_long, Columns.{rank_below, length-by_columns}}
+use Rattle.shop_lanes.proofs.{Columns.{by_columns-at, place_of_rank}, LaneLists.{lane_at, length-lanes, get_or-lanes}}
+use Rattle.shop_lanes.proofs.{Loads.{work_more, load_more, work_le}, SpanParts.{each_greatest, sum_part}}
 
 -- eight numbers as a function of the column
 pub eight_same : (f g : ℕ → ℕ) → ((k : ℕ) → k < 8 → f k ≡ g k) → eight f ≡ eight g

@@ -1,11 +1,10 @@
 -- Blocks read down their columns: which rank stands where.
 use Rattle.std.proofs.Common.{◌≡◌, ℕ, zero, suc, ◌+◌, ◌*◌, ◌/◌, ◌%◌, ◌<◌, ◌≤◌, List, length, take, drop, set, get_or}
-use Rattle.std.proofs.Common.{refl, ap, sym, ◌∙◌, arith, subst, inl, inr, length-set}
-use Rattle.std.proofs.Math.Nat.{mod-lt, div-lt_iff_lt-mul, div-add-mod, suc-mul, mul-le-mul_right}
-use Rattle.std.proofs.{lemmas.Nat.{div-mul-add, mod-mul-add}, lemmas.Bool.cases_lt}
-use Rattle.std.proofs.lemmas.List.{same_lists, get_or-take, get_or-drop, length-append, get_or_append_left}
-use Rattle.std.proofs.lemmas.List.{get_or-append_right, length-take, length-drop, get_or-set_same, get_or-set_other}
-use Rattle.std.specs.List.{All}
+use Rattle.std.proofs.{Common.{refl, ap, sym, ◌∙◌, arith, subst, inl, inr, length-set}, Math.Nat.mod-lt}
+use Rattle.std.proofs.{Math.Nat.{div-lt_iff_lt-mul, div-add-mod, suc-mul, mul-le-mul_right}, lemmas.Nat.div-mul-add}
+use Rattle.std.proofs.lemmas.{Nat.mod-mul-add, Bool.cases_lt, List.{same_lists, get_or-take, get_or-drop}}
+use Rattle.std.proofs.lemmas.List.{length-append, get_or_append_left, get_or-append_right, length-take, length-drop}
+use Rattle.std.{proofs.lemmas.List.{get_or-set_same, get_or-set_other}, specs.List.All}
 use Rattle.shop_lanes.specs.{Rows.{lanes, place_at_rank, first_ranks, by_columns}, inner.OwnSpans.rank_of}
 use Rattle.shop_lanes.proofs.LaneLists.{length-lanes, get_or-lanes}
 

@@ -3,8 +3,7 @@ use Rattle.std.proofs.Common.{◌≡◌, ℕ, zero, suc, ◌+◌, ◌-◌, ◌*�
 use Rattle.std.proofs.Common.{drop, replicate, get_or, refl, ap, sym, ◌∙◌, append-nil, append_assoc, arith}
 use Rattle.std.proofs.lemmas.List.{drop-drop, drop-replicate, drop_at, length-append, length-map, length-replicate}
 use Rattle.std.proofs.lemmas.List.{get_or-replicate, replicate_more, take-map}
-use Rattle.shop_lanes.specs.inner.Passes.{IsPadded}
-use Rattle.shop_lanes.proofs.{Padding.padded_none, RowValues.row_written}
+use Rattle.shop_lanes.{specs.inner.Passes.IsPadded, proofs.{Padding.padded_none, RowValues.row_written}}
 
 take_seen : (n x : ℕ) (rest : List ℕ) → take n (replicate n x ++ rest) ≡ replicate n x
 take_seen zero x rest = refl

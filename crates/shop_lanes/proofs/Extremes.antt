@@ -2,8 +2,7 @@
 use Rattle.std.proofs.Common.{◌≡◌, ℕ, ◌≤◌, min, max, List, [], ◌∷◌, ◌++◌, length, get_or, refl, sym, ◌∙◌, arith}
 use lib.Lanes.{zip2, top}
 use Rattle.shop_lanes.specs.{Eights.moved, declared.blocks.Move.TheVariants.{Halves, Quarters, Neighbours}}
-use Rattle.shop_lanes.specs.Folds.{greatest, least_up_to}
-use Rattle.shop_lanes.proofs.Eights.{on_eight}
+use Rattle.shop_lanes.{specs.Folds.{greatest, least_up_to}, proofs.Eights.on_eight}
 
 pub greatest-append : (xs ys : List ℕ) → greatest (xs ++ ys) ≡ max (greatest xs) (greatest ys)
 greatest-append [] ys = omega arith

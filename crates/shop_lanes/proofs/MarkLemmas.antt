@@ -1,9 +1,8 @@
 -- Bits as positions: the lowest taken out, none left, and the mask of a test.
 use Rattle.std.proofs.Common.{◌≡◌, ℕ, zero, suc, ◌+◌, ◌-◌, ◌/◌, ◌%◌, ◌^◌, ◌<◌, ◌≤◌, Bool, List, [], ◌∷◌, length, map}
 use Rattle.std.proofs.Common.{refl, ap, sym, ◌∙◌, arith, min, ◌↔◌, IsTrue, nat_eq, pow-suc}
-use Rattle.std.proofs.{lemmas.Bool.Decides.nat_tests, lemmas.Bool.cases_eq}
-use Rattle.std.proofs.lemmas.Nat.Bits.{bit_at_and, bit_at-suc, bit_at_lowest, same_from_bits}
-use Rattle.std.specs.{Int.Bits.{bit_and, and_self}, Int.bit_at}
+use Rattle.std.proofs.lemmas.{Bool.{Decides.nat_tests, cases_eq}, Nat.Bits.{bit_at_and, bit_at-suc, bit_at_lowest}}
+use Rattle.std.{proofs.lemmas.Nat.Bits.same_from_bits, specs.Int.{Bits.{bit_and, and_self}, bit_at}}
 use lib.{Count.count_trailing_zeros, Lanes.mask_l}
 use Rattle.shop_lanes.specs.{Marks.marked, SetBits.set_bits}
 

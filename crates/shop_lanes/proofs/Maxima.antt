@@ -72,8 +72,15 @@ behind_turned = on_eight (λ v. turned DownFour (turned DownTwo (turned DownOne 
     three : (a b c : ℕ) → max (max a b) (max c 0) ≡ max a (max b (max c 0))
     three a b c = omega arith
 
+    assoc : (a b c : ℕ) → max (max a b) c ≡ max a (max b c)
+    assoc a b c = omega arith
+
+    bare : (a : ℕ) → a ≡ max 0 a
+    bare a = omega arith
+
     fours : (a b c d p : ℕ) → max (max (max a b) (max c d)) p ≡ max 0 (max a (max b (max c (max d p))))
-    fours a b c d p = grind arith
+    fours a b c d p =
+        assoc (max a b) (max c d) p ∙ (assoc a b (max (max c d) p) ∙ ap (λ q. max a (max b q)) (assoc c d p)) ∙ bare _
 
 -- the turns one by one
 pub turns_are : (one two four : Move) (v ones beside pairs beside' fours beside'' all : List ℕ)

@@ -5,11 +5,10 @@ use Rattle.std.proofs.{Math.Seq.{drop-cons, take-add}, lemmas.Bool.cases_lt}
 use Rattle.std.proofs.lemmas.Simd.{get_or-zip2, length-zip2, length-put_chunk, get_or-put_chunk_below}
 use Rattle.std.proofs.lemmas.Simd.{get_or-put_chunk_at, get_or-put_chunk_above}
 use lib.Lanes.{zip2, put_chunk}
-use Rattle.shop_lanes.specs.{Eights.{added, lessened, waiting, AddsFit}, Rows.{Lane, lanes, by_columns}}
-use Rattle.shop_lanes.specs.{Spans.{span, FitOwnSpans}, inner.OwnSpans.{rank_of, IsLoadBehind, own_span_at}}
-use Rattle.shop_lanes.specs.inner.Passes.{clock_after, eight}
-use Rattle.shop_lanes.proofs.Columns.{rank_fits, rank_below, rank_of_parts, by_columns-of, by_columns-set}
-use Rattle.shop_lanes.proofs.Columns.{length-by_columns, lanes-by_columns}
+use Rattle.shop_lanes.specs.{Eights.{added, lessened, waiting, AddsFit}, Rows.{Lane, lanes, by_columns}, Spans.span}
+use Rattle.shop_lanes.specs.{Spans.FitOwnSpans, inner.OwnSpans.{rank_of, IsLoadBehind, own_span_at}}
+use Rattle.shop_lanes.{specs.inner.Passes.{clock_after, eight}, proofs.Columns.{rank_fits, rank_below, rank_of_parts}}
+use Rattle.shop_lanes.proofs.Columns.{by_columns-of, by_columns-set, length-by_columns, lanes-by_columns}
 use Rattle.shop_lanes.proofs.ColumnTurns.{AreColumnsOf, IsServedTo, front_of, fronts, part_of, as_eight, eight_same}
 use Rattle.shop_lanes.proofs.ColumnTurns.{in_eight, eight_fit, block_eight, work_next, work_small, tail_small}
 use Rattle.shop_lanes.proofs.{LaneLists.lane_at, Loads.{span_from_start, load-append, work-append, load_le}}

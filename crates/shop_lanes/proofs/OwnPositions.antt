@@ -1,8 +1,7 @@
 -- The own span of one position, from the ends of what stands before it and behind it.
 use Rattle.std.proofs.Common.{◌≡◌, ℕ, zero, suc, ◌+◌, ◌-◌, ◌<◌, ◌≤◌, max, Bool, cond, leb, List, [], ◌∷◌, ◌++◌, length}
 use Rattle.std.proofs.Common.{take, drop, set, get_or, refl, ap, sym, ◌∙◌, arith, subst, take-append-drop, length-set}
-use Rattle.std.proofs.{lemmas.List.Sums.{sum_by-cons, sum_by-append}, lemmas.Bool.Decides.nat_tests}
-use Rattle.std.specs.Prelude.{All}
+use Rattle.std.{proofs.lemmas.{List.Sums.{sum_by-cons, sum_by-append}, Bool.Decides.nat_tests}, specs.Prelude.All}
 use Rattle.shop_lanes.specs.{Rows.{Lane, lanes}, Spans.{span, FitsSpan, FitOwnSpans}, inner.OwnSpans.IsLoadBehind}
 use Rattle.shop_lanes.specs.inner.Passes.{clock_after}
 use Rattle.shop_lanes.proofs.{SpanParts.greatest_by-append, LaneLists.{lane_at, lanes_more, lanes-take, lanes-drop}}

@@ -2,8 +2,7 @@
 use Rattle.std.proofs.Common.{◌≡◌, ℕ, ◌-◌, ◌*◌, ◌/◌, ◌++◌, List, length, map, take, sym, ap, ◌∙◌, arith}
 use Rattle.std.proofs.{lemmas.List.{length-map, take-map, drop-map}, Math.Seq.take-append_seam}
 use Rattle.shop_lanes.specs.Rows.{AreBlocksOf, AreCutFrom, blocks, lanes_in, lanes_of}
-use Rattle.shop_lanes.specs.declared.lane_rows.LaneRows.{LaneRows}
-use Rattle.shop_lanes.proofs.LaneLists.{lanes-blocks, length-blocks}
+use Rattle.shop_lanes.{specs.declared.lane_rows.LaneRows.LaneRows, proofs.LaneLists.{lanes-blocks, length-blocks}}
 
 module _ {A : Type 0} (f : A → ℕ) where
   pub as_long : (xs ys : List A) → length xs ≡ length ys → length (map f xs) ≡ length (map f ys)

@@ -1,6 +1,5 @@
 -- Worked rows: lanes served by hand, and the bits of a number.
-use Rattle.std.specs.Prelude.{◌≡◌, ℕ, List, [], ◌∷◌}
-use Rattle.std.proofs.Common.{refl}
+use Rattle.std.{specs.Prelude.{◌≡◌, ℕ, List, [], ◌∷◌}, proofs.Common.refl}
 use Rattle.shop_lanes.specs.{Rows.{Rows, Lane, lanes_between, place_at_rank, by_columns}, Marks.positions_below}
 use Rattle.shop_lanes.specs.{Spans.{span, spans_between, own_span}, SetBits.set_bits}
 

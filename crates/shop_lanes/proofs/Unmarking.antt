@@ -1,10 +1,9 @@
 -- One position unmarked: in bits, and by the head that is set to 0 there.
 use Rattle.std.proofs.Common.{◌≡◌, ℕ, zero, suc, ◌+◌, ◌/◌, ◌%◌, ◌<◌, Bool, false, inl, inr, List, [], ◌⊎◌, ◌∷◌, length}
-use Rattle.std.proofs.Common.{get_or, set, refl, ap, sym, ◌∙◌, arith}
-use Rattle.std.proofs.{lemmas.Bool.{cases_Bool, cases_eq, cases_lt, eq-eqb, ne_eqb}, lemmas.Grind.get_or-set_at}
-use Rattle.std.proofs.lemmas.List.{get_or-drop, get_or-set_other, get_or-take, get_or_past, length-drop, length-set}
-use Rattle.std.proofs.{lemmas.List.length-take, lemmas.Nat.Bits.{bit_at-suc, bit_at_lowest}}
-use Rattle.std.specs.Int.{bit_at}
+use Rattle.std.proofs.{Common.{get_or, set, refl, ap, sym, ◌∙◌, arith}, lemmas.Bool.{cases_Bool, cases_eq, cases_lt}}
+use Rattle.std.proofs.lemmas.{Bool.{eq-eqb, ne_eqb}, Grind.get_or-set_at, List.{get_or-drop, get_or-set_other}}
+use Rattle.std.proofs.lemmas.List.{get_or-take, get_or_past, length-drop, length-set, length-take}
+use Rattle.std.{proofs.lemmas.Nat.Bits.{bit_at-suc, bit_at_lowest}, specs.Int.bit_at}
 use Rattle.shop_lanes.specs.{Marks.{marked, positions_among, without}, SetBits.set_bits}
 use Rattle.shop_lanes.proofs.MarkLemmas.{set_bits-even, set_bits-odd}
 

@@ -1,16 +1,14 @@
 -- Each step of a job has one slot, and the slots of a machine are at most its operations.
 use Rattle.std.proofs.Common.{◌≡◌, ℕ, zero, suc, ◌+◌, ◌*◌, ◌≤◌, ◌<◌, List, [], ◌∷◌, length, map, rules, get_or, sym}
-use Rattle.std.proofs.{Common.{arith, eqb}, lemmas.List.{length-map, length-append}}
-use Rattle.std.proofs.{lemmas.List.Elements.All-from_recursion, lemmas.List.Sums.{length-filter, count_by-le-length}}
-use Rattle.std.proofs.lemmas.List.Sorted.{length_permutation, IsPermutation-sym}
-use Rattle.std.proofs.lemmas.List.FromFn.{length-range_with_len}
-use Rattle.std.specs.List.{AllByRecursion, filter, flat_map, range_with_len}
+use Rattle.std.proofs.{Common.{arith, eqb}, lemmas.List.{length-map, length-append, Elements.All-from_recursion}}
+use Rattle.std.proofs.lemmas.List.{Sums.{length-filter, count_by-le-length}, Sorted.length_permutation}
+use Rattle.std.{proofs.lemmas.List.{Sorted.IsPermutation-sym, FromFn.length-range_with_len}, specs.List.AllByRecursion}
+use Rattle.std.specs.List.{filter, flat_map, range_with_len}
 use Rattle.shop_model.specs.{Limits.IsWithinLimits, Shop.{Shop, no_op, route_of}}
 use Rattle.shop_model.proofs.SwappedPairs.{AllPairs-permutation}
 use Rattle.shop_layout.specs.{declared.slots.Slot.Slot, Slots.{AreSlotsOf, operations_in, operations_on, slot_at}}
-use Rattle.shop_layout.specs.inner.Layings.{AreApart}
+use Rattle.shop_layout.{specs.inner.Layings.AreApart, proofs.FlatLists.{all_flat, all_mapped, range_within}}
 use Rattle.shop_bound.proofs.Lists.{Pairwise, all_map, pairwise_append, pairwise_filter}
-use Rattle.shop_layout.proofs.FlatLists.{all_flat, all_mapped, range_within}
 
 -- not the same step of a job
 pub record AreOther (s t : Slot) : Type 0 where

@@ -1,14 +1,11 @@
 -- The lists of the machines one after another, each down the columns of its blocks.
 use Rattle.std.proofs.Common.{◌≡◌, ℕ, ◌+◌, ◌-◌, ◌*◌, ◌/◌, ◌%◌, ◌^◌, ◌≤◌, ◌<◌, List, [], ◌∷◌, ◌++◌, length, get_or, sym}
-use Rattle.std.proofs.{Common.{◌∙◌, ap, arith}, lemmas.Bool.cases_eq, lemmas.Grind.div_ceil_times}
-use Rattle.std.proofs.lemmas.List.{get_or_append_left, get_or_default, get_or_past, length-append}
-use Rattle.std.proofs.Math.Seq.{get_or-append_seam}
+use Rattle.std.proofs.{Common.{◌∙◌, ap, arith}, lemmas.{Bool.cases_eq, Grind.div_ceil_times, List.get_or_append_left}}
+use Rattle.std.proofs.{lemmas.List.{get_or_default, get_or_past, length-append}, Math.Seq.get_or-append_seam}
 use Rattle.std.specs.Int.{div_ceil}
-use Rattle.shop_lanes.specs.Rows.{place_at_rank}
-use Rattle.shop_lanes.proofs.Columns.{place_fits, rank_of_place}
-use Rattle.shop_layout.specs.{declared.slots.Slot.Slot, Positions.position_at_rank}
-use Rattle.shop_layout.specs.inner.Layings.{AreAdded, AreCells, AreShorter, no_slot}
-use Rattle.shop_layout.proofs.Ranks.{position_within}
+use Rattle.shop_lanes.{specs.Rows.place_at_rank, proofs.Columns.{place_fits, rank_of_place}}
+use Rattle.shop_layout.specs.{declared.slots.Slot.Slot, Positions.position_at_rank, inner.Layings.{AreAdded, AreCells}}
+use Rattle.shop_layout.{specs.inner.Layings.{AreShorter, no_slot}, proofs.Ranks.position_within}
 
 -- one more list
 pub cells_more : (lists : List (List Slot)) (n : ℕ) (cells : List Slot) (blocks : List ℕ)

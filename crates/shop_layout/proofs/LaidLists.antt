@@ -1,8 +1,7 @@
 -- The lists of the machines, laid out.
 use Rattle.std.proofs.Common.{◌≡◌, ℕ, zero, suc, ◌+◌, ◌-◌, ◌*◌, ◌≤◌, ◌<◌, inl, inr, List, [], length, map, get_or, refl}
-use Rattle.std.proofs.{Common.arith, lemmas.Bool.{cases_eq, cases_lt}}
-use Rattle.std.proofs.lemmas.List.{get_or-map, get_or_past, get_or_default, length-map}
-use Rattle.std.specs.List.{All}
+use Rattle.std.proofs.{Common.arith, lemmas.{Bool.{cases_eq, cases_lt}, List.{get_or-map, get_or_past, get_or_default}}}
+use Rattle.std.{proofs.lemmas.List.length-map, specs.List.All}
 use Rattle.shop_model.specs.{Limits.IsWithinLimits, Shop.Shop}
 use Rattle.shop_layout.specs.{declared.slots.Slot.Slot, Slots.{AreMachineSlots, AreSlotsOf}, inner.Layings.place_after}
 use Rattle.shop_layout.specs.inner.Layings.{AreCells, AreNoted, ArePlaces, AreShorter, HasRoutes, IsInRows, no_slot}

@@ -1,8 +1,7 @@
 -- Times and tails fit into lanes that hold the loads of all machines.
 use Rattle.std.proofs.Common.{◌≡◌, ℕ, ◌+◌, ◌-◌, ◌*◌, ◌≤◌, inl, inr, List, [], length, take, drop, get_or, sym, ◌∙◌, ap}
-use Rattle.std.proofs.Common.{arith}
-use Rattle.std.proofs.lemmas.List.{get_or_default, get_or-take, get_or-drop, length-drop, length-take-le}
-use Rattle.std.specs.List.{All}
+use Rattle.std.proofs.{Common.arith, lemmas.List.{get_or_default, get_or-take, get_or-drop, length-drop}}
+use Rattle.std.{proofs.lemmas.List.length-take-le, specs.List.All}
 use Rattle.shop_model.specs.{Limits.IsWithinLimits, Shop.Shop, Word.IsWord}
 use Rattle.shop_layout.specs.{HeadLimits.FitsLanes, Positions.{LayoutState, place, first_position, IsLaidOut}}
 use Rattle.shop_layout.proofs.{LatestEnds.latest_end_is, LaidPlaces.{place_of, cell_at, machine_at, machines_rise}}

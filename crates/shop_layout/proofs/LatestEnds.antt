@@ -1,14 +1,12 @@
 -- No operation ends later than the latest release and all times together.
 use Rattle.std.proofs.Common.{◌≡◌, ℕ, zero, suc, ◌+◌, ◌-◌, ◌≤◌, ◌<◌, List, length, take, ap, refl, arith}
-use Rattle.std.proofs.{lemmas.Bool.cases_eq, lemmas.List.take_more, lemmas.List.Sums.{sum_by_push, sum_by-take-le}}
-use Rattle.std.specs.List.{sum_by}
+use Rattle.std.{proofs.lemmas.{Bool.cases_eq, List.{take_more, Sums.{sum_by_push, sum_by-take-le}}}, specs.List.sum_by}
 use Rattle.shop_model.specs.{declared.ops.Op.Op, Word.{Placing, IsWord, placing, place_next}}
 use Rattle.shop_model.specs.Shop.{Shop, no_op, route_of, release_of, machine_of, time_of, IsOperation}
 use Rattle.shop_model.proofs.{Ends.IsOperation-job, Greatest.le-greatest_below, Placings.{IsNext, place_next-is}}
 use Rattle.shop_model.proofs.{Unders.{placing-snoc, next_operation, after_word}, WordLemmas.{snoc_induct, IsWord-init}}
-use Rattle.shop_bound.specs.Heads.{head_of, ready_after}
+use Rattle.shop_bound.{specs.Heads.{head_of, ready_after}, proofs.HeadTurns.{ready_first, ready_more}}
 use Rattle.shop_layout.specs.HeadLimits.{total_before, latest_release, latest_end}
-use Rattle.shop_bound.proofs.HeadTurns.{ready_first, ready_more}
 
 -- the times of the first k steps of job i
 abbrev begun : Shop → ℕ → ℕ → ℕ

@@ -1,17 +1,15 @@
 -- The times of a machine, its greatest tail included, stay small.
 use Rattle.std.proofs.Common.{◌≡◌, ℕ, zero, suc, ◌+◌, ◌-◌, ◌*◌, ◌^◌, ◌≤◌, ◌<◌, inl, inr, List, [], ◌∷◌, length, get_or}
-use Rattle.std.proofs.{Common.{ap, arith}, lemmas.Bool.cases_lt, lemmas.List.{get_or-take, get_or-drop, get_or_past}}
-use Rattle.std.proofs.lemmas.List.Sums.{sum_by-cons, sum_by-take-drop}
-use Rattle.std.specs.List.{sum_by}
+use Rattle.std.proofs.{Common.{ap, arith}, lemmas.{Bool.cases_lt, List.{get_or-take, get_or-drop, get_or_past}}}
+use Rattle.std.{proofs.lemmas.List.Sums.{sum_by-cons, sum_by-take-drop}, specs.List.sum_by}
 use Rattle.shop_lanes.specs.Rows.{blocks, by_columns}
 use Rattle.shop_lanes.proofs.{Columns.{by_columns-at, length-by_columns, place_fits}, LaneLists.length-blocks}
 use Rattle.shop_model.specs.{declared.ops.Op.Op, Limits.IsWithinLimits, Shop.{Shop, route_of, time_of}}
-use Rattle.shop_bound.specs.{OneMachine.greatest_of, Heads.tail_in}
+use Rattle.shop_bound.{specs.{OneMachine.greatest_of, Heads.tail_in}, proofs.TimeSums.route_times}
 use Rattle.shop_layout.specs.{HeadLimits.{total_before, load_on}, declared.slots.Slot.Slot}
 use Rattle.shop_layout.specs.Positions.{LayoutState, IsLaidOut, first_position, position_at_rank}
 use Rattle.shop_layout.proofs.{ApartSlots.slots_few, ColumnSums.sum_by_columns, LaidPlaces.machines_rise, Ranks.rank_at}
 use Rattle.shop_layout.proofs.SlotFacts.{slots_are_operations}
-use Rattle.shop_bound.proofs.TimeSums.{route_times}
 
 pub total_small : (shop : Shop) → IsWithinLimits shop → (n : ℕ) → total_before shop n ≤ n * 100000000000
 total_small shop limits zero = omega arith

@@ -1,7 +1,6 @@
 -- Places that are written one after another.
 use Rattle.std.proofs.Common.{◌≡◌, ℕ, ◌+◌, ◌<◌, inl, inr, List, [], length, get_or, set, ◌∙◌, ap, arith}
-use Rattle.std.proofs.lemmas.Bool.{cases_eq}
-use Rattle.std.proofs.lemmas.List.{get_or-set_same, get_or-set_other, length-set, get_or_default}
+use Rattle.std.proofs.lemmas.{Bool.cases_eq, List.{get_or-set_same, get_or-set_other, length-set, get_or_default}}
 use Rattle.std.specs.List.{All}
 use Rattle.shop_lanes.specs.Rows.{place_at_rank}
 use Rattle.shop_layout.specs.{declared.slots.Slot.Slot, inner.Layings.{AreApart, AreNoted, IsInRows, no_slot}}

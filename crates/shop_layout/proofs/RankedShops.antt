@@ -1,7 +1,6 @@
 -- An instance whose machines are called by their ranks differs from it in their numbers alone.
 use Rattle.std.proofs.Common.{◌≡◌, ℕ, zero, suc, ◌≤◌, ◌<◌, List, [], ◌∷◌, length, map, get_or, refl, ◌∙◌, ap, arith}
-use Rattle.std.proofs.{lemmas.Bool.cases_lt, lemmas.List.{drop-map, get_or-map, get_or_past, length-map}}
-use Rattle.std.proofs.lemmas.List.Sums.{sum_by-cons}
+use Rattle.std.proofs.lemmas.{Bool.cases_lt, List.{drop-map, get_or-map, get_or_past, length-map, Sums.sum_by-cons}}
 use Rattle.std.specs.List.{sum_by}
 use Rattle.shop_model.specs.{declared.ops.Op.Op, Limits.IsWithinLimits}
 use Rattle.shop_model.specs.Shop.{Shop, ShopJob, IsOperation, greatest_below, machine_of, no_job, no_op}

@@ -1,6 +1,5 @@
 -- Slots and places of an instance whose machines are called by their ranks.
-use Rattle.std.proofs.Common.{◌≡◌, ℕ, ◌+◌, ◌<◌, List, [], ◌∷◌, ◌++◌, length, map, get_or, set, arith}
-use Rattle.std.specs.List.{All}
+use Rattle.std.{proofs.Common.{◌≡◌, ℕ, ◌+◌, ◌<◌, List, [], ◌∷◌, ◌++◌, length, map, get_or, set, arith}, specs.List.All}
 use Rattle.shop_model.specs.{declared.ops.Op.Op, Shop.{Shop, no_op}}
 use Rattle.shop_bound.specs.Heads.{tail_in}
 use Rattle.shop_layout.specs.{Ranks.{ranked, ranked_op}, Slots.AreSlotsOf, declared.slots.Slot.Slot}

@@ -1,15 +1,13 @@
 -- The legs of all routes, and where those of each route stand among them.
 use Rattle.std.proofs.Common.{◌≡◌, ℕ, ◌+◌, ◌*◌, ◌^◌, ◌≤◌, ◌<◌, List, [], ◌∷◌, ◌++◌, drop, get_or, length, map, take}
-use Rattle.std.proofs.{Common.{sym, ◌∙◌, ap, arith, rules}, lemmas.Bool.cases_lt}
-use Rattle.std.proofs.lemmas.List.{flat_map_more, get_or_append_left, get_or-map, get_or_default, get_or_push}
-use Rattle.std.proofs.lemmas.List.{length-append, length-map, take-append-drop, take_more}
-use Rattle.std.proofs.lemmas.List.Concat.{flat_map-append, get_or-flat_map}
+use Rattle.std.proofs.{Common.{sym, ◌∙◌, ap, arith, rules}, lemmas.{Bool.cases_lt, List.flat_map_more}}
+use Rattle.std.proofs.lemmas.List.{get_or_append_left, get_or-map, get_or_default, get_or_push, length-append}
+use Rattle.std.proofs.lemmas.List.{length-map, take-append-drop, take_more, Concat.{flat_map-append, get_or-flat_map}}
 use Rattle.std.specs.{List.{All, flat_map}, Prelude.Vec, declared.alloc.Global.Global}
 use Rattle.shop_model.specs.{Limits.IsWithinLimits, Shop.{Shop, route_of}}
 use Rattle.shop_layout.specs.{declared.legs.Leg.Leg, Legs.{all_legs, end_of, leg_index, leg_of, route_legs}}
-use Rattle.shop_layout.specs.Positions.{IsLaidOut, LayoutState, place}
-use Rattle.shop_layout.specs.inner.RouteRows.{AreBehind, AreBelow, AreFirsts, IsBehind}
-use Rattle.shop_layout.proofs.LaidPlaces.{place_of}
+use Rattle.shop_layout.specs.{Positions.{IsLaidOut, LayoutState, place}, inner.RouteRows.{AreBehind, AreBelow}}
+use Rattle.shop_layout.{specs.inner.RouteRows.{AreFirsts, IsBehind}, proofs.LaidPlaces.place_of}
 
 module _ (rows : List (Vec ℕ Global)) (j : ℕ) (row : Vec ℕ Global) (places : List ℕ) (here : j < length rows)
     (is : row ≡ get_or rows j row) (read : places ≡ row.items) where

@@ -1,12 +1,10 @@
 -- The operations of one more step of a route.
 use Rattle.std.proofs.Common.{arith, ◌≡◌, ℕ, ◌+◌, List, [], ◌∷◌, ◌++◌, get_or, map, eqb, append_assoc}
-use Rattle.std.proofs.{lemmas.Bool.{eq-eqb, ne_eqb}, lemmas.List.{append-nil, map-append}}
-use Rattle.std.proofs.lemmas.List.Elements.{filter-append}
+use Rattle.std.proofs.lemmas.{Bool.{eq-eqb, ne_eqb}, List.{append-nil, map-append, Elements.filter-append}}
 use Rattle.std.specs.List.{filter, range_with_len}
 use Rattle.shop_model.specs.{declared.ops.Op.Op, Shop.no_op}
 use Rattle.shop_layout.specs.{declared.slots.Slot.Slot, Slots.slot_at}
-use Rattle.shop_bound.specs.Heads.{tail_in}
-use Rattle.shop_bound.proofs.UnplacedTurns.{range_more}
+use Rattle.shop_bound.{specs.Heads.tail_in, proofs.UnplacedTurns.range_more}
 
 -- one more step of a route: it is on the machine
 pub added_in : (route : List Op) (m j k tail : ℕ) (old now new : List Slot)

@@ -1,7 +1,6 @@
 -- A vector after a slice of all of it was written.
-use Rattle.std.proofs.Common.{◌≡◌, ℕ, List, ◌++◌, length, take, drop, arith}
-use Rattle.std.proofs.lemmas.List.{append-nil, drop_all, take_all}
-use Rattle.std.specs.{Prelude.Vec, declared.alloc.Global.Global}
+use Rattle.std.proofs.{Common.{◌≡◌, ℕ, List, ◌++◌, length, take, drop, arith}, lemmas.List.{append-nil, drop_all}}
+use Rattle.std.{proofs.lemmas.List.take_all, specs.{Prelude.Vec, declared.alloc.Global.Global}}
 
 written : {A : Type 0} (n : ℕ) (new old : List A) → length new ≡ n → length old ≡ n
     → take n (new ++ drop (length new) old) ≡ new

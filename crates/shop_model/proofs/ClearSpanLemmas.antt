@@ -1,18 +1,13 @@
 -- Spans that are clear of all others: how a pass finds them, and that their operations are apart.
-use Rattle.std.proofs.Common.{◌≡◌, ℕ, zero, suc, ◌+◌, ◌≤◌, ◌<◌, inl, inr, List, length, get_or, set, sym, ◌∙◌}
-use Rattle.std.proofs.Common.{subst, arith, add-one, true, Result, Ok, Err, Ordering, Equal}
-use Rattle.std.specs.List.{AllPairs, HoldsAt}
-use Rattle.std.specs.List.Sorted.{IsSearchInRange}
-use Rattle.std.specs.Result.{is_ok, IfOk}
-use Rattle.std.specs.Ordering.{nat_cmp, ordering_then}
-use Rattle.std.proofs.lemmas.Bool.{cases_eq, cases_order}
-use Rattle.std.proofs.lemmas.List.{get_or_default, get_or-set_same, get_or-set_other, length-set}
-use Rattle.shop_model.specs.declared.spans.Occupied.{Occupied}
-use Rattle.shop_model.specs.Shop.{Shop}
-use Rattle.shop_model.specs.inner.Spans.{spans_of, IsInTurn}
-use Rattle.shop_model.specs.inner.ClearSpans.{EndsNotAfter, AreInOrder, IsBetween, ArePartedSpans}
-use Rattle.shop_model.specs.inner.ClearSpans.{IsClearOf, AreClearOf, AreOfApart}
-use Rattle.shop_model.proofs.SpanLemmas.{in_turn_parted, parted_both_ways, of_operations}
+use Rattle.std.proofs.Common.{◌≡◌, ℕ, zero, suc, ◌+◌, ◌≤◌, ◌<◌, inl, inr, List, length, get_or, set, sym, ◌∙◌, subst}
+use Rattle.std.proofs.{Common.{arith, add-one, true, Result, Ok, Err, Ordering, Equal}, lemmas.Bool.cases_eq}
+use Rattle.std.proofs.lemmas.{Bool.cases_order, List.{get_or_default, get_or-set_same, get_or-set_other, length-set}}
+use Rattle.std.specs.{List.{AllPairs, HoldsAt, Sorted.IsSearchInRange}, Result.{is_ok, IfOk}, Ordering.nat_cmp}
+use Rattle.std.specs.Ordering.{ordering_then}
+use Rattle.shop_model.specs.{declared.spans.Occupied.Occupied, Shop.Shop, inner.Spans.{spans_of, IsInTurn}}
+use Rattle.shop_model.specs.inner.ClearSpans.{EndsNotAfter, AreInOrder, IsBetween, ArePartedSpans, IsClearOf}
+use Rattle.shop_model.{specs.inner.ClearSpans.{AreClearOf, AreOfApart}, proofs.SpanLemmas.in_turn_parted}
+use Rattle.shop_model.proofs.SpanLemmas.{parted_both_ways, of_operations}
 
 -- k spans have been looked at: of them `count` clear ones stand in front, and `latest` ends last of all
 pub record ClearSoFar (xs ys : List Occupied) (k count : ℕ) (latest : Occupied) : Type 0 where

@@ -1,11 +1,9 @@
 -- The end of a table, and feasible tables by when each operation may begin.
-use Rattle.std.proofs.Common.{◌≡◌, ℕ, zero, suc, ◌≤◌, ◌<◌, ◌⊎◌, length, arith, add-one}
-use Rattle.std.proofs.lemmas.Bool.{cases_eq, cases_lt}
-use Rattle.std.proofs.lemmas.List.{get_or_past}
-use Rattle.shop_model.specs.Shop.{Shop, Starts, route_of, machine_of, IsOperation}
-use Rattle.shop_model.specs.Shop.{IsFeasible, finish_of, end_of, greatest_below}
-use Rattle.shop_model.specs.Checking.{NoneEarly}
-use Rattle.shop_model.proofs.Greatest.{le-greatest_below, greatest_below-le}
+use Rattle.std.proofs.{Common.{◌≡◌, ℕ, zero, suc, ◌≤◌, ◌<◌, ◌⊎◌, length, arith, add-one}, lemmas.Bool.cases_eq}
+use Rattle.std.proofs.lemmas.{Bool.cases_lt, List.get_or_past}
+use Rattle.shop_model.specs.Shop.{Shop, Starts, route_of, machine_of, IsOperation, IsFeasible, finish_of, end_of}
+use Rattle.shop_model.{specs.{Shop.greatest_below, Checking.NoneEarly}, proofs.Greatest.le-greatest_below}
+use Rattle.shop_model.proofs.Greatest.{greatest_below-le}
 
 -- (j, k) and (i, l) are two different places
 abbrev pub AreDifferent : ℕ → ℕ → ℕ → ℕ → Type 0

@@ -1,17 +1,11 @@
 -- Instances that were given as rows, or as jobs.
-use Rattle.std.proofs.Common.{rules}
-use Rattle.std.proofs.Common.{◌≡◌, ℕ, zero, suc, ◌≤◌, ◌<◌, List, [], ◌∷◌, map, length, slice_index_or, refl, arith}
-use Rattle.std.specs.List.{AllByRecursion}
-use Rattle.std.proofs.lemmas.Bool.{cases_lt}
-use Rattle.std.proofs.lemmas.List.{get_or_past, length-map}
-use Rattle.std.proofs.lemmas.List.Elements.{recursion_from_All}
-use Rattle.shop_model.specs.Limits.{IsWithinLimits, IsRouteWithin, IsJobWithin, AreRowsWithin, AreJobsWithin}
-use Rattle.std.specs.Prelude.{Vec}
+use Rattle.std.proofs.Common.{rules, ◌≡◌, ℕ, zero, suc, ◌≤◌, ◌<◌, List, [], ◌∷◌, map, length, slice_index_or, refl}
+use Rattle.std.proofs.{Common.arith, lemmas.{Bool.cases_lt, List.{get_or_past, length-map}}}
+use Rattle.std.{proofs.lemmas.List.Elements.recursion_from_All, specs.{List.AllByRecursion, Prelude.Vec}}
 use Rattle.std.specs.declared.alloc.Global.{Global}
-use Rattle.shop_model.specs.declared.ops.Op.{Op}
-use Rattle.shop_model.specs.declared.ops.Job.{Job}
-use Rattle.shop_model.specs.Shop.{Shop, ShopJob, no_job, no_op}
-use Rattle.shop_model.specs.Given.{job_of_row, job_as_given, shop_of_rows, shop_of_jobs}
+use Rattle.shop_model.specs.Limits.{IsWithinLimits, IsRouteWithin, IsJobWithin, AreRowsWithin, AreJobsWithin}
+use Rattle.shop_model.specs.{declared.ops.{Op.Op, Job.Job}, Shop.{Shop, ShopJob, no_job, no_op}, Given.job_of_row}
+use Rattle.shop_model.specs.Given.{job_as_given, shop_of_rows, shop_of_jobs}
 
 -- each is released at 0
 pub release_of-rows : (rows : List (Vec Op Global)) (j : ℕ)

@@ -1,6 +1,5 @@
 -- The greatest of the first values of a function.
-use Rattle.std.proofs.Common.{◌≡◌, ℕ, zero, suc, ◌+◌, ◌≤◌, ◌<◌, max, arith, add-one, refl}
-use Rattle.std.proofs.lemmas.Bool.{cases_eq}
+use Rattle.std.proofs.{Common.{◌≡◌, ℕ, zero, suc, ◌+◌, ◌≤◌, ◌<◌, max, arith, add-one, refl}, lemmas.Bool.cases_eq}
 use Rattle.shop_model.specs.Shop.{greatest_below}
 
 -- one more value

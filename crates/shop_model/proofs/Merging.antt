@@ -1,9 +1,7 @@
 -- Two jobs whose steps are in order, gone through together: what ends first is clear of what comes later.
-use Rattle.std.proofs.Common.{◌≡◌, ℕ, zero, suc, ◌+◌, ◌≤◌, ◌<◌, ◌⊎◌, inl, inr, List, length, slice_index}
-use Rattle.std.proofs.Common.{arith, add-one}
-use Rattle.std.proofs.lemmas.Bool.{cases_eq, cases_lt}
-use Rattle.shop_model.specs.declared.ops.Op.{Op}
-use Rattle.shop_model.specs.inner.Steps.{IsClear, KeepsOrder, machine_at, finish_at}
+use Rattle.std.proofs.Common.{◌≡◌, ℕ, zero, suc, ◌+◌, ◌≤◌, ◌<◌, ◌⊎◌, inl, inr, List, length, slice_index, arith}
+use Rattle.std.proofs.{Common.add-one, lemmas.Bool.{cases_eq, cases_lt}}
+use Rattle.shop_model.specs.{declared.ops.Op.Op, inner.Steps.{IsClear, KeepsOrder, machine_at, finish_at}}
 
 -- the steps before k of one job are clear of all, and those before l of the other
 abbrev pub ClearSoFar : List Op → List ℕ → List Op → List ℕ → ℕ → ℕ → Type 0

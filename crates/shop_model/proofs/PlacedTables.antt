@@ -1,17 +1,11 @@
 -- The table that a full word places, and tables that agree on the operations.
-use Rattle.std.proofs.Common.{◌≡◌, ℕ, ◌<◌, List, ◌∷◌, ◌++◌, sym, ◌∙◌, ap, arith, append_assoc}
+use Rattle.std.proofs.{Common.{◌≡◌, ℕ, ◌<◌, List, ◌∷◌, ◌++◌, sym, ◌∙◌, ap, arith, append_assoc}, lemmas.Bool.cases_lt}
+use Rattle.std.proofs.lemmas.List.{get_or_past, FromFn.{length-map-range_with_len, get_or-map-range_with_len}}
 use Rattle.std.specs.List.{range_with_len}
-use Rattle.std.proofs.lemmas.Bool.{cases_lt}
-use Rattle.std.proofs.lemmas.List.{get_or_past}
-use Rattle.std.proofs.lemmas.List.FromFn.{length-map-range_with_len, get_or-map-range_with_len}
-use Rattle.shop_model.specs.Shop.{Shop, Starts, IsOperation, IsFeasible, end_of}
-use Rattle.shop_model.specs.Word.{placing, placed, count_of, IsWord, IsFull, IsUnder, rows_of}
-use Rattle.shop_model.specs.Checking.{HasShape, starts_of}
-use Rattle.shop_model.specs.Placed.{IsPlacedBy}
-use Rattle.shop_model.proofs.Ends.{feasible_from, IsOperation-job}
-use Rattle.shop_model.proofs.Greatest.{greatest_below-equal}
-use Rattle.shop_model.proofs.Unders.{after_word, count_of-cut}
-use Rattle.shop_model.proofs.WordLemmas.{full_is_word}
+use Rattle.shop_model.specs.{Shop.{Shop, Starts, IsOperation, IsFeasible, end_of}, Word.{placing, placed, count_of}}
+use Rattle.shop_model.specs.{Word.{IsWord, IsFull, IsUnder, rows_of}, Checking.{HasShape, starts_of}, Placed.IsPlacedBy}
+use Rattle.shop_model.proofs.{Ends.{feasible_from, IsOperation-job}, Greatest.greatest_below-equal, Unders.after_word}
+use Rattle.shop_model.proofs.{Unders.count_of-cut, WordLemmas.full_is_word}
 
 -- the same starts at all operations
 abbrev pub Agree : Shop → Starts → Starts → Type 0

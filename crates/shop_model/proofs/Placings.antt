@@ -1,11 +1,9 @@
 -- What holds of a placing, and of a table that completes it.
-use Rattle.std.proofs.Common.{◌≡◌, ℕ, ◌+◌, ◌≤◌, ◌<◌, max, ◌⊎◌, inl, inr, refl, rules}
-use Rattle.std.proofs.Common.{sym, ap, subst, arith, add-one, cond, ltb}
-use Rattle.std.proofs.lemmas.Bool.{cases_eq, cases_lt, le-ltb, lt-ltb}
-use Rattle.shop_model.specs.Shop.{Shop, Starts, machine_of, IsOperation, IsFeasible, finish_of, end_of}
-use Rattle.shop_model.proofs.Ends.{AreDifferent, le-end_of, end_of-le, feasible-in_time, feasible_from}
-use Rattle.shop_model.specs.Word.{Placing, place_next}
-use Rattle.shop_model.specs.Checking.{earliest_of, NoneEarly}
+use Rattle.std.proofs.Common.{◌≡◌, ℕ, ◌+◌, ◌≤◌, ◌<◌, max, ◌⊎◌, inl, inr, refl, rules, sym, ap, subst, arith, add-one}
+use Rattle.std.proofs.{Common.{cond, ltb}, lemmas.Bool.{cases_eq, cases_lt, le-ltb, lt-ltb}}
+use Rattle.shop_model.specs.{Shop.{Shop, Starts, machine_of, IsOperation, IsFeasible, finish_of, end_of}, Word.Placing}
+use Rattle.shop_model.{specs.{Word.place_next, Checking.{earliest_of, NoneEarly}}, proofs.Ends.AreDifferent}
+use Rattle.shop_model.proofs.Ends.{le-end_of, end_of-le, feasible-in_time, feasible_from}
 
 -- one more step of job j is placed
 pub record IsNext (shop : Shop) (p : Placing) (j : ℕ) (q : Placing) : Type 0 where

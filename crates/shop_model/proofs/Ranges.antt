@@ -1,8 +1,6 @@
 -- Lists made job by job.
 use Rattle.std.proofs.Common.{◌≡◌, ℕ, zero, suc, ◌+◌, List, [], ◌∷◌, ◌++◌, ◌∙◌, ap, arith, add-one}
-use Rattle.std.specs.List.{range_with_len, flat_map}
-use Rattle.std.proofs.lemmas.List.{append-nil}
-use Rattle.std.proofs.lemmas.List.Concat.{flat_map-append}
+use Rattle.std.{proofs.lemmas.List.{append-nil, Concat.flat_map-append}, specs.List.{range_with_len, flat_map}}
 
 range_suc : (a n j : ℕ) → a + n ≡ j → range_with_len a (suc n) ≡ range_with_len a n ++ j ∷ []
 range_suc a zero j e = let f : a ≡ j = omega arith in ap (λ (x : ℕ). x ∷ []) f

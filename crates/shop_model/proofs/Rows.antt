@@ -1,12 +1,10 @@
 -- Worked rows, computed from the definitions.
 use Rattle.std.proofs.Common.{◌≡◌, ℕ, List, [], ◌∷◌, refl, arith, lit<}
-use Rattle.shop_model.specs.declared.ops.Op.{Op}
-use Rattle.shop_model.specs.declared.ops.OperationId.{OperationId}
-use Rattle.shop_model.specs.declared.checking.Verdict.TheVariants.{Feasible, WrongSize, Unreleased, Early, Overlap}
-use Rattle.shop_model.specs.Shop.{Shop, ShopJob, end_of, IsFeasible}
-use Rattle.shop_model.specs.Word.{placed, rows_of, start_jobs}
-use Rattle.shop_model.specs.Checking.{starts_of, IsVerdict}
-use Rattle.shop_model.proofs.Deciding.{shape_by_test, in_time_by_test, feasible_by_test, first_early_by_test}
+use Rattle.shop_model.specs.declared.{ops.{Op.Op, OperationId.OperationId}, checking.Verdict.TheVariants.Feasible}
+use Rattle.shop_model.specs.{declared.checking.Verdict.TheVariants.{WrongSize, Unreleased, Early, Overlap}, Shop.Shop}
+use Rattle.shop_model.specs.{Shop.{ShopJob, end_of, IsFeasible}, Word.{placed, rows_of, start_jobs}, Checking.starts_of}
+use Rattle.shop_model.{specs.Checking.IsVerdict, proofs.Deciding.{shape_by_test, in_time_by_test, feasible_by_test}}
+use Rattle.shop_model.proofs.Deciding.{first_early_by_test}
 
 abbrev pub op : ℕ → ℕ → Op
 op m p = record { machine = m; time = p }

@@ -1,14 +1,11 @@
 -- In the table of a word each operation begins as soon as it can.
 use Rattle.std.proofs.Common.{◌≡◌, ℕ, ◌≤◌, ◌<◌, max, inl, inr, List, [], ◌∷◌, ◌++◌, refl, ap, arith, cond, eqb}
-use Rattle.std.proofs.lemmas.Bool.{cases_eq}
-use Rattle.std.proofs.lemmas.List.Sums.{sum_by-append}
-use Rattle.shop_model.specs.Shop.{Shop, machine_of, finish_of}
-use Rattle.shop_model.specs.Word.{Placing, place_next, placing, count_of}
-use Rattle.shop_model.specs.Checking.{earliest_of}
-use Rattle.shop_model.specs.Placed.{BeginsAsSoon, AllBeginAsSoon}
-use Rattle.shop_model.proofs.Placings.{IsNext, place_next-is, each_placed, steps_grow, earliest_old}
-use Rattle.shop_model.proofs.Unders.{placing-snoc, count_of-cut}
-use Rattle.shop_model.proofs.WordLemmas.{snoc_induct, count_of-snoc_same, count_of-snoc_other, cut_snoc}
+use Rattle.std.proofs.lemmas.{Bool.cases_eq, List.Sums.sum_by-append}
+use Rattle.shop_model.specs.{Shop.{Shop, machine_of, finish_of}, Word.{Placing, place_next, placing, count_of}}
+use Rattle.shop_model.{specs.{Checking.earliest_of, Placed.{BeginsAsSoon, AllBeginAsSoon}}, proofs.Placings.IsNext}
+use Rattle.shop_model.proofs.{Placings.{place_next-is, each_placed, steps_grow, earliest_old}, Unders.placing-snoc}
+use Rattle.shop_model.proofs.{Unders.count_of-cut, WordLemmas.{snoc_induct, count_of-snoc_same, count_of-snoc_other}}
+use Rattle.shop_model.proofs.WordLemmas.{cut_snoc}
 
 -- what stands once w is placed: a job is ready where its last step ends, a machine is free at its last end, and each
 -- entry began as soon as it could

@@ -1,21 +1,13 @@
 -- The rows of starts that `place` keeps, against the placing that they stand for.
-use Rattle.std.proofs.Common.{◌≡◌, ℕ, ◌+◌, ◌<◌, inl, inr, List, [], ◌∷◌, ◌++◌, length, map}
-use Rattle.std.proofs.Common.{set, slice_index_or, sym, ◌∙◌, ap, arith}
-use Rattle.std.specs.List.{range_with_len}
-use Rattle.std.proofs.lemmas.Bool.{cases_eq, cases_lt}
-use Rattle.std.specs.Prelude.{Vec}
-use Rattle.std.specs.declared.alloc.Global.{Global}
-use Rattle.std.proofs.lemmas.List.{length-map, map-set, length-set, get_or-set_same, get_or-set_other, get_or_past}
-use Rattle.std.proofs.lemmas.List.FromFn.{fill_by_all, length-map-range_with_len, get_or-map-range_with_len}
-use Rattle.std.proofs.lemmas.List.FromFn.{map-range_with_len_more}
-use Rattle.shop_model.specs.Shop.{Shop, route_of, machine_of}
-use Rattle.shop_model.specs.Limits.{IsWithinLimits, AreStarts}
-use Rattle.shop_model.specs.Word.{Placing, place_next, placing, placed, IsWord, IsFull, rows_of}
-use Rattle.shop_model.proofs.Placings.{place_next-is}
-use Rattle.shop_model.proofs.TableLemmas.{rows_at}
-use Rattle.shop_model.proofs.Unders.{after_word}
-use Rattle.shop_model.proofs.WordLemmas.{full_is_word}
-use Rattle.shop_model.proofs.WordLengths.{word_length, ready_word}
+use Rattle.std.proofs.Common.{◌≡◌, ℕ, ◌+◌, ◌<◌, inl, inr, List, [], ◌∷◌, ◌++◌, length, map, set, slice_index_or, sym}
+use Rattle.std.proofs.{Common.{◌∙◌, ap, arith}, lemmas.{Bool.{cases_eq, cases_lt}, List.{length-map, map-set}}}
+use Rattle.std.proofs.lemmas.List.{length-set, get_or-set_same, get_or-set_other, get_or_past, FromFn.fill_by_all}
+use Rattle.std.proofs.lemmas.List.FromFn.{length-map-range_with_len, get_or-map-range_with_len, map-range_with_len_more}
+use Rattle.std.specs.{List.range_with_len, Prelude.Vec, declared.alloc.Global.Global}
+use Rattle.shop_model.specs.{Shop.{Shop, route_of, machine_of}, Limits.{IsWithinLimits, AreStarts}, Word.Placing}
+use Rattle.shop_model.{specs.Word.{place_next, placing, placed, IsWord, IsFull, rows_of}, proofs.Placings.place_next-is}
+use Rattle.shop_model.proofs.{TableLemmas.rows_at, Unders.after_word, WordLemmas.full_is_word, WordLengths.word_length}
+use Rattle.shop_model.proofs.WordLengths.{ready_word}
 
 -- for each job the starts of its placed steps
 pub record HasRows (shop : Shop) (p : Placing) (rows : List (List ℕ)) : Type 0 where

@@ -1,7 +1,6 @@
 -- The start word, job by job.
-use Rattle.std.proofs.Common.{arith, ◌≡◌, ℕ, ◌+◌, ◌≤◌, List, ◌++◌, length, take, replicate}
+use Rattle.std.proofs.{Common.{arith, ◌≡◌, ℕ, ◌+◌, ◌≤◌, List, ◌++◌, length, take, replicate}, lemmas.List.take_all}
 use Rattle.std.specs.List.{range_with_len, flat_map}
-use Rattle.std.proofs.lemmas.List.{take_all}
 use Rattle.shop_model.proofs.Ranges.{flat_map_more_part}
 
 pub start_more : (f : ℕ → List ℕ) (old new : List ℕ) (j len n : ℕ) → old ≡ flat_map f (range_with_len 0 j)

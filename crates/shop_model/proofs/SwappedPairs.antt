@@ -1,10 +1,8 @@
 -- A symmetric relation of all pairs of a list doesn't depend on the list's order.
 use Rattle.std.proofs.Common.{◌≡◌, ℕ, ◌<◌, ◌⊎◌, inl, inr, List, length, set, get_or, refl, sym, ◌∙◌, subst, arith}
-use Rattle.std.specs.List.{AllPairs, swap}
+use Rattle.std.proofs.lemmas.{Bool.{cases_eq, cases_order}, List.{length-set, get_or-set_same, get_or-set_other}}
+use Rattle.std.{proofs.lemmas.List.{get_or_default, Sorted.IsPermutation-keeps}, specs.List.{AllPairs, swap}}
 use Rattle.std.specs.List.Sorted.{IsPermutation}
-use Rattle.std.proofs.lemmas.Bool.{cases_eq, cases_order}
-use Rattle.std.proofs.lemmas.List.{length-set, get_or-set_same, get_or-set_other, get_or_default}
-use Rattle.std.proofs.lemmas.List.Sorted.{IsPermutation-keeps}
 
 module _ {X : Type 0} where
   -- what stands where after a swap

@@ -1,12 +1,8 @@
 -- The rows of a table, seen as lists.
-use Rattle.std.proofs.Common.{◌≡◌, ℕ, zero, suc, ◌+◌, ◌≤◌, ◌<◌, List, [], ◌∷◌, map, length, slice_index_or}
-use Rattle.std.proofs.Common.{refl, arith, All}
-use Rattle.std.specs.Prelude.{Vec}
-use Rattle.std.specs.declared.alloc.Global.{Global}
-use Rattle.std.proofs.lemmas.Bool.{cases_lt, cases_eq}
-use Rattle.std.proofs.lemmas.List.{get_or_past, get_or_default}
-use Rattle.shop_model.specs.Limits.{AreStarts}
-use Rattle.shop_model.specs.declared.limits.TheConstants.{MAX_START}
+use Rattle.std.proofs.Common.{◌≡◌, ℕ, zero, suc, ◌+◌, ◌≤◌, ◌<◌, List, [], ◌∷◌, map, length, slice_index_or, refl, arith}
+use Rattle.std.proofs.{Common.All, lemmas.{Bool.{cases_lt, cases_eq}, List.{get_or_past, get_or_default}}}
+use Rattle.std.specs.{Prelude.Vec, declared.alloc.Global.Global}
+use Rattle.shop_model.specs.{Limits.AreStarts, declared.limits.TheConstants.MAX_START}
 
 pub rows_at : (rows : List (Vec ℕ Global)) (j : ℕ) (d : Vec ℕ Global) → j < length rows
     → slice_index_or (map (λ r. r.items) rows) j [] ≡ (slice_index_or rows j d).items

@@ -1,8 +1,7 @@
 -- Tables under a word, as the word grows.
-use Rattle.std.proofs.Common.{◌≡◌, ℕ, ◌≤◌, ◌<◌, inl, inr, List, [], ◌∷◌, ◌++◌, refl, sym}
-use Rattle.std.proofs.Common.{◌∙◌, ap, subst, arith, append_assoc, cond, eqb}
-use Rattle.std.proofs.lemmas.Bool.{cases_eq, cases_lt}
-use Rattle.std.proofs.lemmas.List.Sums.{fold-append, sum_by-append, sum_by-cons}
+use Rattle.std.proofs.Common.{◌≡◌, ℕ, ◌≤◌, ◌<◌, inl, inr, List, [], ◌∷◌, ◌++◌, refl, sym, ◌∙◌, ap, subst, arith}
+use Rattle.std.proofs.{Common.{append_assoc, cond, eqb}, lemmas.{Bool.{cases_eq, cases_lt}, List.Sums.fold-append}}
+use Rattle.std.proofs.lemmas.List.Sums.{sum_by-append, sum_by-cons}
 use Rattle.shop_model.specs.Shop.{Shop, Starts, machine_of, IsOperation, IsFeasible, finish_of}
 use Rattle.shop_model.specs.Word.{Placing, none_placed, place_next, placing, count_of, IsWord, IsUnder}
 use Rattle.shop_model.proofs.WordLemmas.{snoc_induct, count_of-snoc_same, count_of-snoc_other, cut_snoc, IsWord-init}

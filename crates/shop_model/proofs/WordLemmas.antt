@@ -1,15 +1,11 @@
 -- Words that grow at their end.
-use Rattle.std.proofs.Common.{◌≡◌, ℕ, ◌+◌, ◌≤◌, ◌<◌, ◌⊎◌, inl, inr, List, [], ◌∷◌, ◌++◌, length, refl, sym}
-use Rattle.std.proofs.Common.{◌∙◌, ap, subst, arith, append_assoc, cond, eqb, add-zero, All, Bool}
+use Rattle.std.proofs.Common.{◌≡◌, ℕ, ◌+◌, ◌≤◌, ◌<◌, ◌⊎◌, inl, inr, List, [], ◌∷◌, ◌++◌, length, refl, sym, ◌∙◌, ap}
+use Rattle.std.proofs.Common.{subst, arith, append_assoc, cond, eqb, add-zero, All, Bool}
+use Rattle.std.proofs.lemmas.{List.{Elements.{All-from_recursion, recursion_from_All}, Sums.sum_by_push}, Bool.cases_lt}
+use Rattle.std.proofs.lemmas.{List.{Sums.sum_by-cons, append-nil, get_or_past}, Bool.Decides.eqb_tells}
 use Rattle.std.specs.List.{AllByRecursion}
-use Rattle.std.proofs.lemmas.List.Elements.{All-from_recursion, recursion_from_All}
-use Rattle.std.proofs.lemmas.Bool.{cases_lt}
-use Rattle.shop_model.proofs.Ends.{IsOperation-job}
-use Rattle.std.proofs.lemmas.List.Sums.{sum_by_push, sum_by-cons}
-use Rattle.std.proofs.lemmas.List.{append-nil, get_or_past}
-use Rattle.std.proofs.lemmas.Bool.Decides.{eqb_tells}
-use Rattle.shop_model.specs.Word.{count_of, IsWord, IsFull}
-use Rattle.shop_model.specs.Shop.{Shop, ShopJob, no_job, route_of}
+use Rattle.shop_model.{proofs.Ends.IsOperation-job, specs.{Word.{count_of, IsWord, IsFull}, Shop.{Shop, ShopJob}}}
+use Rattle.shop_model.specs.Shop.{no_job, route_of}
 
 -- a word is built from the empty one, one entry after another
 pub snoc_from : (P : List ℕ → Type 0) → ((w : List ℕ) (j : ℕ) → P w → P (w ++ j ∷ [])) → (v w : List ℕ) → P v

@@ -1,14 +1,9 @@
 -- How long a word of an instance may be, and how late what it places may end.
 use Rattle.std.proofs.Common.{◌≡◌, ℕ, zero, suc, ◌+◌, ◌*◌, ◌≤◌, ◌<◌, List, [], ◌∷◌, length, refl, sym, arith}
-use Rattle.std.specs.List.{AllByRecursion}
-use Rattle.std.proofs.lemmas.Bool.{cases_eq}
-use Rattle.std.proofs.lemmas.List.{length_push}
-use Rattle.shop_model.specs.Shop.{Shop}
-use Rattle.shop_model.specs.Limits.{IsWithinLimits}
-use Rattle.shop_model.specs.Word.{Placing, place_next, placing, count_of, IsWord}
-use Rattle.shop_model.specs.SharedWords.{CanBeShared}
-use Rattle.shop_model.proofs.WordLemmas.{snoc_induct, jobs_below, word_jobs, count_of-head, count_of-head_other}
-use Rattle.shop_model.proofs.Placings.{IsNext, place_next-is}
+use Rattle.std.{proofs.lemmas.{Bool.cases_eq, List.length_push}, specs.List.AllByRecursion}
+use Rattle.shop_model.specs.{Shop.Shop, Limits.IsWithinLimits, Word.{Placing, place_next, placing, count_of, IsWord}}
+use Rattle.shop_model.{specs.SharedWords.CanBeShared, proofs.WordLemmas.{snoc_induct, jobs_below, word_jobs}}
+use Rattle.shop_model.proofs.{WordLemmas.{count_of-head, count_of-head_other}, Placings.{IsNext, place_next-is}}
 use Rattle.shop_model.proofs.Unders.{placing-snoc}
 
 -- the sum of f 0, .. f (n - 1)

@@ -1,25 +1,19 @@
 -- Branching loses no table: for each table under a word that isn't full, some child has one under it that ends no
 -- later.
-use Rattle.std.proofs.Common.{◌≡◌, ℕ, zero, suc, ◌+◌, ◌-◌, ◌≤◌, ◌⊎◌, inl, inr, false, List, [], ◌∷◌, ◌++◌}
-use Rattle.std.proofs.Common.{length, map, refl, sym, ◌∙◌, ap, subst, arith, ltb}
+use Rattle.std.proofs.Common.{◌≡◌, ℕ, zero, suc, ◌+◌, ◌-◌, ◌≤◌, ◌⊎◌, inl, inr, false, List, [], ◌∷◌, ◌++◌, length, map}
+use Rattle.std.proofs.{Common.{refl, sym, ◌∙◌, ap, subst, arith, ltb}, lemmas.{List.length-append, Bool.cases_Bool}}
+use Rattle.std.proofs.lemmas.Bool.{cases_eq, cases_lt, eq-eqb, ltb-true, ltb-false, lt-ltb, true≢false, or_right}
 use Rattle.std.specs.List.{AllByRecursion, filter, range_with_len}
-use Rattle.shop_nodes.specs.Laws.{LosesNoTable}
-use Rattle.std.proofs.lemmas.List.{length-append}
-use Rattle.std.proofs.lemmas.Bool.{cases_Bool, cases_eq, cases_lt, eq-eqb, ltb-true, ltb-false, lt-ltb, true≢false}
-use Rattle.std.proofs.lemmas.Bool.{or_right}
+use Rattle.shop_nodes.specs.{Laws.LosesNoTable, Branching.{open_jobs, next_machine, next_head, next_end, chosen_of}}
+use Rattle.shop_nodes.{specs.Branching.{conflicts_with, conflict_among, conflict, branch}, proofs.FirstOn.IsFirstOn}
+use Rattle.shop_nodes.proofs.{FirstOn.first_on, Members.{In, in_all, in_filter, in_map, in_sort, in_range}}
+use Rattle.shop_nodes.proofs.Members.{best_of-least, contains_in}
 use Rattle.shop_model.specs.Shop.{Shop, Starts, route_of, machine_of, IsOperation, IsFeasible, finish_of, end_of}
-use Rattle.shop_model.proofs.Ends.{AreDifferent, IsOperation-job}
-use Rattle.shop_model.specs.Word.{Placing, placing, count_of, IsWord, IsFull, IsUnder}
-use Rattle.shop_model.proofs.WordLemmas.{count_of-snoc_same, count_of-snoc_other}
+use Rattle.shop_model.{specs.Word.{Placing, placing, count_of, IsWord, IsFull, IsUnder}, proofs.Ends.AreDifferent}
+use Rattle.shop_model.proofs.{Ends.IsOperation-job, WordLemmas.{count_of-snoc_same, count_of-snoc_other}}
 use Rattle.shop_model.proofs.Placings.{IsNext, place_next-is, Follows, follows_next, steps_grow, merged, merged_ends}
 use Rattle.shop_model.proofs.Unders.{AfterWord, after_word, follows_word, merged_under, under-snoc, placing-snoc}
-use Rattle.shop_bound.specs.Bound.{lb}
-use Rattle.shop_bound.proofs.Entries.{IsWord-snoc}
-use Rattle.shop_bound.proofs.Lists.{all_filter}
-use Rattle.shop_nodes.specs.Branching.{open_jobs, next_machine, next_head, next_end, chosen_of, conflicts_with}
-use Rattle.shop_nodes.specs.Branching.{conflict_among, conflict, branch}
-use Rattle.shop_nodes.proofs.FirstOn.{IsFirstOn, first_on}
-use Rattle.shop_nodes.proofs.Members.{In, in_all, in_filter, in_map, in_sort, in_range, best_of-least, contains_in}
+use Rattle.shop_bound.{specs.Bound.lb, proofs.{Entries.IsWord-snoc, Lists.all_filter}}
 
 -- a child of w with a table under it that ends no later
 pub record HasChild (shop : Shop) (w : List ℕ) (js : List ℕ) (starts : Starts) : Type 0 where

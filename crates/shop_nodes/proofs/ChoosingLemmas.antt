@@ -1,15 +1,11 @@
 -- Steps through the jobs with steps left: the choice so far, and the conflict set so far.
 use Rattle.std.proofs.Common.{◌≡◌, ℕ, zero, suc, ◌+◌, ◌≤◌, ◌<◌, Bool, true, false, cond, ◌&&◌, ◌||◌, Some, None, List}
 use Rattle.std.proofs.Common.{[], ◌∷◌, ◌++◌, length, refl, sym, ◌∙◌, ap, subst, arith, eqb, ltb, append-nil}
+use Rattle.std.proofs.lemmas.{Bool.{le-ltb, lt-ltb}, List.{Elements.filter-append, Sums.fold-append}}
 use Rattle.std.specs.List.{filter, range_with_len}
-use Rattle.std.proofs.lemmas.Bool.{le-ltb, lt-ltb}
-use Rattle.std.proofs.lemmas.List.Elements.{filter-append}
-use Rattle.std.proofs.lemmas.List.Sums.{fold-append}
-use Rattle.shop_model.specs.Shop.{Shop, route_of}
-use Rattle.shop_model.specs.Word.{Placing}
-use Rattle.shop_nodes.specs.declared.conflicts.NextOperation.{NextOperation}
-use Rattle.shop_nodes.specs.Branching.{next_end, chosen_of, conflicts_with}
-use Rattle.shop_nodes.specs.inner.Choosing.{IsNext, IsChoice}
+use Rattle.shop_model.specs.{Shop.{Shop, route_of}, Word.Placing}
+use Rattle.shop_nodes.specs.{declared.conflicts.NextOperation.NextOperation, Branching.{next_end, chosen_of}}
+use Rattle.shop_nodes.specs.{Branching.conflicts_with, inner.Choosing.{IsNext, IsChoice}}
 
 -- the jobs below n with steps left, in order
 abbrev pub open_below : Shop → Placing → ℕ → List ℕ

@@ -1,13 +1,8 @@
 -- How many operations a word holds: it is full exactly where it lacks none, and no word is long.
-use Rattle.std.proofs.Common.{◌≡◌, ℕ, zero, suc, ◌+◌, ◌≤◌, ◌<◌, inl, inr, cond, List, [], ◌∷◌, length, get_or}
-use Rattle.std.proofs.Common.{refl, ap, arith, eqb}
-use Rattle.std.specs.List.{sum_by}
-use Rattle.std.proofs.lemmas.Bool.{cases_eq, cases_lt}
-use Rattle.std.proofs.lemmas.Bool.Decides.{eqb_tells}
-use Rattle.std.proofs.lemmas.List.{get_or_past}
-use Rattle.std.proofs.lemmas.List.Sums.{sum_by-cons}
-use Rattle.shop_model.specs.Shop.{Shop, ShopJob, no_job, route_of}
-use Rattle.shop_model.specs.Word.{count_of, IsWord, IsFull}
+use Rattle.std.proofs.Common.{◌≡◌, ℕ, zero, suc, ◌+◌, ◌≤◌, ◌<◌, inl, inr, cond, List, [], ◌∷◌, length, get_or, refl, ap}
+use Rattle.std.proofs.{Common.{arith, eqb}, lemmas.{Bool.{cases_eq, cases_lt, Decides.eqb_tells}, List.get_or_past}}
+use Rattle.std.{proofs.lemmas.List.Sums.sum_by-cons, specs.List.sum_by}
+use Rattle.shop_model.specs.{Shop.{Shop, ShopJob, no_job, route_of}, Word.{count_of, IsWord, IsFull}}
 use Rattle.shop_model.proofs.Ends.{IsOperation-job}
 use Rattle.shop_nodes.specs.Walking.{operations_left}
 

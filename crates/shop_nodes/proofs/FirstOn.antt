@@ -1,16 +1,12 @@
 -- In a table, the first operation of a machine among those that a word leaves.
 use Rattle.std.proofs.Common.{◌≡◌, ℕ, zero, suc, ◌+◌, ◌≤◌, ◌<◌, max, inl, inr, List, [], ◌∷◌, length, drop, refl, sym}
-use Rattle.std.proofs.Common.{◌∙◌, ap, subst, arith, eqb, ltb}
+use Rattle.std.proofs.{Common.{◌∙◌, ap, subst, arith, eqb, ltb}, lemmas.Bool.{cases_eq, eqb-true, eq-eqb}}
 use Rattle.std.specs.List.{AllByRecursion, filter, flat_map, range_with_len, best_of}
-use Rattle.std.proofs.lemmas.Bool.{cases_eq, eqb-true, eq-eqb}
-use Rattle.shop_model.specs.declared.ops.Op.{Op}
-use Rattle.shop_model.specs.Shop.{Shop, Starts, route_of, machine_of, time_of, IsOperation, IsFeasible, finish_of}
-use Rattle.shop_model.proofs.Ends.{AreDifferent, IsOperation-job}
-use Rattle.shop_model.specs.Word.{Placing}
+use Rattle.shop_model.specs.{declared.ops.Op.Op, Shop.{Shop, Starts, route_of, machine_of, time_of, IsOperation}}
+use Rattle.shop_model.{specs.{Shop.{IsFeasible, finish_of}, Word.Placing}, proofs.Ends.{AreDifferent, IsOperation-job}}
 use Rattle.shop_model.proofs.Placings.{Follows}
-use Rattle.shop_bound.specs.Bound.{Waiting, waiting_from, waiting_of, waiting}
-use Rattle.shop_bound.proofs.Lists.{all_map, all_append, all_filter, all_both}
-use Rattle.shop_bound.proofs.BoundLaw.{Fits, waiting-fits, from_step, front_of}
+use Rattle.shop_bound.{specs.Bound.{Waiting, waiting_from, waiting_of, waiting}, proofs.Lists.{all_map, all_append}}
+use Rattle.shop_bound.proofs.{Lists.{all_filter, all_both}, BoundLaw.{Fits, waiting-fits, from_step, front_of}}
 use Rattle.shop_nodes.proofs.Members.{In, in_all, in_filter, in_flat_map, in_range, best_of-least}
 
 -- what waits stands behind the placed steps

@@ -1,22 +1,14 @@
 -- The words of a search: children are words, what is left are words, and what is found is full.
-use Rattle.std.proofs.Common.{rules}
-use Rattle.std.proofs.Common.{◌≡◌, ℕ, zero, suc, ◌+◌, ◌<◌, inl, inr, Bool, true, false, None, List, [], ◌∷◌, ◌++◌}
-use Rattle.std.proofs.Common.{length, map, refl, arith, ltb, leb}
-use Rattle.std.specs.List.{AllByRecursion, filter, fold}
-use Rattle.std.proofs.lemmas.Bool.{cases_Bool, ltb-true}
-use Rattle.std.proofs.lemmas.List.{length-append}
-use Rattle.shop_model.specs.Shop.{Shop, route_of}
-use Rattle.shop_model.specs.Word.{placing, IsWord}
-use Rattle.shop_model.proofs.Unders.{after_word}
-use Rattle.shop_bound.specs.Bound.{lb}
-use Rattle.shop_bound.proofs.Entries.{IsWord-snoc}
-use Rattle.shop_bound.proofs.Lists.{all_append, all_filter}
-use Rattle.shop_nodes.specs.Branching.{conflict_among, conflict, branch}
-use Rattle.shop_nodes.specs.Walking.{Walk, walk, walk_within, operations_left, taking, unless_cut, sheet}
-use Rattle.shop_nodes.specs.Laws.{IsBestOf, SearchesLoseNoTable}
+use Rattle.std.proofs.Common.{rules, ◌≡◌, ℕ, zero, suc, ◌+◌, ◌<◌, inl, inr, Bool, true, false, None, List, [], ◌∷◌}
+use Rattle.std.proofs.{Common.{◌++◌, length, map, refl, arith, ltb, leb}, lemmas.Bool.{cases_Bool, ltb-true}}
+use Rattle.std.{proofs.lemmas.List.length-append, specs.List.{AllByRecursion, filter, fold}}
+use Rattle.shop_model.{specs.{Shop.{Shop, route_of}, Word.{placing, IsWord}}, proofs.Unders.after_word}
+use Rattle.shop_bound.{specs.Bound.lb, proofs.{Entries.IsWord-snoc, Lists.{all_append, all_filter}}}
+use Rattle.shop_nodes.specs.{Branching.{conflict_among, conflict, branch}, Walking.{Walk, walk, walk_within}}
+use Rattle.shop_nodes.specs.{Walking.{operations_left, taking, unless_cut, sheet}, Laws.{IsBestOf, SearchesLoseNoTable}}
 use Rattle.shop_nodes.proofs.Members.{in_contains, contains_in, all_contains, contains_all, all_sort}
-use Rattle.shop_nodes.proofs.Counting.{full_from}
-use Rattle.shop_nodes.proofs.SearchLaw.{walk_goes_on, fold_goes_on, Reaches, reaches_later, fold_reaches, walk_reaches}
+use Rattle.shop_nodes.proofs.{Counting.full_from, SearchLaw.{walk_goes_on, fold_goes_on, Reaches, reaches_later}}
+use Rattle.shop_nodes.proofs.SearchLaw.{fold_reaches, walk_reaches}
 
 -- a word with one entry more than w
 abbrev pub IsLonger : Shop → List ℕ → List ℕ → Type 0

@@ -1,13 +1,10 @@
 -- Walks of words whose bounds reach the best, and walks that have no budget.
-use Rattle.std.proofs.Common.{◌≡◌, ℕ, zero, suc, ◌-◌, ◌≤◌, ◌⊎◌, inl, inr, List, [], ◌∷◌, ◌++◌, length, drop}
-use Rattle.std.proofs.Common.{refl, sym, ◌∙◌, ap, arith, append_assoc, append-nil}
-use Rattle.std.specs.List.{AllByRecursion, fold}
-use Rattle.std.proofs.lemmas.Bool.{cases_Bool, le-ltb, lt-ltb, ltb-true}
+use Rattle.std.proofs.Common.{◌≡◌, ℕ, zero, suc, ◌-◌, ◌≤◌, ◌⊎◌, inl, inr, List, [], ◌∷◌, ◌++◌, length, drop, refl, sym}
+use Rattle.std.proofs.{Common.{◌∙◌, ap, arith, append_assoc, append-nil}, lemmas.Bool.{cases_Bool, le-ltb, lt-ltb}}
+use Rattle.std.{proofs.lemmas.Bool.ltb-true, specs.List.{AllByRecursion, fold}}
 use Rattle.shop_model.specs.Shop.{Shop}
 use Rattle.shop_bound.specs.Bound.{lb}
-use Rattle.shop_nodes.specs.Pieces.{words_below}
-use Rattle.shop_nodes.specs.Walking.{Walk, walk}
-use Rattle.shop_nodes.proofs.WalkSteps.{walk-cut, walk-left}
+use Rattle.shop_nodes.{specs.{Pieces.words_below, Walking.{Walk, walk}}, proofs.WalkSteps.{walk-cut, walk-left}}
 
 -- words below a bound, of those below a greater one
 pub below-below : (shop : Shop) (c d : ℕ) (ws : List (List ℕ)) → d ≤ c

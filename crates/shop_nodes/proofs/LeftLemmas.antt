@@ -1,30 +1,17 @@
 -- What is left, told entry by entry.
-use Rattle.std.proofs.Common.{arith}
-use Rattle.std.proofs.Common.{◌≡◌, ℕ, ◌+◌, ◌-◌, ◌≤◌, ◌<◌, List, [], ◌∷◌, ◌++◌, length, drop, get_or}
-use Rattle.std.proofs.Common.{sym, ◌∙◌, ap, subst, Global, Vec, Result, Ok, Err, true, false, ltb, refl}
-use Rattle.std.proofs.Common.{Option, Some, None, inl, inr}
-use Rattle.std.specs.Prelude.{IfOk}
-use Rattle.std.specs.Arc.{arc_slice_items}
-use Rattle.std.specs.declared.alloc.AllocError.{AllocError}
-use Rattle.std.specs.List.{AllByRecursion}
-use Rattle.std.proofs.lemmas.Bool.{cases_Bool}
-use Rattle.std.proofs.lemmas.List.Elements.{All-drop, All-weaker, filter-append, recursion_from_All}
-use Rattle.std.proofs.lemmas.List.{map-append, length-map, drop-map, drop_more}
-use Rattle.shop_model.specs.Limits.{IsWithinLimits}
-use Rattle.shop_model.specs.SharedWords.{CanBeShared}
-use Rattle.shop_model.specs.Shop.{Shop}
+use Rattle.std.proofs.Common.{arith, ◌≡◌, ℕ, ◌+◌, ◌-◌, ◌≤◌, ◌<◌, List, [], ◌∷◌, ◌++◌, length, drop, get_or, sym, ◌∙◌}
+use Rattle.std.proofs.Common.{ap, subst, Global, Vec, Result, Ok, Err, true, false, ltb, refl, Option, Some, None, inl}
+use Rattle.std.proofs.{Common.inr, lemmas.{Bool.cases_Bool, List.Elements.{All-drop, All-weaker, filter-append}}}
+use Rattle.std.proofs.lemmas.List.{Elements.recursion_from_All, map-append, length-map, drop-map, drop_more}
+use Rattle.std.specs.{Prelude.IfOk, Arc.arc_slice_items, declared.alloc.AllocError.AllocError, List.AllByRecursion}
+use Rattle.shop_model.specs.{Limits.IsWithinLimits, SharedWords.CanBeShared, Shop.Shop}
 use Rattle.shop_model.proofs.WordLengths.{word_shared}
 use Rattle.shop_bound.specs.Bound.{lb}
-use Rattle.shop_nodes.specs.Left.{left_words, open_nodes, AreLeft}
-use Rattle.shop_nodes.specs.Nodes.{words_of, IsNode, AreNodes}
-use Rattle.shop_nodes.specs.Halts.{last_of, waiting_words, stack_words, halted_words, IsWaiting, AreHalted}
-use Rattle.shop_nodes.specs.inner.HeldNodes.{nodes_below, child_nodes, stack_nodes, halted_nodes}
-use Rattle.shop_nodes.specs.inner.HeldNodes.{AreSharable, AreWithin, IsHaltWithin}
-use Rattle.shop_nodes.specs.declared.nodes.Node.{Node}
-use Rattle.shop_nodes.specs.declared.halts.Halt.{Halt}
-use Rattle.shop_nodes.specs.declared.halts.Waiting.{Waiting}
-use Rattle.shop_nodes.specs.declared.halts.Waiting.TheVariants.{Child, Rest}
-use Rattle.shop_nodes.proofs.HighWalks.{none_below}
+use Rattle.shop_nodes.specs.{Left.{left_words, open_nodes, AreLeft}, Nodes.{words_of, IsNode, AreNodes}, Halts.last_of}
+use Rattle.shop_nodes.specs.Halts.{waiting_words, stack_words, halted_words, IsWaiting, AreHalted}
+use Rattle.shop_nodes.specs.inner.HeldNodes.{nodes_below, child_nodes, stack_nodes, halted_nodes, AreSharable}
+use Rattle.shop_nodes.specs.{inner.HeldNodes.{AreWithin, IsHaltWithin}, declared.{nodes.Node.Node, halts.Halt.Halt}}
+use Rattle.shop_nodes.{specs.declared.halts.Waiting.{Waiting, TheVariants.{Child, Rest}}, proofs.HighWalks.none_below}
 
 closed_all : (shop : Shop) (c : ℕ) (ws : List (List ℕ)) → AllByRecursion (λ w. c ≤ lb shop w) ws
     → open_nodes shop c ws ≡ []

@@ -1,8 +1,7 @@
 -- Members of lists, and the first least of a list.
 use Rattle.std.proofs.Common.{◌≡◌, ℕ, zero, suc, ◌+◌, ◌≤◌, ◌<◌, ◌⊎◌, inl, inr, Bool, true, List, [], ◌∷◌, ◌++◌, length}
-use Rattle.std.proofs.Common.{get_or, map, refl, sym, ap, subst, arith, ltb, leb}
+use Rattle.std.proofs.{Common.{get_or, map, refl, sym, ap, subst, arith, ltb, leb}, lemmas.Bool.{cases_Bool, cases_eq}}
 use Rattle.std.specs.List.{AllByRecursion, Contains, filter, flat_map, range_with_len, best_of}
-use Rattle.std.proofs.lemmas.Bool.{cases_Bool, cases_eq}
 use Rattle.shop_nodes.specs.Branching.{insert_by, sort_by}
 
 module _ {A : Type 0} where
@@ -68,14 +67,6 @@ module _ {A : Type 0} where
       | inl s ↦ (let u : test x ≡ test y = ap test s in absurd (cc))
       | inr g ↦ grind (arith, in_filter test x ys g t)
     ])
-  ]
-
-  pub filter_in : (test : A → Bool) (x : A) (xs : List A) → In x (filter test xs) → In x xs
-  filter_in test x [] h = absurd h
-  filter_in test x (y ∷ ys) h = elim (cases_Bool (test y)) [
-    | inl e ↦ (let k : In x (y ∷ filter test ys) = rw e at h
-        in elim k [ inl s ↦ inl s | inr g ↦ inr (filter_in test x ys g) ])
-    | inr e ↦ (let k : In x (filter test ys) = rw e at h in inr (filter_in test x ys k))
   ]
 
   pub in_insert_first : (key : A → ℕ) (x : A) (ys : List A) → In x (insert_by key x ys)

@@ -1,13 +1,8 @@
 -- The words of lists of nodes.
-use Rattle.std.proofs.Common.{List, [], ◌∷◌}
-use Rattle.std.proofs.lemmas.List.Elements.{recursion_from_All}
-use Rattle.std.specs.List.{AllByRecursion}
-use Rattle.shop_model.specs.Word.{IsWord}
-use Rattle.shop_nodes.specs.Laws.{AreWords}
+use Rattle.std.{proofs.{Common.{List, [], ◌∷◌}, lemmas.List.Elements.recursion_from_All}, specs.List.AllByRecursion}
+use Rattle.shop_model.specs.{Word.IsWord, Shop.Shop}
+use Rattle.shop_nodes.specs.{Laws.AreWords, Nodes.{words_of, IsNode, AreNodes}, declared.nodes.Node.Node}
 use Rattle.shop_nodes.proofs.Members.{contains_all}
-use Rattle.shop_model.specs.Shop.{Shop}
-use Rattle.shop_nodes.specs.Nodes.{words_of, IsNode, AreNodes}
-use Rattle.shop_nodes.specs.declared.nodes.Node.{Node}
 
 -- the words of nodes are words of the instance
 words_from : (shop : Shop) (nodes : List Node) → AllByRecursion (IsNode shop) nodes

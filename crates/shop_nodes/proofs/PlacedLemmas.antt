@@ -1,11 +1,8 @@
 -- The next operation of a job, as a placement gives it.
 use Rattle.std.proofs.Common.{◌≡◌, ℕ, ◌^◌, ◌<◌, max, List, length, get_or, slice_index, arith}
-use Rattle.shop_model.specs.Placements.{PlacementState, IsPlacement}
+use Rattle.shop_model.specs.{Placements.{PlacementState, IsPlacement}, Limits.IsWithinLimits, Shop.{Shop, no_op}}
+use Rattle.shop_model.specs.{Shop.{route_of, time_of}, Word.{Placing, placing, IsWord}, declared.ops.Op.Op}
 use Rattle.shop_model.proofs.WordLengths.{word_length, ready_word}
-use Rattle.shop_model.specs.Limits.{IsWithinLimits}
-use Rattle.shop_model.specs.Shop.{Shop, no_op, route_of, time_of}
-use Rattle.shop_model.specs.Word.{Placing, placing, IsWord}
-use Rattle.shop_model.specs.declared.ops.Op.{Op}
 use Rattle.shop_nodes.specs.Branching.{next_machine, next_head, next_end}
 
 -- every next operation can end soon

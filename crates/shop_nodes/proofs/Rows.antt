@@ -3,8 +3,7 @@ use Rattle.std.proofs.Common.{◌≡◌, [], ◌∷◌, refl, Some, None, map}
 use Rattle.shop_model.proofs.Rows.{shop_a, shop_g}
 pub use Rattle.shop_model.proofs.Rows.{shop_z}
 use Rattle.shop_bound.specs.Bound.{lb}
-use Rattle.shop_nodes.specs.Branching.{conflict, branch}
-use Rattle.shop_nodes.specs.Walking.{sheet}
+use Rattle.shop_nodes.specs.{Branching.{conflict, branch}, Walking.sheet}
 
 pub lb_a : map (lb shop_a) ([] ∷ (1 ∷ []) ∷ (1 ∷ 1 ∷ []) ∷ (1 ∷ 0 ∷ 0 ∷ []) ∷ []) ≡ 7 ∷ 7 ∷ 11 ∷ 7 ∷ []
 lb_a = refl

@@ -1,17 +1,11 @@
 -- A walk loses no table: its best is at most the end of each table under its word, or one that ends no later lies under
 -- a word left.
 use Rattle.std.proofs.Common.{◌≡◌, ℕ, zero, suc, ◌≤◌, ◌⊎◌, inl, inr, Bool, true, false, List, [], ◌∷◌, refl, arith, leb}
-use Rattle.std.specs.List.{fold}
-use Rattle.std.proofs.lemmas.Bool.{leb-true, leb-false}
-use Rattle.shop_model.specs.Shop.{Shop, Starts, end_of}
-use Rattle.shop_model.specs.Word.{IsWord, IsUnder}
-use Rattle.shop_bound.specs.Bound.{lb}
-use Rattle.shop_bound.proofs.BoundLaw.{lb-le-end}
-use Rattle.shop_nodes.specs.Branching.{branch}
-use Rattle.shop_nodes.specs.Walking.{Walk, walk_within, operations_left, taking, unless_cut}
-use Rattle.shop_nodes.proofs.Members.{In, in_left, in_right}
-use Rattle.shop_nodes.proofs.BetterChildren.{a_better_child}
-use Rattle.shop_nodes.proofs.Counting.{open_from}
+use Rattle.std.{proofs.lemmas.Bool.{leb-true, leb-false}, specs.List.fold}
+use Rattle.shop_model.specs.{Shop.{Shop, Starts, end_of}, Word.{IsWord, IsUnder}}
+use Rattle.shop_bound.{specs.Bound.lb, proofs.BoundLaw.lb-le-end}
+use Rattle.shop_nodes.specs.{Branching.branch, Walking.{Walk, walk_within, operations_left, taking, unless_cut}}
+use Rattle.shop_nodes.proofs.{Members.{In, in_left, in_right}, BetterChildren.a_better_child, Counting.open_from}
 
 -- a walk goes on from another: its best is no greater, and what was left is left
 pub record GoesOn (s t : Walk) : Type 0 where

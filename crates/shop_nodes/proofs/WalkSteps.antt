@@ -1,17 +1,12 @@
 -- One turn of a walk.
 use Rattle.std.proofs.Common.{◌≡◌, ℕ, zero, suc, ◌≤◌, Option, List, [], ◌∷◌, ◌++◌, length, map, refl, ◌∙◌, ap, arith}
-use Rattle.std.specs.List.{range_with_len}
-use Rattle.std.proofs.lemmas.Bool.{cases_Bool, le-leb}
-use Rattle.std.proofs.lemmas.List.{length-map}
-use Rattle.std.proofs.lemmas.List.FromFn.{length-range_with_len}
-use Rattle.std.proofs.lemmas.List.Sums.{length-filter, count_by-le-length}
+use Rattle.std.proofs.lemmas.{Bool.{cases_Bool, le-leb}, List.{length-map, FromFn.length-range_with_len}}
+use Rattle.std.{proofs.lemmas.List.Sums.{length-filter, count_by-le-length}, specs.List.range_with_len}
 use Rattle.std.specs.Prelude.{nat_lt}
-use Rattle.shop_model.specs.Shop.{Shop, route_of}
+use Rattle.shop_model.specs.{Shop.{Shop, route_of}, Word.placing}
 use Rattle.shop_bound.specs.Bound.{lb}
-use Rattle.shop_model.specs.Word.{placing}
 use Rattle.shop_nodes.specs.Branching.{branch, conflict, conflict_among, open_jobs, sort_by, insert_by, conflicts_with}
-use Rattle.shop_nodes.specs.Branching.{chosen_of}
-use Rattle.shop_nodes.specs.Walking.{walk, walk_within, operations_left}
+use Rattle.shop_nodes.specs.{Branching.chosen_of, Walking.{walk, walk_within, operations_left}}
 
 module _ (shop : Shop) (found : Option (List ℕ)) (best : ℕ) (left : List (List ℕ)) (w : List ℕ) where
   within-left : (n : ℕ) → walk_within shop n (record { found = found; best = best; left = left; budget = 0 }) w
@@ -42,7 +37,7 @@ pub length-insert_by : {A : Type 0} (key : A → ℕ) (x : A) (ys : List A) → 
 length-insert_by key x [] = refl
 length-insert_by key x (y ∷ ys) = grind (arith, cases_Bool, length-insert_by key x ys)
 
-length-sort_by : {A : Type 0} (key : A → ℕ) (xs : List A) → length (sort_by key xs) ≡ length xs
+pub length-sort_by : {A : Type 0} (key : A → ℕ) (xs : List A) → length (sort_by key xs) ≡ length xs
 length-sort_by key [] = refl
 length-sort_by key (x ∷ xs) = length-insert_by key x (sort_by key xs) ∙ ap suc (length-sort_by key xs)
 

@@ -20,8 +20,6 @@ pub enum Waiting {
     Rest { depth: u32, count: u32 },
 }
 
-const _: () = prove!(size_of::<Waiting>() <= 16);
-
 /// Where a walk halted: the path to its current word, and the children that wait along it. The last one is walked next.
 #[derive(Drop)]
 pub struct Halt {

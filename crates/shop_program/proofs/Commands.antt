@@ -1,8 +1,7 @@
 -- Commands that are set to need a subcommand, or have one argument or one subcommand more, read as simple commands do.
 use Rattle.std.proofs.{Common.{arith, ◌≡◌, true}, lemmas.Grind.common_steps}
 use Rattle.clap.specs.Words.{AddsArg, AddsSubcommand, App, Rule, with_rule, with_subcommand}
-use Rattle.clap.specs.{declared.builder.arg.Arg.Arg, declared.builder.command.Command.Command}
-use Rattle.clap.specs.declared.builder.command.Command.TheViews.{out-Command}
+use Rattle.clap.specs.declared.builder.{arg.Arg.Arg, command.Command.{Command, TheViews.out-Command}}
 use Rattle.shop_program.specs.{CommandLine.{IsCommandOf, needing_subcommand}, inner.Arguments.IsArgOf}
 
 pub needs_subcommand : (app : App) (old new : Command)

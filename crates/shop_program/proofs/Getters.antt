@@ -1,9 +1,7 @@
 -- What the getters of clap's matches read, by the rows of the matches.
-use Rattle.std.proofs.{lemmas.Grind.common_steps, Common.{Result, Ok, Err}}
-use Rattle.std.proofs.Common.{arith, ◌<◌, ◌^◌, ◌≡◌, ◌∙◌, ℕ, sym, ap, refl, subst, Option, Some, None, Bool, true, false}
-use Rattle.std.proofs.Common.{true≢false}
-use Rattle.std.specs.{Prelude.{codes, is_ok, is_some}, Str.Parse.{IsNumeral, digits_value, without_leading_plus}}
-use Rattle.std.specs.Result.{IsErrAnd}
+use Rattle.std.proofs.{lemmas.Grind.common_steps, Common.{Result, Ok, Err, arith, ◌<◌, ◌^◌, ◌≡◌, ◌∙◌, ℕ, sym, ap, refl}}
+use Rattle.std.{proofs.Common.{subst, Option, Some, None, Bool, true, false, true≢false}, specs.Prelude.{codes, is_ok}}
+use Rattle.std.specs.{Prelude.is_some, Str.Parse.{IsNumeral, digits_value, without_leading_plus}, Result.IsErrAnd}
 use Rattle.clap.specs.{Words.{Text, first_value, one_text, rows_of}, declared.parser.matches.Found.Found}
 use Rattle.clap.proofs.WalkLemmas.{first_value-rows, one_text-rows}
 use Rattle.shop_program.specs.CommandLine.{HasText, HasNumber, HasFlag, MayHave, NumberIs, UnlessNoMemory}

@@ -4,10 +4,9 @@ use Rattle.std.proofs.{Common.inr, lemmas.Grind.common_steps}
 use Rattle.std.specs.Prelude.{option_map, Result, Ok, Err, IfOk, IfErr}
 use Rattle.clap.specs.Words.{HasMatchesOf, Row, Text, app_of, is_simple, subcommand_name_of, subcommand_of}
 use Rattle.clap.specs.{Words.{subcommand_rows_of, takes}, Values.kind_of, declared.error.Error.Error}
-use Rattle.clap.specs.{declared.error.kind.ErrorKind.ErrorKind, declared.error.kind.ErrorKind.TheVariants.OutOfMemory}
-use Rattle.clap.specs.{declared.builder.command.Command.Command, declared.builder.value_parser.ValueParser.ValueParser}
-use Rattle.clap.specs.declared.parser.matches.ArgMatches.{ArgMatches}
-use Rattle.clap.proofs.OnLiterals.{clap_on_literals}
+use Rattle.clap.specs.declared.error.kind.ErrorKind.{ErrorKind, TheVariants.OutOfMemory}
+use Rattle.clap.specs.declared.builder.{command.Command.Command, value_parser.ValueParser.ValueParser}
+use Rattle.clap.{specs.declared.parser.matches.ArgMatches.ArgMatches, proofs.OnLiterals.clap_on_literals}
 use Rattle.shop_program.specs.CommandLine.{IsArgs, IsCommandLine, IsLineOf, IsUnread, UnlessNoMemory, command_line}
 use Rattle.shop_program.specs.{inner.Arguments.Reads, declared.line_faults.LineFault.LineFault}
 use Rattle.shop_program.specs.{LineFaults.{line_fault_by, line_fault_of}, declared.arguments.Args.Args}

@@ -1,8 +1,7 @@
 -- Entries of pieces in order, up to and with the first that ends at the opening bound.
 use Rattle.std.proofs.Common.{◌≡◌, ℕ, ◌<◌, ◌+◌, ◌++◌, List, [], ◌∷◌, length, get_or, sym, ◌∙◌, ap, subst, arith, inl}
-use Rattle.std.proofs.{Common.inr, Math.ListN.get_or-append, Math.Seq.get_or-append_seam, lemmas.Bool.cases_eq}
-use Rattle.std.proofs.lemmas.List.{length_push}
-use Rattle.std.specs.Prelude.{slice_index_or}
+use Rattle.std.proofs.{Common.inr, Math.{ListN.get_or-append, Seq.get_or-append_seam}, lemmas.Bool.cases_eq}
+use Rattle.std.{proofs.lemmas.List.length_push, specs.Prelude.slice_index_or}
 use Rattle.shop_runs.specs.{declared.entries.Entry.Entry, Round.Told, Crews.{OneForEach, IsEntryOf, IsUpToHit}}
 use Rattle.shop_round.specs.inner.Hits.{IsEntryUpToHit}
 

@@ -1,37 +1,20 @@
 -- Rounds up to the answer.
-use Rattle.std.proofs.Common.{◌≡◌, ℕ, suc, ◌+◌, ◌-◌, ◌*◌, ◌≤◌, ◌<◌, List, [], ◌++◌, length, sym}
-use Rattle.std.proofs.Common.{◌∙◌, ap, subst, arith, append-nil, ltb}
+use Rattle.std.proofs.Common.{◌≡◌, ℕ, suc, ◌+◌, ◌-◌, ◌*◌, ◌≤◌, ◌<◌, List, [], ◌++◌, length, sym, ◌∙◌, ap, subst, arith}
+use Rattle.std.proofs.{Common.{append-nil, ltb}, lemmas.List.{Elements.All-filter, length-map}}
 use Rattle.std.specs.Prelude.{unwrap_or}
-use Rattle.std.proofs.lemmas.List.Elements.{All-filter}
-use Rattle.shop_model.specs.Shop.{Shop}
-use Rattle.std.proofs.lemmas.List.{length-map}
-use Rattle.shop_runs.specs.Plans.{Planned, planned}
-use Rattle.shop_runs.specs.declared.plans.Plan.{Plan}
-use Rattle.shop_nodes.specs.declared.nodes.Node.{Node}
-use Rattle.shop_runs.specs.Round.{Stand, Told, cut_of, gathered, round, opening, in_order, words_below}
-use Rattle.shop_runs.specs.Answers.{rounds_from, unless_closed, answer}
-use Rattle.shop_runs.specs.Trust.{IsTrustworthy}
-use Rattle.shop_nodes.specs.Nodes.{words_of, IsNode, AreNodes}
-use Rattle.shop_bound.specs.Bound.{lb}
-use Rattle.shop_runs.specs.Entries.{told}
-use Rattle.shop_runs.specs.Runs.{Says}
-use Rattle.shop_runs.specs.declared.open_nodes.OpenNodes.{OpenNodes}
-use Rattle.shop_runs.specs.declared.plans.Order.{Order}
-use Rattle.shop_runs.specs.declared.rounds.Round.{Round}
-use Rattle.shop_runs.specs.declared.runs.OpenRun.{OpenRun}
-use Rattle.shop_nodes.specs.inner.HeldNodes.{nodes_below}
-use Rattle.shop_runs.specs.inner.NodeLists.{least_of_bounds}
-use Rattle.shop_runs.specs.inner.Searches.{IsSearchAt, IsSearchOf, IsFront, front_of, stand_of}
-use Rattle.shop_runs.specs.inner.Stores.{open_list, order_of}
+use Rattle.shop_model.specs.{Shop.Shop, Word.{placed, rows_of}}
+use Rattle.shop_runs.specs.{Plans.{Planned, planned}, declared.plans.Plan.Plan, Round.{Stand, Told, cut_of, gathered}}
+use Rattle.shop_runs.specs.{Round.{round, opening, in_order, words_below}, Answers.{rounds_from, unless_closed, answer}}
+use Rattle.shop_runs.specs.{Trust.IsTrustworthy, Entries.told, Runs.Says, declared.open_nodes.OpenNodes.OpenNodes}
+use Rattle.shop_runs.specs.declared.{plans.Order.Order, rounds.Round.Round, runs.OpenRun.OpenRun}
+use Rattle.shop_runs.specs.inner.{NodeLists.least_of_bounds, Searches.{IsSearchAt, IsSearchOf, IsFront, front_of}}
+use Rattle.shop_runs.specs.{inner.{Searches.stand_of, Stores.{open_list, order_of}}, declared.runs.Answer.Answer}
+use Rattle.shop_runs.specs.{declared.outcomes.RoundResult.RoundResult, inner.Outcomes.{left_open, IsOutcome}}
 use Rattle.shop_runs.proofs.FrontLemmas.{IsInOrder, IsJoined, in_order_is, order_drop, ordered_twice, gathered_front}
-use Rattle.shop_runs.proofs.FrontLemmas.{rejoined, joined_at, least_order, length_order}
-use Rattle.shop_runs.proofs.NodeLemmas.{least_is, below_is}
-use Rattle.shop_runs.specs.declared.runs.Answer.{Answer}
-use Rattle.shop_model.specs.Word.{placed, rows_of}
-use Rattle.shop_runs.specs.declared.outcomes.RoundResult.{RoundResult}
-use Rattle.shop_runs.specs.inner.Outcomes.{left_open, IsOutcome}
-use Rattle.shop_runs.proofs.Covering.{cut_is_round}
-use Rattle.shop_runs.proofs.Trusting.{trustworthy}
+use Rattle.shop_runs.proofs.{FrontLemmas.{rejoined, joined_at, least_order, length_order}, NodeLemmas.least_is}
+use Rattle.shop_runs.proofs.{NodeLemmas.below_is, Covering.cut_is_round, Trusting.trustworthy}
+use Rattle.shop_nodes.specs.{declared.nodes.Node.Node, Nodes.{words_of, IsNode, AreNodes}, inner.HeldNodes.nodes_below}
+use Rattle.shop_bound.specs.Bound.{lb}
 
 -- what a run that has done i rounds of its plan has still to come to
 pub record GoesTo (shop : Shop) (plan : Planned) (i : ℕ) (s : Stand) : Type 0 where

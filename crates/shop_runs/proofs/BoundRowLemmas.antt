@@ -1,21 +1,14 @@
 -- Rows of stacks by bound: what is put into them, taken from them, and let go.
 use Rattle.std.proofs.Common.{◌≡◌, true, false, ℕ, zero, suc, ◌+◌, ◌≤◌, ◌<◌, min, inr, Some, None, List, [], ◌∷◌, ◌++◌}
 use Rattle.std.proofs.Common.{length, take, drop, refl, sym, ◌∙◌, ap, subst, arith, append_assoc, length-append, eqb}
-use Rattle.std.proofs.Common.{cond}
-use Rattle.std.specs.Prelude.{IsSome, slice_index_or, slice_set}
-use Rattle.std.specs.List.{AllByRecursion}
-use Rattle.std.specs.Global.{Box}
-use Rattle.std.proofs.lemmas.Bool.{cases_Bool, cases_eq, eq-eqb, ne_eqb, le-ltb, lt-ltb}
-use Rattle.std.proofs.lemmas.List.{length-map}
-use Rattle.std.proofs.lemmas.List.Elements.{filter-append}
-use Rattle.shop_nodes.specs.Branching.{insert_by}
-use Rattle.shop_nodes.specs.declared.nodes.Node.{Node}
+use Rattle.std.proofs.{Common.cond, lemmas.Bool.{cases_Bool, cases_eq, eq-eqb, ne_eqb, le-ltb, lt-ltb}}
+use Rattle.std.{proofs.lemmas.List.{length-map, Elements.filter-append}, specs.Prelude.{IsSome, slice_index_or}}
+use Rattle.std.specs.{Prelude.slice_set, List.AllByRecursion, Global.Box}
+use Rattle.shop_nodes.specs.{Branching.insert_by, declared.nodes.Node.Node, inner.HeldNodes.nodes_below}
 use Rattle.shop_runs.specs.declared.{distant_nodes.DistantNodes.DistantNodes, stacks.Stack.Stack}
-use Rattle.shop_nodes.specs.inner.HeldNodes.{nodes_below}
 use Rattle.shop_runs.specs.inner.{Distant.{count_of, AreAdded, IsRetired}, NodeLists.least_of_bounds}
-use Rattle.shop_runs.specs.inner.BoundRows.{AreEmptyBelow, IsBehind, IsFirstFrom}
-use Rattle.shop_runs.specs.inner.Stacks.{Place, words_at, nodes_of_bound, nodes_in_row}
-use Rattle.shop_runs.proofs.SortLemmas.{insert_low}
+use Rattle.shop_runs.specs.inner.{BoundRows.{AreEmptyBelow, IsBehind, IsFirstFrom}, Stacks.{Place, words_at}}
+use Rattle.shop_runs.{specs.inner.Stacks.{nodes_of_bound, nodes_in_row}, proofs.SortLemmas.insert_low}
 use Rattle.shop_runs.proofs.StackLemmas.{insert_past, below_one, least_all, bounds_all, words_under}
 
 -- an empty place more

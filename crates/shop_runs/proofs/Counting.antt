@@ -1,11 +1,8 @@
 -- How far the rounds done and the nodes counted rise in a round.
 use Rattle.std.proofs.Common.{◌≡◌, ℕ, zero, suc, ◌+◌, ◌*◌, ◌≤◌, Option, Some, None, List, [], ◌∷◌, length, arith}
-use Rattle.std.specs.List.{sum_by}
-use Rattle.std.proofs.lemmas.List.{length-map}
-use Rattle.std.proofs.lemmas.List.Sums.{sum_by-cons}
+use Rattle.std.{proofs.lemmas.List.{length-map, Sums.sum_by-cons}, specs.List.sum_by}
 use Rattle.shop_nodes.specs.Walking.{Walk}
-use Rattle.shop_runs.specs.Round.{Told, taken_of, up_to_hit, after_round}
-use Rattle.shop_runs.specs.Laws.{CountsStaySmall}
+use Rattle.shop_runs.specs.{Round.{Told, taken_of, up_to_hit, after_round}, Laws.CountsStaySmall}
 
 taken-le : (budget : ℕ) (ss : List Walk) → sum_by (taken_of budget) ss ≤ length ss * budget
 taken-le budget [] = omega arith

@@ -1,14 +1,8 @@
 -- Worked rows of what is said of all tables: lying under a word, the least makespan, and covering.
 use Rattle.std.proofs.Common.{◌≡◌, ℕ, zero, suc, ◌≤◌, List, [], ◌∷◌, ◌++◌, refl, arith, lit<, lit≤}
-use Rattle.shop_model.specs.Shop.{IsOperation, IsFeasible, IsLeast, Starts, machine_of, finish_of}
-use Rattle.shop_model.specs.Word.{count_of, IsUnder}
-use Rattle.shop_model.specs.Checking.{starts_of}
-use Rattle.shop_model.proofs.Rows.{shop_a}
-use Rattle.shop_model.proofs.Deciding.{feasible_by_test}
-use Rattle.shop_runs.specs.Round.{Covers}
-use Rattle.shop_runs.proofs.Covering.{opens_covering}
-use Rattle.shop_runs.proofs.Trusting.{trustworthy}
-use Rattle.shop_runs.proofs.Rows.{plan}
+use Rattle.shop_model.specs.{Shop.{IsOperation, IsFeasible, IsLeast, Starts, machine_of, finish_of}, Word.count_of}
+use Rattle.shop_model.{specs.{Word.IsUnder, Checking.starts_of}, proofs.{Rows.shop_a, Deciding.feasible_by_test}}
+use Rattle.shop_runs.{specs.Round.Covers, proofs.{Covering.opens_covering, Trusting.trustworthy, Rows.plan}}
 
 -- the least table of two jobs that cross: both begin at once, and it ends at 7
 abbrev crossing : Starts

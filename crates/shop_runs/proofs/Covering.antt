@@ -1,27 +1,18 @@
 -- Rounds keep the cover.
 use Rattle.std.proofs.Common.{◌≡◌, ◌≤◌, ◌⊎◌, inl, inr, Option, Some, None, List, [], ◌∷◌, ◌++◌, refl, sym, subst, arith}
-use Rattle.std.specs.Prelude.{Contains}
-use Rattle.std.specs.List.{AllByRecursion, flat_map}
-use Rattle.shop_model.specs.Shop.{Shop, Starts, IsFeasible, end_of}
-use Rattle.shop_model.specs.Word.{IsWord, start_jobs}
-use Rattle.shop_bound.specs.Bound.{lb}
-use Rattle.shop_bound.proofs.BoundLaw.{lb-le-end}
-use Rattle.shop_nodes.specs.Walking.{Walk}
-use Rattle.shop_nodes.specs.Laws.{AreWords, HasBetter}
-use Rattle.shop_nodes.proofs.Members.{In, in_contains, contains_in, all_contains, contains_all, in_all, in_map}
-use Rattle.shop_nodes.proofs.Members.{in_flat_map, in_left, in_right}
+use Rattle.std.specs.{Prelude.Contains, List.{AllByRecursion, flat_map}}
+use Rattle.shop_model.specs.{Shop.{Shop, Starts, IsFeasible, end_of}, Word.{IsWord, start_jobs}}
+use Rattle.shop_bound.{specs.Bound.lb, proofs.BoundLaw.lb-le-end}
+use Rattle.shop_nodes.{specs.{Walking.Walk, Laws.{AreWords, HasBetter}}, proofs.Members.{In, in_contains, contains_in}}
+use Rattle.shop_nodes.proofs.Members.{all_contains, contains_all, in_all, in_map, in_flat_map, in_left, in_right}
 use Rattle.shop_nodes.proofs.Found.{searches_keep}
-use Rattle.shop_runs.specs.Plans.{Planned}
-use Rattle.shop_runs.specs.Round.{Stand, Told, words_of_round, sheet_in, sheets_of, cut_of, in_order, up_to_hit}
-use Rattle.shop_runs.specs.Round.{best_word, after_round, Covers}
-use Rattle.shop_runs.specs.Laws.{IsStanding, StandsCovering, IsRound, OpeningCovers, CutsCover, GatheringCovers}
-use Rattle.shop_runs.specs.Laws.{RoundsKeepTheCover}
-use Rattle.shop_runs.proofs.Opening.{start_full}
-use Rattle.shop_runs.proofs.Cutting.{in_or, in_some, pieces_all}
-use Rattle.shop_runs.proofs.OpenLemmas.{least_bound-le, ordered_in, ordered_all, still_better, standing_from}
-use Rattle.shop_runs.proofs.OpenLemmas.{under_empty}
-use Rattle.shop_runs.proofs.SheetLemmas.{IsOfRound, IsBestWord, hit_in, found_is}
-use Rattle.shop_runs.proofs.StandingLemmas.{pieces_words, known, best_of_round, open_all, after_is_standing}
+use Rattle.shop_runs.specs.{Plans.Planned, Round.{Stand, Told, words_of_round, sheet_in, sheets_of, cut_of, in_order}}
+use Rattle.shop_runs.specs.{Round.{up_to_hit, best_word, after_round, Covers}, Laws.{IsStanding, StandsCovering}}
+use Rattle.shop_runs.specs.Laws.{IsRound, OpeningCovers, CutsCover, GatheringCovers, RoundsKeepTheCover}
+use Rattle.shop_runs.proofs.{Opening.start_full, Cutting.{in_or, in_some, pieces_all}, OpenLemmas.least_bound-le}
+use Rattle.shop_runs.proofs.OpenLemmas.{ordered_in, ordered_all, still_better, standing_from, under_empty}
+use Rattle.shop_runs.proofs.{SheetLemmas.{IsOfRound, IsBestWord, hit_in, found_is}, StandingLemmas.pieces_words}
+use Rattle.shop_runs.proofs.StandingLemmas.{known, best_of_round, open_all, after_is_standing}
 
 pub opens_covering : OpeningCovers
 opens_covering shop =

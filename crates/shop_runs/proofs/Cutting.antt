@@ -1,12 +1,9 @@
 -- Pieces and the rest are all the words.
-use Rattle.std.proofs.Common.{◌≡◌, ℕ, zero, suc, ◌*◌, ◌⊎◌, inl, inr, List, [], ◌∷◌, ◌++◌, drop, refl}
-use Rattle.std.proofs.Common.{ap, arith, append_assoc}
+use Rattle.std.proofs.Common.{◌≡◌, ℕ, zero, suc, ◌*◌, ◌⊎◌, inl, inr, List, [], ◌∷◌, ◌++◌, drop, refl, ap, arith}
+use Rattle.std.proofs.{Common.append_assoc, Math.Seq.drop-nil, lemmas.List.{drop-drop, take-append-drop}}
 use Rattle.std.specs.List.{AllByRecursion, flat_map}
-use Rattle.std.proofs.Math.Seq.{drop-nil}
-use Rattle.std.proofs.lemmas.List.{drop-drop, take-append-drop}
 use Rattle.shop_nodes.proofs.Members.{In}
-use Rattle.shop_runs.specs.Round.{cut_into}
-use Rattle.shop_runs.specs.Laws.{PiecesAreAll}
+use Rattle.shop_runs.specs.{Round.cut_into, Laws.PiecesAreAll}
 
 module _ {A : Type 0} where
   -- what is in two lists together is in one of them

@@ -1,22 +1,15 @@
 -- The open nodes of a run, of which it stores the first ones and only counts the others.
-use Rattle.std.proofs.Common.{◌≡◌, ℕ, zero, suc, ◌+◌, ◌≤◌, ◌<◌, ◌⊎◌, min, inl, inr, cond, List}
-use Rattle.std.proofs.Common.{[]}
-use Rattle.std.proofs.Common.{◌∷◌, ◌++◌, length, take, drop, get_or, refl, sym, ◌∙◌, ap, subst, arith}
-use Rattle.std.proofs.Common.{append-nil, append_assoc}
-use Rattle.std.proofs.Common.{ltb}
-use Rattle.std.specs.List.{AllByRecursion}
-use Rattle.std.proofs.lemmas.Bool.{cases_Bool, cases_lt, lt-ltb, le-ltb, le-leb, lt-leb}
-use Rattle.std.proofs.lemmas.List.{length-drop, take-append-le, drop-append-le}
+use Rattle.std.proofs.Common.{◌≡◌, ℕ, zero, suc, ◌+◌, ◌≤◌, ◌<◌, ◌⊎◌, min, inl, inr, cond, List, [], ◌∷◌, ◌++◌, length}
+use Rattle.std.proofs.Common.{take, drop, get_or, refl, sym, ◌∙◌, ap, subst, arith, append-nil, append_assoc, ltb}
+use Rattle.std.proofs.lemmas.{Bool.{cases_Bool, cases_lt, lt-ltb, le-ltb, le-leb, lt-leb}, List.length-drop}
+use Rattle.std.{proofs.lemmas.List.{take-append-le, drop-append-le}, specs.List.AllByRecursion}
 use Rattle.shop_nodes.specs.{Branching.insert_by, declared.nodes.Node.Node, inner.HeldNodes.nodes_below}
 use Rattle.shop_nodes.proofs.Members.{all_insert}
-use Rattle.shop_runs.specs.declared.plans.Order.{Order}
-use Rattle.shop_runs.specs.declared.plans.Order.TheVariants.{Kept, Bound}
+use Rattle.shop_runs.specs.declared.plans.Order.{Order, TheVariants.{Kept, Bound}}
 use Rattle.shop_runs.specs.declared.{distant_nodes.DistantNodes.DistantNodes, open_nodes.OpenNodes.OpenNodes}
 use Rattle.shop_runs.specs.inner.Distant.{count_of, nodes_within, AreAdded, AreDistant, IsRetired}
-use Rattle.shop_runs.specs.inner.{Stacks.put_all_before, Stores.open_list, Stores.order_of}
-use Rattle.shop_runs.specs.inner.NodeLists.{least_of_bounds}
-use Rattle.shop_runs.proofs.Cutting.{all_front}
-use Rattle.shop_runs.proofs.DistantLemmas.{count_append, none_within}
+use Rattle.shop_runs.specs.inner.{Stacks.put_all_before, Stores.{open_list, order_of}, NodeLists.least_of_bounds}
+use Rattle.shop_runs.proofs.{Cutting.all_front, DistantLemmas.{count_append, none_within}}
 
 abbrev pub AreBefore : ℕ → List Node → Type 0
 AreBefore h ns = AllByRecursion (λ n. n.bound < h) ns

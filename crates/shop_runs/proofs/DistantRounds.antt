@@ -1,30 +1,21 @@
 -- A round of a run that stores the first of its open nodes and counts the others.
-use Rattle.std.proofs.Common.{◌≡◌, ℕ, suc, ◌+◌, ◌-◌, ◌*◌, ◌≤◌, ◌<◌, List, [], ◌∷◌, ◌++◌, take, drop, sym}
-use Rattle.std.proofs.Common.{◌∙◌}
-use Rattle.std.proofs.Common.{ap, subst, arith, ltb}
-use Rattle.std.specs.Prelude.{unwrap_or}
-use Rattle.std.proofs.lemmas.Bool.{cases_lt, lt-ltb, le-ltb}
-use Rattle.std.proofs.lemmas.List.Elements.{All-drop, filter-append}
+use Rattle.std.proofs.Common.{◌≡◌, ℕ, suc, ◌+◌, ◌-◌, ◌*◌, ◌≤◌, ◌<◌, List, [], ◌∷◌, ◌++◌, take, drop, sym, ◌∙◌, ap}
+use Rattle.std.proofs.{Common.{subst, arith, ltb}, lemmas.{Bool.{cases_lt, lt-ltb, le-ltb}, List.Elements.All-drop}}
+use Rattle.std.{proofs.lemmas.List.Elements.filter-append, specs.Prelude.unwrap_or}
 use Rattle.shop_model.specs.Shop.{Shop}
 use Rattle.shop_bound.specs.Bound.{lb}
-use Rattle.shop_nodes.specs.{declared.nodes.Node.Node, inner.HeldNodes.nodes_below}
-use Rattle.shop_nodes.specs.Nodes.{IsNode, AreNodes}
-use Rattle.shop_runs.specs.declared.plans.Order.TheVariants.{Kept}
-use Rattle.shop_runs.specs.declared.{distant_nodes.DistantNodes.DistantNodes, open_nodes.OpenNodes.OpenNodes}
-use Rattle.shop_runs.specs.declared.{outcomes.RoundResult.RoundResult, rounds.Round.Round, runs.OpenRun.OpenRun}
-use Rattle.shop_runs.specs.{Entries.told, Plans.Planned, Laws.IsStanding}
-use Rattle.shop_runs.specs.Round.{Stand, Told, cut_of, gathered, round, makespan_of}
-use Rattle.shop_runs.specs.inner.{Outcomes.left_open, Outcomes.IsOutcome, Stacks.put_all_before}
-use Rattle.shop_runs.specs.inner.Distant.{ArePutOrCounted, AreDistant, IsRetired}
-use Rattle.shop_runs.specs.inner.Searches.{stand_of, with_all, in_full, most_left, front_of, IsSearchAt, IsSearchOf}
-use Rattle.shop_runs.specs.inner.Searches.{IsRunAt}
-use Rattle.shop_runs.specs.inner.Stores.{open_list, order_of, IsKeptBelow}
-use Rattle.shop_runs.proofs.Answering.{next_round, cut_again}
-use Rattle.shop_runs.proofs.Covering.{cut_is_round}
-use Rattle.shop_runs.proofs.Ending.{round_no_worse}
-use Rattle.shop_runs.proofs.DistantLists.{AreBefore, distant_taken, distant_kept, distant_joined, distant_retired}
-use Rattle.shop_runs.proofs.DistantRuns.{list_is, order_is, full_search, near_search, same_front, full_others}
-use Rattle.shop_runs.proofs.FrontCuts.{others_are}
+use Rattle.shop_nodes.specs.{declared.nodes.Node.Node, inner.HeldNodes.nodes_below, Nodes.{IsNode, AreNodes}}
+use Rattle.shop_runs.specs.declared.{plans.Order.TheVariants.Kept, distant_nodes.DistantNodes.DistantNodes}
+use Rattle.shop_runs.specs.declared.{open_nodes.OpenNodes.OpenNodes, outcomes.RoundResult.RoundResult}
+use Rattle.shop_runs.specs.{declared.{rounds.Round.Round, runs.OpenRun.OpenRun}, Entries.told, Plans.Planned}
+use Rattle.shop_runs.specs.{Laws.IsStanding, Round.{Stand, Told, cut_of, gathered, round, makespan_of}}
+use Rattle.shop_runs.specs.inner.{Outcomes.{left_open, IsOutcome}, Stacks.put_all_before, Distant.ArePutOrCounted}
+use Rattle.shop_runs.specs.inner.{Distant.{AreDistant, IsRetired}, Searches.{stand_of, with_all, in_full, most_left}}
+use Rattle.shop_runs.specs.inner.{Searches.{front_of, IsSearchAt, IsSearchOf, IsRunAt}, Stores.{open_list, order_of}}
+use Rattle.shop_runs.{specs.inner.Stores.IsKeptBelow, proofs.{Answering.{next_round, cut_again}, Covering.cut_is_round}}
+use Rattle.shop_runs.proofs.{Ending.round_no_worse, DistantLists.{AreBefore, distant_taken, distant_kept}}
+use Rattle.shop_runs.proofs.{DistantLists.{distant_joined, distant_retired}, DistantRuns.{list_is, order_is}}
+use Rattle.shop_runs.proofs.{DistantRuns.{full_search, near_search, same_front, full_others}, FrontCuts.others_are}
 use Rattle.shop_runs.proofs.FrontLemmas.{gathered_front}
 
 -- a round makes no makespan greater

@@ -1,34 +1,20 @@
 -- Runs that store the first of their open nodes, and count the others.
-use Rattle.std.proofs.Common.{◌≡◌, ℕ, suc, ◌+◌, ◌-◌, ◌*◌, ◌≤◌, ◌<◌, ◌⊎◌, inl, inr, List, [], ◌∷◌, ◌++◌, length}
-use Rattle.std.proofs.Common.{drop, All}
-use Rattle.std.proofs.Common.{refl, sym, ◌∙◌, ap, subst, arith}
-use Rattle.std.specs.List.{AllByRecursion, Contains}
-use Rattle.std.proofs.lemmas.List.{map-append, length-map}
-use Rattle.std.proofs.lemmas.List.Elements.{recursion_from_All, All-from_recursion}
-use Rattle.shop_model.specs.Shop.{Shop}
-use Rattle.shop_model.specs.Word.{IsWord}
+use Rattle.std.proofs.Common.{◌≡◌, ℕ, suc, ◌+◌, ◌-◌, ◌*◌, ◌≤◌, ◌<◌, ◌⊎◌, inl, inr, List, [], ◌∷◌, ◌++◌, length, drop}
+use Rattle.std.proofs.{Common.{All, refl, sym, ◌∙◌, ap, subst, arith}, lemmas.List.{map-append, length-map}}
+use Rattle.std.{proofs.lemmas.List.Elements.{recursion_from_All, All-from_recursion}, specs.List.AllByRecursion}
+use Rattle.std.specs.List.{Contains}
+use Rattle.shop_model.specs.{Shop.Shop, Word.IsWord}
 use Rattle.shop_bound.specs.Bound.{lb}
-use Rattle.shop_nodes.specs.declared.nodes.Node.{Node}
-use Rattle.shop_nodes.specs.Nodes.{words_of, IsNode, AreNodes}
+use Rattle.shop_nodes.specs.{declared.nodes.Node.Node, Nodes.{words_of, IsNode, AreNodes}}
 use Rattle.shop_nodes.proofs.Members.{all_contains, contains_all}
-use Rattle.shop_runs.specs.declared.plans.Order.{Order}
-use Rattle.shop_runs.specs.declared.plans.Order.TheVariants.{Kept, Bound}
-use Rattle.shop_runs.specs.declared.open_nodes.OpenNodes.{OpenNodes}
-use Rattle.shop_runs.specs.declared.runs.OpenRun.{OpenRun}
-use Rattle.shop_runs.specs.Plans.{Planned}
-use Rattle.shop_runs.specs.Round.{Stand, in_order, makespan_of, least_bound, cut_into, cut_of}
-use Rattle.shop_runs.specs.Laws.{IsStanding}
-use Rattle.shop_runs.specs.inner.NodeLists.{least_of_bounds}
-use Rattle.shop_runs.specs.inner.Searches.{stand_of, with_all, in_full, most_left, IsSearchOf, IsRunAt}
-use Rattle.shop_runs.specs.inner.Searches.{front_of}
-use Rattle.shop_runs.specs.inner.Stores.{open_list, order_of}
-use Rattle.shop_runs.proofs.Cutting.{all_front, all_back}
-use Rattle.shop_runs.proofs.DistantLists.{AreBefore, none_distant, first_of_all, least_near}
-use Rattle.shop_runs.proofs.FrontLemmas.{search_of}
-use Rattle.shop_runs.proofs.KeptBelow.{all_below}
-use Rattle.shop_runs.proofs.NodeLemmas.{least_is}
-use Rattle.shop_runs.proofs.PieceLemmas.{cut_front}
-use Rattle.shop_runs.proofs.SortLemmas.{Rises, sort_rises, sort_fixed}
+use Rattle.shop_runs.specs.declared.{plans.Order.{Order, TheVariants.{Kept, Bound}}, open_nodes.OpenNodes.OpenNodes}
+use Rattle.shop_runs.specs.{declared.runs.OpenRun.OpenRun, Plans.Planned, Round.{Stand, in_order, makespan_of}}
+use Rattle.shop_runs.specs.{Round.{least_bound, cut_into, cut_of}, Laws.IsStanding, inner.NodeLists.least_of_bounds}
+use Rattle.shop_runs.specs.inner.Searches.{stand_of, with_all, in_full, most_left, IsSearchOf, IsRunAt, front_of}
+use Rattle.shop_runs.{specs.inner.Stores.{open_list, order_of}, proofs.Cutting.{all_front, all_back}}
+use Rattle.shop_runs.proofs.{DistantLists.{AreBefore, none_distant, first_of_all, least_near}, FrontLemmas.search_of}
+use Rattle.shop_runs.proofs.{KeptBelow.all_below, NodeLemmas.least_is, PieceLemmas.cut_front, SortLemmas.Rises}
+use Rattle.shop_runs.proofs.SortLemmas.{sort_rises, sort_fixed}
 
 pub list_is : (o : Order) (ns : List Node) → open_list (with_all o ns) ≡ ns
 list_is Kept ns = refl

@@ -1,28 +1,18 @@
 -- Each round makes what is open smaller, and its makespan no greater: so rounds enough come to an end.
-use Rattle.std.proofs.Common.{◌≡◌, ℕ, zero, suc, ◌+◌, ◌-◌, ◌≤◌, ◌<◌, Bool, Option, Some, None, List, [], ◌∷◌}
-use Rattle.std.proofs.Common.{length, map, refl, sym, ◌∙◌, ap, subst, arith}
-use Rattle.std.specs.List.{filter, flat_map}
-use Rattle.std.proofs.lemmas.Bool.{cases_Bool}
+use Rattle.std.proofs.Common.{◌≡◌, ℕ, zero, suc, ◌+◌, ◌-◌, ◌≤◌, ◌<◌, Bool, Option, Some, None, List, [], ◌∷◌, length}
+use Rattle.std.{proofs.{Common.{map, refl, sym, ◌∙◌, ap, subst, arith}, lemmas.Bool.cases_Bool}, specs.List.filter}
+use Rattle.std.specs.List.{flat_map}
 use Rattle.shop_model.specs.Shop.{Shop}
 use Rattle.shop_bound.specs.Bound.{lb}
-use Rattle.shop_nodes.specs.Branching.{insert_by, sort_by}
-use Rattle.shop_nodes.specs.Walking.{Walk}
-use Rattle.shop_nodes.proofs.Members.{in_all}
-use Rattle.shop_runs.specs.declared.plans.Order.{Order}
-use Rattle.shop_runs.specs.Plans.{Planned}
-use Rattle.shop_runs.specs.Round.{Stand, Told, cut_into, in_order, up_to_hit, after_round, words_of_round, sheet_in}
-use Rattle.shop_runs.specs.Round.{sheets_of, cut_of, round, opening, makespan_of}
-use Rattle.shop_runs.specs.Answers.{unless_closed, rounds_from, answer}
-use Rattle.shop_runs.specs.Laws.{IsStanding, IsRound}
+use Rattle.shop_nodes.{specs.{Branching.{insert_by, sort_by}, Walking.Walk}, proofs.Members.in_all}
+use Rattle.shop_runs.specs.{declared.plans.Order.Order, Plans.Planned, Round.{Stand, Told, cut_into, in_order}}
+use Rattle.shop_runs.specs.Round.{up_to_hit, after_round, words_of_round, sheet_in, sheets_of, cut_of, round, opening}
+use Rattle.shop_runs.specs.{Round.makespan_of, Answers.{unless_closed, rounds_from, answer}, Laws.{IsStanding, IsRound}}
 use Rattle.shop_runs.specs.Exact.{with_rounds, SearchesEnd, MoreRoundsAreNoWorse, SolvedStays}
-use Rattle.shop_runs.proofs.Answering.{closed}
-use Rattle.shop_runs.proofs.Covering.{opens_covering, cut_is_round}
-use Rattle.shop_runs.proofs.Trusting.{trustworthy}
-use Rattle.shop_runs.proofs.Cutting.{pieces_all}
-use Rattle.shop_runs.proofs.SheetLemmas.{hit_in, found_is}
-use Rattle.shop_runs.proofs.StandingLemmas.{known, best_of_round, gathered_is_standing}
-use Rattle.shop_runs.proofs.TreeSizes.{size_of, size_all, size_none, size_cons, size_append, size_some}
-use Rattle.shop_runs.proofs.TreeSizes.{sheet_leaves, sheet_leaves_less}
+use Rattle.shop_runs.proofs.{Answering.closed, Covering.{opens_covering, cut_is_round}, Trusting.trustworthy}
+use Rattle.shop_runs.proofs.{Cutting.pieces_all, SheetLemmas.{hit_in, found_is}, StandingLemmas.{known, best_of_round}}
+use Rattle.shop_runs.proofs.{StandingLemmas.gathered_is_standing, TreeSizes.{size_of, size_all, size_none, size_cons}}
+use Rattle.shop_runs.proofs.TreeSizes.{size_append, size_some, sheet_leaves, sheet_leaves_less}
 
 module _ (shop : Shop) where
   size_filter : (test : List ℕ → Bool) (ws : List (List ℕ)) → size_all shop (filter test ws) ≤ size_all shop ws
@@ -146,7 +136,8 @@ module _ (shop : Shop) (plan : Planned) where
   stay_standings : (n : ℕ) (s : Stand) → IsStanding shop s → IsStanding shop (rounds_from shop plan n s)
   stay_standings zero s is = is
   stay_standings (suc n) s is =
-      grind (arith, unless_stands, round_stands, stay_standings n (round shop plan s) (round_stands s is))
+      unless_stands s.open_words s (λ t. rounds_from shop plan n (round shop plan t)) is
+      (stay_standings n (round shop plan s) (round_stands s is))
 
   split : (n k : ℕ) (s : Stand) (ws : List (List ℕ)) → s.open_words ≡ ws
       → rounds_from shop plan (n + k) (round shop plan s)

@@ -1,29 +1,15 @@
 -- The entries of a round, in number order.
-use Rattle.std.proofs.Common.{◌≡◌, ℕ, zero, suc, ◌<◌, false, Global, Vec, vec_len, Option, Some, None, List, []}
-use Rattle.std.proofs.Common.{◌∷◌, length, get_or, sym, ◌∙◌, ap, subst, arith, zero-add}
-use Rattle.std.specs.Prelude.{slice_index_or, IfOk, Result}
-use Rattle.std.specs.declared.alloc.AllocError.{AllocError}
+use Rattle.std.proofs.Common.{◌≡◌, ℕ, zero, suc, ◌<◌, false, Global, Vec, vec_len, Option, Some, None, List, [], ◌∷◌}
+use Rattle.std.proofs.{Common.{length, get_or, sym, ◌∙◌, ap, subst, arith, zero-add}, lemmas.Iterator.YieldsList}
+use Rattle.std.proofs.lemmas.Iterator.{Adapters.YieldsList-from_vec, Consumers.{YieldsList-turn, YieldsList-end}}
+use Rattle.std.{proofs.lemmas.List.length-map, specs.Prelude.{slice_index_or, IfOk, Result}}
+use Rattle.std.specs.{declared.alloc.AllocError.AllocError, Iterator.Yields, Vec.Iter.{into_iter_items, into_iter_len}}
+use Rattle.std.specs.{Vec.Iter.into_iter_steps, declared.vec.IntoIter.IntoIter}
 use Rattle.shop_model.specs.Shop.{Shop}
-use Rattle.std.specs.Iterator.{Yields}
-use Rattle.std.specs.Vec.Iter.{into_iter_items, into_iter_len, into_iter_steps}
-use Rattle.std.specs.declared.vec.IntoIter.{IntoIter}
-use Rattle.std.proofs.lemmas.Iterator.{YieldsList}
-use Rattle.std.proofs.lemmas.Iterator.Adapters.{YieldsList-from_vec}
-use Rattle.std.proofs.lemmas.Iterator.Consumers.{YieldsList-turn, YieldsList-end}
-use Rattle.std.proofs.lemmas.List.{length-map}
-use Rattle.shop_nodes.specs.Nodes.{words_of}
-use Rattle.shop_nodes.specs.Sheets.{IsSheetOf}
-use Rattle.shop_nodes.specs.declared.pieces.Piece.{Piece}
-use Rattle.shop_nodes.specs.declared.sheets.Sheet.{Sheet}
-use Rattle.shop_runs.specs.declared.entries.Entry.{Entry}
-use Rattle.shop_runs.specs.declared.entries.Kind.TheVariants.{Done, Passed}
-use Rattle.shop_runs.specs.declared.rounds.Round.{Round}
-use Rattle.shop_runs.specs.Nodes.{pieces_in}
-use Rattle.shop_runs.specs.Round.{Told}
-use Rattle.shop_runs.specs.Entries.{told, is_hit, IsOf}
-use Rattle.shop_runs.specs.Crews.{OneForEach, IsEntryOf}
-use Rattle.shop_runs.proofs.PieceLemmas.{numbered_at}
-use Rattle.shop_runs.proofs.GatherLemmas.{IsSheetAt}
+use Rattle.shop_nodes.specs.{Nodes.words_of, Sheets.IsSheetOf, declared.{pieces.Piece.Piece, sheets.Sheet.Sheet}}
+use Rattle.shop_runs.specs.declared.{entries.{Entry.Entry, Kind.TheVariants.{Done, Passed}}, rounds.Round.Round}
+use Rattle.shop_runs.specs.{Nodes.pieces_in, Round.Told, Entries.{told, is_hit, IsOf}, Crews.{OneForEach, IsEntryOf}}
+use Rattle.shop_runs.proofs.{PieceLemmas.numbered_at, GatherLemmas.IsSheetAt}
 
 -- the entry at place n
 pub record IsEntryAt (es : List Entry) (n : ℕ) (e : Entry) : Type 0 where

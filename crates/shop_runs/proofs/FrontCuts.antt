@@ -1,23 +1,14 @@
 -- The front that is cut off a run's open nodes.
-use Rattle.std.proofs.Common.{rules, ◌≡◌, ℕ, ◌*◌, ◌≤◌, List, [], length, drop, sym, ◌∙◌, ap, arith}
+use Rattle.std.proofs.Common.{◌≡◌, ℕ, ◌*◌, ◌≤◌, List, [], length, drop, sym, ◌∙◌, ap, subst, arith}
 use Rattle.std.proofs.lemmas.List.{drop-map, length-map}
 use Rattle.shop_model.specs.Shop.{Shop}
 use Rattle.shop_bound.specs.Bound.{lb}
-use Rattle.shop_nodes.specs.declared.nodes.Node.{Node}
-use Rattle.shop_nodes.specs.Nodes.{words_of}
-use Rattle.shop_runs.specs.Plans.{Planned}
-use Rattle.shop_runs.specs.Round.{cut_into, in_order, least_bound, cut_of}
-use Rattle.shop_runs.specs.Laws.{IsRound}
-use Rattle.shop_runs.specs.Nodes.{pieces_in, ArePieces, told_of}
-use Rattle.shop_runs.specs.inner.NodeLists.{least_of_bounds, nodes_in}
-use Rattle.shop_nodes.specs.declared.pieces.Piece.{Piece}
-use Rattle.shop_runs.proofs.Covering.{cut_is_round}
-use Rattle.shop_runs.proofs.NodeLemmas.{least_is}
-use Rattle.shop_runs.proofs.PieceLemmas.{cut_words, cut_nodes, few_pieces}
-use Rattle.shop_runs.specs.declared.runs.OpenRun.{OpenRun}
-use Rattle.shop_runs.specs.inner.Searches.{IsSearchOf, front_of, stand_of}
-use Rattle.shop_runs.specs.inner.Stores.{open_list}
-use Rattle.shop_runs.proofs.FrontLemmas.{front_is_round}
+use Rattle.shop_nodes.specs.{declared.{nodes.Node.Node, pieces.Piece.Piece}, Nodes.words_of}
+use Rattle.shop_runs.specs.{Plans.Planned, Round.{cut_into, in_order, least_bound, cut_of}, Laws.IsRound}
+use Rattle.shop_runs.specs.{Nodes.{pieces_in, ArePieces, told_of}, inner.NodeLists.{least_of_bounds, nodes_in}}
+use Rattle.shop_runs.specs.{declared.runs.OpenRun.OpenRun, inner.Searches.{IsSearchOf, front_of, stand_of}}
+use Rattle.shop_runs.{specs.inner.Stores.open_list, proofs.{Covering.cut_is_round, NodeLemmas.least_is}}
+use Rattle.shop_runs.proofs.{PieceLemmas.{cut_words, cut_nodes, few_pieces}, FrontLemmas.front_is_round}
 
 -- the first open nodes are cut into pieces, in the round that is made of them
 module _ (shop : Shop) (plan : Planned) (t : OpenRun) (word : List ℕ) (bound : ℕ) (ps : List Piece) (rest : List Node)
@@ -41,7 +32,8 @@ module _ (shop : Shop) (plan : Planned) (t : OpenRun) (word : List ℕ) (bound :
       in grind arith
 
   pub made_round : IsRound (told_of shop word t.makespan bound plan.budget ps rest t.rounds t.nodes)
-  made_round = search (rules, made_told, front_is_round, cut_is_round)
+  made_round = subst IsRound (sym made_told) (front_is_round (cut_of shop plan (stand_of t))
+      (cut_is_round shop plan (stand_of t) of.standing))
 
   pub made_pieces : ArePieces shop ps
   made_pieces = cut_nodes shop ps 256 plan.piece (open_list t.open) pieces of.bounds

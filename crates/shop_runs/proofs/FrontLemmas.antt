@@ -1,36 +1,21 @@
 -- A run whose open nodes stand in order: the front that is cut, and what joins it again.
 use Rattle.std.proofs.Common.{◌≡◌, ℕ, suc, ◌≤◌, ◌<◌, Option, Some, None, List, [], ◌∷◌, ◌++◌, length, drop, refl, sym}
-use Rattle.std.proofs.Common.{◌∙◌, ap, subst, arith, ltb, append-nil, min}
-use Rattle.std.specs.Prelude.{Contains}
-use Rattle.std.specs.List.{AllByRecursion, flat_map}
-use Rattle.std.proofs.lemmas.Bool.{cases_Bool}
+use Rattle.std.proofs.{Common.{◌∙◌, ap, subst, arith, ltb, append-nil, min}, lemmas.Bool.cases_Bool}
 use Rattle.std.proofs.lemmas.List.Elements.{filter-append, recursion_from_All, All-from_recursion, All-filter}
-use Rattle.shop_model.specs.Shop.{Shop}
-use Rattle.shop_model.specs.Word.{IsWord}
-use Rattle.shop_bound.specs.Bound.{lb}
-use Rattle.shop_bound.proofs.Lists.{all_append}
-use Rattle.shop_nodes.specs.Branching.{insert_by, sort_by}
-use Rattle.shop_nodes.specs.Walking.{Walk}
-use Rattle.shop_nodes.specs.declared.nodes.Node.{Node}
-use Rattle.shop_nodes.specs.Nodes.{words_of, IsNode, AreNodes}
-use Rattle.shop_nodes.proofs.Members.{all_contains, contains_all, all_insert, in_all}
-use Rattle.shop_runs.specs.declared.plans.Order.{Order}
-use Rattle.shop_runs.specs.declared.plans.Order.TheVariants.{Kept, Bound}
-use Rattle.shop_runs.specs.declared.open_nodes.OpenNodes.{OpenNodes}
-use Rattle.shop_runs.specs.declared.runs.OpenRun.{OpenRun}
-use Rattle.shop_runs.specs.Round.{Stand, Told, in_order, words_below, sheets_of, up_to_hit}
-use Rattle.shop_runs.specs.Round.{after_round, gathered, makespan_of, least_bound}
-use Rattle.shop_runs.specs.Laws.{IsRound, IsStanding}
-use Rattle.shop_nodes.specs.inner.HeldNodes.{nodes_below}
-use Rattle.shop_runs.specs.inner.Searches.{IsSearchAt, IsSearchOf, front_of, stand_of}
-use Rattle.shop_runs.specs.inner.Stacks.{put_before, put_all_before}
-use Rattle.shop_runs.specs.inner.Stores.{open_list, order_of}
-use Rattle.shop_runs.proofs.Cutting.{all_front}
-use Rattle.shop_runs.proofs.NodeLemmas.{insert_words, below_is}
-use Rattle.shop_runs.proofs.OpenLemmas.{ordered_all}
-use Rattle.shop_runs.proofs.SheetLemmas.{hit_in, found_is}
-use Rattle.shop_runs.proofs.SortLemmas.{Rises, sort_rises, sort_fixed, rises_drop, rises_filter}
-use Rattle.shop_runs.proofs.StandingLemmas.{known, rest_closed}
+use Rattle.std.specs.{Prelude.Contains, List.{AllByRecursion, flat_map}}
+use Rattle.shop_model.specs.{Shop.Shop, Word.IsWord}
+use Rattle.shop_bound.{specs.Bound.lb, proofs.Lists.all_append}
+use Rattle.shop_nodes.specs.{Branching.{insert_by, sort_by}, Walking.Walk, declared.nodes.Node.Node, Nodes.words_of}
+use Rattle.shop_nodes.{specs.{Nodes.{IsNode, AreNodes}, inner.HeldNodes.nodes_below}, proofs.Members.all_contains}
+use Rattle.shop_nodes.proofs.Members.{contains_all, all_insert, in_all}
+use Rattle.shop_runs.specs.declared.{plans.Order.{Order, TheVariants.{Kept, Bound}}, open_nodes.OpenNodes.OpenNodes}
+use Rattle.shop_runs.specs.{declared.runs.OpenRun.OpenRun, Round.{Stand, Told, in_order, words_below, sheets_of}}
+use Rattle.shop_runs.specs.{Round.{up_to_hit, after_round, gathered, makespan_of, least_bound}, Laws.IsRound}
+use Rattle.shop_runs.specs.{Laws.IsStanding, inner.Searches.{IsSearchAt, IsSearchOf, front_of, stand_of}}
+use Rattle.shop_runs.specs.inner.{Stacks.{put_before, put_all_before}, Stores.{open_list, order_of}}
+use Rattle.shop_runs.proofs.{Cutting.all_front, NodeLemmas.{insert_words, below_is}, OpenLemmas.ordered_all}
+use Rattle.shop_runs.proofs.{SheetLemmas.{hit_in, found_is}, SortLemmas.{Rises, sort_rises, sort_fixed, rises_drop}}
+use Rattle.shop_runs.proofs.{SortLemmas.rises_filter, StandingLemmas.{known, rest_closed}}
 
 -- the open nodes of a run are those left, put before the others whose bounds are below the makespan
 pub record IsJoined (left : List Node) (others : OpenNodes) (t : OpenRun) : Type 0 where

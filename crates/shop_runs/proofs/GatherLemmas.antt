@@ -1,26 +1,15 @@
 -- Entries gathered in turn.
 use Rattle.std.proofs.Common.{rules, ◌≡◌, ℕ, zero, suc, ◌+◌, ◌*◌, ◌≤◌, ◌<◌, Bool, false, cond, List, [], ◌∷◌, ◌++◌, map}
-use Rattle.std.proofs.Common.{length, get_or, take, refl, sym, ◌∙◌, ap, subst, arith, eqb, ltb}
-use Rattle.std.specs.Prelude.{unwrap_or, slice_index_or}
-use Rattle.std.specs.List.{flat_map, fold, sum_by}
-use Rattle.std.proofs.lemmas.Bool.{cases_lt}
-use Rattle.std.proofs.lemmas.List.{take_more, length-map, flat_map_more, map-append}
-use Rattle.std.proofs.lemmas.List.Sums.{sum_by-append, fold-append}
-use Rattle.std.proofs.lemmas.List.Elements.{All-append}
-use Rattle.shop_nodes.specs.declared.sheets.Sheet.{Sheet}
-use Rattle.shop_nodes.specs.Nodes.{words_of, IsNode, AreNodes}
+use Rattle.std.proofs.{Common.{length, get_or, take, refl, sym, ◌∙◌, ap, subst, arith, eqb, ltb}, lemmas.Bool.cases_lt}
+use Rattle.std.proofs.lemmas.List.{take_more, length-map, flat_map_more, map-append, Sums.{sum_by-append, fold-append}}
+use Rattle.std.{proofs.lemmas.List.Elements.All-append, specs.{Prelude.{unwrap_or, slice_index_or}, List.flat_map}}
+use Rattle.std.specs.List.{fold, sum_by}
+use Rattle.shop_nodes.specs.{declared.sheets.Sheet.Sheet, Nodes.{words_of, IsNode, AreNodes}, Pieces.words_below}
+use Rattle.shop_nodes.specs.{Walking.Walk, Laws.AreWords, Left.open_nodes, Sheets.walk_of}
 use Rattle.shop_model.specs.Shop.{Shop}
-use Rattle.shop_nodes.specs.Pieces.{words_below}
-use Rattle.shop_nodes.specs.Walking.{Walk}
-use Rattle.shop_nodes.specs.Laws.{AreWords}
-use Rattle.shop_nodes.specs.Left.{open_nodes}
-use Rattle.shop_nodes.specs.Sheets.{walk_of}
-use Rattle.shop_runs.specs.Round.{Told, taken_of, sheet_in, sheets_of}
-use Rattle.shop_runs.specs.Entries.{is_hit, IsOf}
-use Rattle.shop_runs.specs.inner.Outcomes.{open_of, left_open, TakesIn}
-use Rattle.shop_runs.specs.declared.outcomes.RoundResult.{RoundResult}
-use Rattle.shop_runs.proofs.OpenWords.{words_open, nodes_open}
-use Rattle.shop_runs.proofs.SheetLemmas.{better_of, first_of}
+use Rattle.shop_runs.specs.{Round.{Told, taken_of, sheet_in, sheets_of}, Entries.{is_hit, IsOf}, inner.Outcomes.open_of}
+use Rattle.shop_runs.specs.{inner.Outcomes.{left_open, TakesIn}, declared.outcomes.RoundResult.RoundResult}
+use Rattle.shop_runs.proofs.{OpenWords.{words_open, nodes_open}, SheetLemmas.{better_of, first_of}}
 
 -- the first of least makespan among the opening best and these sheets
 abbrev pub best_among : Told → List Walk → Walk

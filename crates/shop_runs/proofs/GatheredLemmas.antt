@@ -1,23 +1,13 @@
 -- What stands after a round.
-use Rattle.std.proofs.Common.{arith, ◌≡◌, ◌+◌, ◌++◌, sym, ◌∙◌, ap, subst, ltb}
-use Rattle.std.specs.Prelude.{unwrap_or}
-use Rattle.std.proofs.lemmas.List.{map-append}
-use Rattle.std.proofs.lemmas.List.Elements.{All-append, All-filter}
+use Rattle.std.proofs.{Common.{arith, ◌≡◌, ◌+◌, ◌++◌, sym, ◌∙◌, ap, subst, ltb}, lemmas.List.map-append}
+use Rattle.std.{proofs.lemmas.List.Elements.{All-append, All-filter}, specs.Prelude.unwrap_or}
 use Rattle.shop_model.specs.Shop.{Shop}
 use Rattle.shop_bound.specs.Bound.{lb}
-use Rattle.shop_nodes.specs.declared.nodes.Node.{Node}
-use Rattle.shop_nodes.specs.Nodes.{words_of, IsNode, AreNodes}
-use Rattle.shop_runs.specs.declared.outcomes.RoundResult.{RoundResult}
-use Rattle.shop_runs.specs.declared.rounds.Round.{Round}
-use Rattle.shop_runs.specs.declared.standings.Standing.{Standing}
-use Rattle.shop_runs.specs.Round.{Stand, gathered, words_below}
-use Rattle.shop_nodes.specs.inner.HeldNodes.{nodes_below}
-use Rattle.shop_runs.specs.Laws.{IsStanding, StandsCovering, CoversInRound}
-use Rattle.shop_runs.specs.Entries.{told}
-use Rattle.shop_runs.specs.inner.Outcomes.{left_open, IsOutcome}
-use Rattle.shop_runs.specs.Standings.{stands, StandsAt, IsStandingOf}
-use Rattle.shop_runs.proofs.NodeLemmas.{below_is}
-use Rattle.shop_runs.proofs.StandingLemmas.{gathered_is_standing}
+use Rattle.shop_nodes.specs.{declared.nodes.Node.Node, Nodes.{words_of, IsNode, AreNodes}, inner.HeldNodes.nodes_below}
+use Rattle.shop_runs.specs.declared.{outcomes.RoundResult.RoundResult, rounds.Round.Round, standings.Standing.Standing}
+use Rattle.shop_runs.specs.{Round.{Stand, gathered, words_below}, Laws.{IsStanding, StandsCovering, CoversInRound}}
+use Rattle.shop_runs.specs.{Entries.told, inner.Outcomes.{left_open, IsOutcome}, Standings.{stands, StandsAt}}
+use Rattle.shop_runs.{specs.Standings.IsStandingOf, proofs.{NodeLemmas.below_is, StandingLemmas.gathered_is_standing}}
 use Rattle.shop_runs.proofs.Covering.{gather_covers}
 
 at_own : (shop : Shop) (s : Stand) (t : Standing) → StandsAt shop s t → StandsAt shop (stands t) t

@@ -1,16 +1,11 @@
 -- Nodes against their words: bounds, places by bound, and what is below a makespan.
-use Rattle.std.proofs.Common.{arith, ◌≡◌, ℕ, min, List, [], ◌∷◌, refl, ap, leb, ltb}
-use Rattle.std.specs.List.{AllByRecursion}
-use Rattle.std.proofs.lemmas.Bool.{cases_Bool}
-use Rattle.std.proofs.lemmas.List.Elements.{recursion_from_All}
+use Rattle.std.proofs.{Common.{arith, ◌≡◌, ℕ, min, List, [], ◌∷◌, refl, ap, leb, ltb}, lemmas.Bool.cases_Bool}
+use Rattle.std.{proofs.lemmas.List.Elements.recursion_from_All, specs.List.AllByRecursion}
 use Rattle.shop_model.specs.Shop.{Shop}
 use Rattle.shop_bound.specs.Bound.{lb}
-use Rattle.shop_nodes.specs.declared.nodes.Node.{Node}
-use Rattle.shop_nodes.specs.Branching.{insert_by}
-use Rattle.shop_nodes.specs.Nodes.{words_of, IsNode, AreNodes}
-use Rattle.shop_runs.specs.Round.{words_below, least_bound}
+use Rattle.shop_nodes.specs.{declared.nodes.Node.Node, Branching.insert_by, Nodes.{words_of, IsNode, AreNodes}}
 use Rattle.shop_nodes.specs.inner.HeldNodes.{nodes_below}
-use Rattle.shop_runs.specs.inner.NodeLists.{least_of_bounds}
+use Rattle.shop_runs.specs.{Round.{words_below, least_bound}, inner.NodeLists.least_of_bounds}
 
 module _ (shop : Shop) where
   least_by_recursion : (c : ℕ) (ns : List Node) → AllByRecursion (IsNode shop) ns

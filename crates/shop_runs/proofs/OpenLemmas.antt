@@ -1,17 +1,11 @@
 -- Open words: their order, their least bound, and what is below a makespan.
-use Rattle.std.proofs.Common.{◌≡◌, ℕ, ◌≤◌, ◌<◌, min, ◌⊎◌, List, [], ◌∷◌, ◌++◌, arith, ltb}
-use Rattle.std.specs.List.{AllByRecursion}
-use Rattle.std.proofs.lemmas.Bool.{cases_Bool, ltb-true, ltb-false}
-use Rattle.shop_model.specs.Shop.{Shop, Starts, IsFeasible, end_of}
-use Rattle.shop_model.specs.Word.{IsWord, IsFull, IsUnder}
-use Rattle.shop_bound.specs.Bound.{lb}
-use Rattle.shop_bound.proofs.BoundLaw.{lb-le-end}
-use Rattle.shop_bound.proofs.Lists.{all_filter}
+use Rattle.std.proofs.{Common.{◌≡◌, ℕ, ◌≤◌, ◌<◌, min, ◌⊎◌, List, [], ◌∷◌, ◌++◌, arith, ltb}, lemmas.Bool.cases_Bool}
+use Rattle.std.{proofs.lemmas.Bool.{ltb-true, ltb-false}, specs.List.AllByRecursion}
+use Rattle.shop_model.specs.{Shop.{Shop, Starts, IsFeasible, end_of}, Word.{IsWord, IsFull, IsUnder}}
+use Rattle.shop_bound.{specs.Bound.lb, proofs.{BoundLaw.lb-le-end, Lists.all_filter}}
 use Rattle.shop_nodes.specs.Laws.{HasBetter}
 use Rattle.shop_nodes.proofs.Members.{In, in_contains, contains_in, contains_all, in_all, all_sort, in_sort, in_filter}
-use Rattle.shop_runs.specs.declared.plans.Order.{Order}
-use Rattle.shop_runs.specs.Round.{in_order, words_below, least_bound}
-use Rattle.shop_runs.specs.Laws.{IsStanding}
+use Rattle.shop_runs.specs.{declared.plans.Order.Order, Round.{in_order, words_below, least_bound}, Laws.IsStanding}
 
 -- the least bound is at most the makespan, and at most each bound
 pub least_bound-le : (shop : Shop) (c : ℕ) (ws : List (List ℕ))

@@ -1,14 +1,8 @@
 -- Words left, as open nodes.
-use Rattle.std.proofs.Common.{arith, ◌≡◌, ℕ, List, [], ◌∷◌, refl}
-use Rattle.std.specs.List.{AllByRecursion}
-use Rattle.std.proofs.lemmas.Bool.{cases_Bool}
-use Rattle.std.proofs.lemmas.List.Elements.{All-from_recursion}
-use Rattle.shop_model.specs.Shop.{Shop}
-use Rattle.shop_model.specs.Word.{IsWord}
-use Rattle.shop_nodes.specs.Laws.{AreWords}
-use Rattle.shop_nodes.specs.Left.{open_nodes}
-use Rattle.shop_nodes.specs.Nodes.{words_of, IsNode, AreNodes}
-use Rattle.shop_nodes.specs.Pieces.{words_below}
+use Rattle.std.proofs.{Common.{arith, ◌≡◌, ℕ, List, [], ◌∷◌, refl}, lemmas.Bool.cases_Bool}
+use Rattle.std.{proofs.lemmas.List.Elements.All-from_recursion, specs.List.AllByRecursion}
+use Rattle.shop_model.specs.{Shop.Shop, Word.IsWord}
+use Rattle.shop_nodes.specs.{Laws.AreWords, Left.open_nodes, Nodes.{words_of, IsNode, AreNodes}, Pieces.words_below}
 use Rattle.shop_nodes.proofs.Members.{all_contains}
 
 pub words_open : (shop : Shop) (c : ℕ) (ws : List (List ℕ)) → words_of (open_nodes shop c ws) ≡ words_below shop c ws

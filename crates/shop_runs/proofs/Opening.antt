@@ -1,14 +1,8 @@
 -- The start word is full.
-use Rattle.std.proofs.Common.{◌≡◌, ℕ, zero, suc, ◌+◌, ◌≤◌, ◌<◌, ◌⊎◌, inl, inr, cond, List, ◌∷◌, length, refl, ap}
-use Rattle.std.proofs.Common.{arith, eqb}
-use Rattle.std.specs.Prelude.{replicate}
-use Rattle.std.specs.List.{flat_map, range_with_len}
-use Rattle.std.proofs.lemmas.Bool.{cases_lt}
-use Rattle.std.proofs.lemmas.Bool.Decides.{eqb_tells}
-use Rattle.std.proofs.lemmas.List.{get_or_past}
-use Rattle.std.proofs.lemmas.List.Sums.{sum_by-cons, sum_by-append}
-use Rattle.shop_model.specs.Shop.{Shop, ShopJob, no_job, route_of}
-use Rattle.shop_model.specs.Word.{count_of, IsFull, start_jobs}
+use Rattle.std.proofs.Common.{◌≡◌, ℕ, zero, suc, ◌+◌, ◌≤◌, ◌<◌, ◌⊎◌, inl, inr, cond, List, ◌∷◌, length, refl, ap, arith}
+use Rattle.std.proofs.{Common.eqb, lemmas.{Bool.{cases_lt, Decides.eqb_tells}, List.{get_or_past, Sums.sum_by-cons}}}
+use Rattle.std.{proofs.lemmas.List.Sums.sum_by-append, specs.{Prelude.replicate, List.{flat_map, range_with_len}}}
+use Rattle.shop_model.specs.{Shop.{Shop, ShopJob, no_job, route_of}, Word.{count_of, IsFull, start_jobs}}
 
 count-replicate : (j i n : ℕ) → count_of j (replicate n i) ≡ cond (eqb i j) n 0
 count-replicate j i zero = elim (eqb_tells i j) [ inl e ↦ rw e.0 refl | inr e ↦ rw e.0 refl ]

@@ -1,27 +1,19 @@
 -- What the entries of a round come to: at the first sheet that ends at the opening bound, or at the end.
 use Rattle.std.proofs.Common.{◌≡◌, ℕ, zero, suc, ◌+◌, ◌≤◌, ◌<◌, Bool, true, false, Some, None, List, [], ◌∷◌, ◌++◌}
 use Rattle.std.proofs.Common.{length, get_or, take, refl, sym, ◌∙◌, ap, arith, eqb, ltb, eqb-true}
-use Rattle.std.specs.Prelude.{unwrap_or}
+use Rattle.std.{proofs.lemmas.List.{take_all, length-map, Elements.filter-append}, specs.Prelude.unwrap_or}
 use Rattle.std.specs.List.{AllByRecursion, flat_map, sum_by}
-use Rattle.std.proofs.lemmas.List.{take_all, length-map}
-use Rattle.std.proofs.lemmas.List.Elements.{filter-append}
 use Rattle.shop_model.specs.Shop.{Shop}
 use Rattle.shop_bound.specs.Bound.{lb}
-use Rattle.shop_nodes.proofs.HighWalks.{below-below}
-use Rattle.shop_nodes.specs.declared.sheets.Sheet.{Sheet}
-use Rattle.shop_nodes.specs.Nodes.{words_of}
-use Rattle.shop_nodes.specs.Walking.{Walk}
-use Rattle.shop_nodes.proofs.Members.{in_all, all_in}
-use Rattle.shop_runs.specs.Round.{Told, taken_of, hit_or, up_to_hit, best_word, sheet_in, sheets_of}
-use Rattle.shop_runs.specs.Round.{after_round, gathered, words_below}
-use Rattle.shop_runs.specs.Laws.{IsRound}
-use Rattle.shop_runs.specs.inner.Outcomes.{IsOutcome, left_open, stands_after}
-use Rattle.shop_runs.specs.declared.outcomes.RoundResult.{RoundResult}
-use Rattle.shop_runs.specs.Entries.{is_hit}
-use Rattle.shop_runs.proofs.SheetLemmas.{hit_in, found_is, least_is_bound}
-use Rattle.shop_runs.proofs.StandingLemmas.{known, best_of_round, rest_closed}
-use Rattle.shop_runs.proofs.GatherLemmas.{GatheredSoFar, IsSheetAt, whole_of, below_best, best_among, first_sheets}
-use Rattle.shop_runs.proofs.GatherLemmas.{map_at, inside, at_place, next_sheets, next_taken, few_here}
+use Rattle.shop_nodes.{proofs.{HighWalks.below-below, Members.{in_all, all_in}}, specs.declared.sheets.Sheet.Sheet}
+use Rattle.shop_nodes.specs.{Nodes.words_of, Walking.Walk}
+use Rattle.shop_runs.specs.Round.{Told, taken_of, hit_or, up_to_hit, best_word, sheet_in, sheets_of, after_round}
+use Rattle.shop_runs.specs.{Round.{gathered, words_below}, Laws.IsRound, inner.Outcomes.{IsOutcome, left_open}}
+use Rattle.shop_runs.specs.{inner.Outcomes.stands_after, declared.outcomes.RoundResult.RoundResult, Entries.is_hit}
+use Rattle.shop_runs.proofs.{SheetLemmas.{hit_in, found_is, least_is_bound}, StandingLemmas.{known, best_of_round}}
+use Rattle.shop_runs.proofs.{StandingLemmas.rest_closed, GatherLemmas.{GatheredSoFar, IsSheetAt, whole_of, below_best}}
+use Rattle.shop_runs.proofs.GatherLemmas.{best_among, first_sheets, map_at, inside, at_place, next_sheets, next_taken}
+use Rattle.shop_runs.proofs.GatherLemmas.{few_here}
 
 -- the first of some walks that ends at c, where none before it does
 hit_at : (c : ℕ) (ss : List Walk) (i : ℕ) (w : Walk) → i < length ss

@@ -1,17 +1,13 @@
 -- Nodes cut into pieces.
 use Rattle.std.proofs.Common.{◌≡◌, ℕ, zero, suc, ◌+◌, ◌-◌, ◌*◌, ◌≤◌, ◌<◌, Bool, true, false, ◌&&◌, List, [], ◌∷◌, ◌++◌}
 use Rattle.std.proofs.Common.{map, length, get_or, take, drop, refl, sym, ◌∙◌, ap, subst, arith, eqb, append_assoc}
+use Rattle.std.proofs.lemmas.{Bool.{eqb-true, eq-eqb}, List.{map-append, take-take, drop-take, take-map, drop-map}}
+use Rattle.std.proofs.lemmas.List.{append-nil, take_all, drop_all, length-drop, Elements.recursion_from_All}
+use Rattle.std.proofs.lemmas.List.Elements.{All-from_recursion}
 use Rattle.std.specs.List.{AllByRecursion}
-use Rattle.std.proofs.lemmas.Bool.{eqb-true, eq-eqb}
-use Rattle.std.proofs.lemmas.List.{map-append, take-take, drop-take, take-map, drop-map, append-nil}
-use Rattle.std.proofs.lemmas.List.Elements.{recursion_from_All, All-from_recursion}
 use Rattle.shop_model.specs.Shop.{Shop}
-use Rattle.shop_nodes.specs.declared.nodes.Node.{Node}
-use Rattle.shop_nodes.specs.declared.pieces.Piece.{Piece}
-use Rattle.shop_nodes.specs.Nodes.{words_of, IsNode, AreNodes}
-use Rattle.shop_runs.specs.Round.{cut_into}
-use Rattle.shop_runs.specs.Nodes.{pieces_in, ArePieces, numbered}
-use Rattle.shop_runs.specs.inner.NodeLists.{nodes_in}
+use Rattle.shop_nodes.specs.{declared.{nodes.Node.Node, pieces.Piece.Piece}, Nodes.{words_of, IsNode, AreNodes}}
+use Rattle.shop_runs.specs.{Round.cut_into, Nodes.{pieces_in, ArePieces, numbered}, inner.NodeLists.nodes_in}
 
 both : (a b : Bool) → (a && b) ≡ true → (a ≡ true) × (b ≡ true)
 both x b e = grind arith
@@ -141,6 +137,13 @@ module _ {A : Type 0} where
   -- where a piece of some size is empty, nothing is left
   pub take_none : (n : ℕ) (xs : List A) → 0 < n → length (take n xs) ≡ 0 → xs ≡ []
   take_none y xs h e = grind arith
+
+  -- all were taken
+  pub all_taken : (xs : List A) (n most : ℕ) → drop n xs ≡ [] → n ≤ most
+      → (take n xs ≡ take most xs) × ([] ≡ drop most xs)
+  all_taken xs n most none le =
+      let few = sym (length-drop n xs) ∙ ap length none
+      in (take_all n xs (omega arith) ∙ sym (take_all most xs (omega arith)), sym (drop_all most xs (omega arith)))
 
 -- once nothing is left, or no piece may be added, the pieces are all
 pub cut_empty : (ps : List Piece) (m size : ℕ) (rest : List Node) (cut : List (List Node)) → rest ≡ []

@@ -1,11 +1,8 @@
 -- The pieces of a round that end at its opening bound.
 use Rattle.std.proofs.Common.{◌≡◌, ℕ, zero, suc, ◌<◌, List, [], ◌∷◌, length, map, get_or, Bool, true, false, true≢false}
-use Rattle.std.proofs.Common.{sym, ◌∙◌, arith}
-use Rattle.std.proofs.lemmas.List.{length-map, get_or-map}
+use Rattle.std.proofs.{Common.{sym, ◌∙◌, arith}, lemmas.List.{length-map, get_or-map}}
 use Rattle.shop_runs.specs.Entries as entries
-use Rattle.shop_runs.specs.Entries.{told}
-use Rattle.shop_runs.specs.declared.rounds.Round.{Round}
-use Rattle.shop_runs.specs.Hits.{hits_of_round, is_hit_in, IsHitOrEnd}
+use Rattle.shop_runs.specs.{Entries.told, declared.rounds.Round.Round, Hits.{hits_of_round, is_hit_in, IsHitOrEnd}}
 
 pub hits_length : (r : Round) → length (hits_of_round r) ≡ length r.pieces.items
 hits_length r = length-map _ _ ∙ length-map r.pieces.items _

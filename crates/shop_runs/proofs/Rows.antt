@@ -1,13 +1,9 @@
 -- Worked answers, computed from the definitions.
 use Rattle.std.proofs.Common.{◌≡◌, ℕ, List, [], ◌∷◌, refl, map, length}
-use Rattle.shop_model.proofs.Rows.{op, job, shop_a, shop_g}
-use Rattle.shop_nodes.proofs.Rows.{shop_z}
-use Rattle.shop_model.specs.Shop.{Shop, ShopJob}
-use Rattle.shop_model.specs.Word.{placed, rows_of}
+use Rattle.shop_model.{proofs.Rows.{op, job, shop_a, shop_g}, specs.{Shop.{Shop, ShopJob}, Word.{placed, rows_of}}}
 use Rattle.shop_model.specs.declared.ops.Op.{Op}
-use Rattle.shop_runs.specs.Answers.{answer, bound_of}
-use Rattle.shop_runs.specs.Plans.{Planned}
-use Rattle.shop_runs.specs.Round.{makespan_of}
+use Rattle.shop_nodes.proofs.Rows.{shop_z}
+use Rattle.shop_runs.specs.{Answers.{answer, bound_of}, Plans.Planned, Round.makespan_of}
 use Rattle.shop_runs.specs.declared.plans.Order.TheVariants.{Kept, Bound}
 
 abbrev pub plan : ℕ → ℕ → Planned

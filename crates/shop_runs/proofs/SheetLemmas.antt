@@ -1,16 +1,11 @@
 -- The sheets of a round: the best word of them, and the first that ends at a bound.
 use Rattle.std.proofs.Common.{rules, ◌≡◌, ℕ, ◌≤◌, ◌<◌, inl, inr, false, cond, Option, Some, None, List, [], ◌∷◌, map}
-use Rattle.std.proofs.Common.{refl, sym, ◌∙◌, ap, subst, arith, ltb, eqb}
-use Rattle.std.specs.Prelude.{unwrap_or}
-use Rattle.std.specs.List.{AllByRecursion, flat_map, fold}
-use Rattle.std.proofs.lemmas.Bool.{cases_Bool, ltb-true, ltb-false, eqb-true}
-use Rattle.shop_model.specs.Shop.{Shop}
-use Rattle.shop_model.specs.Word.{IsWord, IsFull}
-use Rattle.shop_bound.specs.Bound.{lb}
-use Rattle.shop_bound.proofs.Lists.{all_append}
-use Rattle.shop_nodes.specs.Walking.{Walk}
-use Rattle.shop_nodes.specs.Laws.{IsBestOf}
-use Rattle.shop_nodes.proofs.Members.{In, all_contains, contains_all}
+use Rattle.std.proofs.{Common.{refl, sym, ◌∙◌, ap, subst, arith, ltb, eqb}, lemmas.Bool.{cases_Bool, ltb-true}}
+use Rattle.std.{proofs.lemmas.Bool.{ltb-false, eqb-true}, specs.{Prelude.unwrap_or, List.{AllByRecursion, flat_map}}}
+use Rattle.std.specs.List.{fold}
+use Rattle.shop_model.specs.{Shop.Shop, Word.{IsWord, IsFull}}
+use Rattle.shop_bound.{specs.Bound.lb, proofs.Lists.all_append}
+use Rattle.shop_nodes.{specs.{Walking.Walk, Laws.IsBestOf}, proofs.Members.{In, all_contains, contains_all}}
 use Rattle.shop_nodes.proofs.Found.{searches_keep}
 use Rattle.shop_runs.specs.Round.{Told, sheet_in, hit_or, up_to_hit, best_word}
 

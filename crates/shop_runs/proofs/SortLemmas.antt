@@ -1,10 +1,8 @@
 -- Lists in order of a key: what is sorted, and what stays in order.
 use Rattle.std.proofs.Common.{ℕ, zero, suc, ◌≡◌, ◌≤◌, Bool, inl, inr, List, [], ◌∷◌, drop, filter, refl, ◌∙◌, ap, arith}
-use Rattle.std.specs.List.{AllByRecursion}
-use Rattle.std.proofs.lemmas.Bool.{cases_Bool, leb-true, leb-false, le-leb}
+use Rattle.std.{proofs.lemmas.Bool.{cases_Bool, leb-true, leb-false, le-leb}, specs.List.AllByRecursion}
 use Rattle.shop_bound.proofs.Lists.{all_filter, all_map}
-use Rattle.shop_nodes.specs.Branching.{insert_by, sort_by}
-use Rattle.shop_nodes.proofs.Members.{all_insert}
+use Rattle.shop_nodes.{specs.Branching.{insert_by, sort_by}, proofs.Members.all_insert}
 
 module _ {A : Type 0} (key : A → ℕ) where
   -- the key of each element is at most that of each later one

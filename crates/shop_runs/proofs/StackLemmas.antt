@@ -1,24 +1,14 @@
 -- Stacks of words by bound: what is put among them, taken from them, and let go.
-use Rattle.std.proofs.Common.{◌≡◌, ℕ, ◌≤◌, ◌<◌, min, inl, inr, cond, Option, Some, None, List, [], ◌∷◌, ◌++◌}
-use Rattle.std.specs.Prelude.{slice_get}
-use Rattle.std.proofs.Common.{refl, sym, ◌∙◌, ap, subst, arith, ltb, flat_map, reverse}
-use Rattle.std.specs.List.{AllByRecursion, All}
-use Rattle.std.specs.List.Sorted.{IsStrictlySortedBy}
-use Rattle.std.specs.Map.{keys_of, lookup}
-use Rattle.std.specs.BTreeMap.{is_at, insert_entry}
-use Rattle.std.specs.BTreeMap.Range.{IsLtBy, IsLeBy, entries_below}
-use Rattle.std.specs.Cmp.{nat_cmp_is}
-use Rattle.std.specs.Ordering.{nat_cmp, is_gt}
-use Rattle.std.proofs.lemmas.Cmp.{ranked}
-use Rattle.std.specs.declared.cmp.Ordering.TheVariants.{Less, Equal, Greater}
-use Rattle.std.proofs.lemmas.Bool.{cases_Bool, cases_lt, cases_eq, lt-ltb, le-ltb, le-leb, lt-leb, ltb-false}
-use Rattle.std.proofs.lemmas.List.Elements.{recursion_from_All, filter-append}
-use Rattle.shop_nodes.specs.declared.nodes.Node.{Node}
-use Rattle.shop_nodes.specs.Branching.{insert_by}
-use Rattle.shop_runs.specs.declared.stacks.Stack.{Stack}
-use Rattle.shop_nodes.specs.inner.HeldNodes.{nodes_below}
-use Rattle.shop_runs.specs.inner.NodeLists.{least_of_bounds}
-use Rattle.shop_runs.specs.inner.Stacks.{words_on, nodes_of_bound, nodes_by_bound}
+use Rattle.std.proofs.Common.{◌≡◌, ℕ, ◌≤◌, ◌<◌, min, inl, inr, cond, Option, Some, None, List, [], ◌∷◌, ◌++◌, refl, sym}
+use Rattle.std.proofs.{Common.{◌∙◌, ap, subst, arith, ltb, flat_map, reverse}, lemmas.{Cmp.ranked, Bool.cases_Bool}}
+use Rattle.std.proofs.lemmas.Bool.{cases_lt, cases_eq, lt-ltb, le-ltb, le-leb, lt-leb, ltb-false}
+use Rattle.std.{proofs.lemmas.List.Elements.{recursion_from_All, filter-append}, specs.Prelude.slice_get}
+use Rattle.std.specs.{List.{AllByRecursion, All, Sorted.IsStrictlySortedBy}, Map.{keys_of, lookup}, BTreeMap.is_at}
+use Rattle.std.specs.{BTreeMap.{insert_entry, Range.{IsLtBy, IsLeBy, entries_below}}, Cmp.nat_cmp_is, Ordering.nat_cmp}
+use Rattle.std.specs.{Ordering.is_gt, declared.cmp.Ordering.TheVariants.{Less, Equal, Greater}}
+use Rattle.shop_nodes.specs.{declared.nodes.Node.Node, Branching.insert_by, inner.HeldNodes.nodes_below}
+use Rattle.shop_runs.specs.{declared.stacks.Stack.Stack, inner.{NodeLists.least_of_bounds, Stacks.words_on}}
+use Rattle.shop_runs.specs.inner.Stacks.{nodes_of_bound, nodes_by_bound}
 
 cmp_less : (a b : ℕ) → a < b → nat_cmp a b ≡ Less
 cmp_less a b h = sym (nat_cmp_is a b Less h)

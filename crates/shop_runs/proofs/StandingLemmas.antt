@@ -2,17 +2,12 @@
 use Rattle.std.proofs.Common.{◌≡◌, ◌≤◌, Option, Some, None, List, [], ◌++◌, refl, arith}
 use Rattle.std.specs.List.{AllByRecursion, flat_map}
 use Rattle.shop_model.specs.Word.{IsWord}
-use Rattle.shop_bound.specs.Bound.{lb}
-use Rattle.shop_bound.proofs.Lists.{all_append}
-use Rattle.shop_nodes.specs.Walking.{Walk}
-use Rattle.shop_nodes.proofs.HighWalks.{none_below}
-use Rattle.shop_nodes.proofs.Members.{all_contains, in_all}
+use Rattle.shop_bound.{specs.Bound.lb, proofs.Lists.all_append}
+use Rattle.shop_nodes.{specs.Walking.Walk, proofs.{HighWalks.none_below, Members.{all_contains, in_all}}}
 use Rattle.shop_runs.specs.Round.{Told, gathered, words_of_round, sheets_of, up_to_hit, best_word, after_round}
-use Rattle.shop_runs.specs.Round.{words_below}
-use Rattle.shop_runs.specs.Laws.{IsStanding, IsRound}
-use Rattle.shop_runs.proofs.Cutting.{all_front, all_back, all_pieces}
-use Rattle.shop_runs.proofs.OpenLemmas.{standing_from}
-use Rattle.shop_runs.proofs.SheetLemmas.{IsOfRound, sheets_known, left_words, IsBestWord, best_is, hit_in, found_is}
+use Rattle.shop_runs.{specs.{Round.words_below, Laws.{IsStanding, IsRound}}, proofs.Cutting.{all_front, all_back}}
+use Rattle.shop_runs.proofs.{Cutting.all_pieces, OpenLemmas.standing_from, SheetLemmas.{IsOfRound, sheets_known}}
+use Rattle.shop_runs.proofs.SheetLemmas.{left_words, IsBestWord, best_is, hit_in, found_is}
 
 module _ (r : Told) (is : IsRound r) where
   all : AllByRecursion (IsWord r.shop) (words_of_round r)

@@ -1,14 +1,10 @@
 -- Where a search begins: the empty word is open where its bound is below the makespan.
 use Rattle.std.proofs.Common.{◌≡◌, ℕ, ◌≤◌, ◌<◌, List, [], ◌∷◌, sym, ◌∙◌, ap, subst, arith, cond, ltb}
 use Rattle.std.proofs.lemmas.Bool.{lt-ltb, le-ltb}
-use Rattle.shop_model.specs.Shop.{Shop}
-use Rattle.shop_model.specs.Word.{start_jobs}
+use Rattle.shop_model.specs.{Shop.Shop, Word.start_jobs}
 use Rattle.shop_bound.specs.Bound.{lb}
-use Rattle.shop_nodes.specs.declared.nodes.Node.{Node}
-use Rattle.shop_nodes.specs.Nodes.{words_of, AreNodes}
-use Rattle.shop_runs.specs.Round.{Stand, words_below}
-use Rattle.shop_runs.specs.Laws.{StandsCovering}
-use Rattle.shop_runs.proofs.Covering.{opens_covering}
+use Rattle.shop_nodes.specs.{declared.nodes.Node.Node, Nodes.{words_of, AreNodes}}
+use Rattle.shop_runs.{specs.{Round.{Stand, words_below}, Laws.StandsCovering}, proofs.Covering.opens_covering}
 
 module _ (shop : Shop) (makespan : ℕ) (root : Node) (e : makespan ≡ lb shop (start_jobs shop)) (w : root.word ≡ [])
     (b : root.bound ≡ lb shop []) where

@@ -1,15 +1,10 @@
 -- Open nodes in the order of the next cut, through what is put, taken and let go.
 use Rattle.std.proofs.Common.{◌≡◌, ℕ, suc, min, Bool, true, false, List, [], ◌∷◌, ◌++◌, length, append-nil, ltb}
-use Rattle.std.proofs.Common.{reverse, refl, sym, ◌∙◌, ap, arith, eqb, filter, inl, inr, cond}
+use Rattle.std.proofs.{Common.{reverse, refl, sym, ◌∙◌, ap, arith, eqb, filter, inl, inr, cond}, lemmas.Bool.cases_Bool}
+use Rattle.std.proofs.lemmas.{Bool.{cases_lt, ne_eqb, lt-ltb, le-ltb}, List.{Elements.filter-append, reverse-append}}
 use Rattle.std.specs.Prelude.{IsTrue, ◌↔◌}
-use Rattle.std.proofs.lemmas.Bool.{cases_Bool, cases_lt, ne_eqb, lt-ltb, le-ltb}
-use Rattle.std.proofs.lemmas.List.Elements.{filter-append}
-use Rattle.std.proofs.lemmas.List.{reverse-append}
-use Rattle.shop_nodes.specs.declared.nodes.Node.{Node}
-use Rattle.shop_runs.specs.declared.stacks.Stack.{Stack}
-use Rattle.shop_runs.specs.declared.plans.Order.{Order}
-use Rattle.shop_nodes.specs.inner.HeldNodes.{nodes_below}
-use Rattle.shop_runs.specs.inner.NodeLists.{least_of_bounds}
+use Rattle.shop_nodes.specs.{declared.nodes.Node.Node, inner.HeldNodes.nodes_below}
+use Rattle.shop_runs.specs.{declared.{stacks.Stack.Stack, plans.Order.Order}, inner.NodeLists.least_of_bounds}
 use Rattle.shop_runs.specs.inner.Stacks.{nodes_by_bound, put_before, put_all_before}
 
 pub reverse-cons : {A : Type 0} (x : A) (xs : List A) → reverse (x ∷ xs) ≡ reverse xs ++ x ∷ []
@@ -29,20 +24,20 @@ least_min c b [] = refl
 least_min c b (n ∷ ns) = grind (arith, least_min (min c n.bound) b ns)
 
 -- what is kept, in reverse
+pub filter-reverse : {A : Type 0} (p : A → Bool) (xs : List A) → reverse (filter p xs) ≡ filter p (reverse xs)
+filter-reverse p [] = refl
+filter-reverse p (x ∷ xs) =
+    let right : filter p (reverse (x ∷ xs)) ≡ filter p (reverse xs) ++ cond (p x) (x ∷ []) [] =
+    ap (filter p) (reverse-cons x xs) ∙ filter-append p (reverse xs) (x ∷ [])
+    in elim (cases_Bool (p x)) [
+      | inl t ↦ rw t (reverse-cons x (filter p xs) ∙ (ap (λ ys. ys ++ x ∷ []) (filter-reverse p xs)
+          ∙ sym (right ∙ ap (λ b. filter p (reverse xs) ++ cond b (x ∷ []) []) t)))
+      | inr f ↦ rw f (filter-reverse p xs ∙ sym (right ∙ (ap (λ b. filter p (reverse xs) ++ cond b (x ∷ []) []) f
+          ∙ append-nil (filter p (reverse xs)))))
+    ]
+
 pub below_reverse : (c : ℕ) (ns : List Node) → reverse (nodes_below c ns) ≡ nodes_below c (reverse ns)
-below_reverse c ns = go (λ n. ltb n.bound c) ns
-  where
-    go : (p : Node → Bool) (xs : List Node) → reverse (filter p xs) ≡ filter p (reverse xs)
-    go p [] = refl
-    go p (x ∷ xs) =
-        let right : filter p (reverse (x ∷ xs)) ≡ filter p (reverse xs) ++ cond (p x) (x ∷ []) [] =
-        ap (filter p) (reverse-cons x xs) ∙ filter-append p (reverse xs) (x ∷ [])
-        in elim (cases_Bool (p x)) [
-          | inl t ↦ rw t (reverse-cons x (filter p xs) ∙ (ap (λ ys. ys ++ x ∷ []) (go p xs)
-              ∙ sym (right ∙ ap (λ b. filter p (reverse xs) ++ cond b (x ∷ []) []) t)))
-          | inr f ↦ rw f (go p xs ∙ sym (right ∙ (ap (λ b. filter p (reverse xs) ++ cond b (x ∷ []) []) f
-              ∙ append-nil (filter p (reverse xs)))))
-        ]
+below_reverse c ns = filter-reverse (λ n. ltb n.bound c) ns
 
 -- of two lists the second is put first
 pub put_append : (o : Order) (ms ns nodes : List Node)

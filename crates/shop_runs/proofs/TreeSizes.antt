@@ -1,14 +1,11 @@
 -- The tree below a word is finite, and each node that a walk takes makes what it leaves smaller.
-use Rattle.std.proofs.Common.{◌≡◌, ℕ, zero, suc, ◌+◌, ◌≤◌, ◌<◌, Bool, List, [], ◌∷◌, ◌++◌, length}
-use Rattle.std.proofs.Common.{map, refl, sym, ◌∙◌, ap, arith, leb}
+use Rattle.std.proofs.Common.{◌≡◌, ℕ, zero, suc, ◌+◌, ◌≤◌, ◌<◌, Bool, List, [], ◌∷◌, ◌++◌, length, map, refl, sym, ◌∙◌}
+use Rattle.std.proofs.{Common.{ap, arith, leb}, lemmas.List.{length-append, Sums.{sum_by-append, sum_by-cons}}}
 use Rattle.std.specs.List.{AllByRecursion, fold, sum_by}
-use Rattle.std.proofs.lemmas.List.{length-append}
-use Rattle.std.proofs.lemmas.List.Sums.{sum_by-append, sum_by-cons}
 use Rattle.shop_model.specs.Shop.{Shop}
 use Rattle.shop_bound.specs.Bound.{lb}
-use Rattle.shop_nodes.specs.Branching.{branch}
-use Rattle.shop_nodes.specs.Walking.{Walk, walk, walk_within, operations_left, taking, unless_cut, sheet}
-use Rattle.shop_nodes.proofs.Members.{all_sort}
+use Rattle.shop_nodes.specs.{Branching.branch, Walking.{Walk, walk, walk_within, operations_left, taking, unless_cut}}
+use Rattle.shop_nodes.{specs.Walking.sheet, proofs.Members.all_sort}
 
 -- how many words stand below a word that lacks this many operations, with the word itself
 abbrev size_within : Shop → ℕ → List ℕ → ℕ

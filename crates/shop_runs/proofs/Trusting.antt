@@ -1,18 +1,13 @@
 -- Rounds keep the cover up to the answer, so it can be trusted.
 use Rattle.std.proofs.Common.{◌≡◌, ℕ, zero, suc, ◌≤◌, inl, inr, List, [], ◌∷◌, length, refl, sym, arith}
 use Rattle.std.proofs.lemmas.List.{append-nil}
-use Rattle.shop_model.specs.Shop.{Shop, Starts, IsFeasible, end_of}
-use Rattle.shop_model.specs.Word.{placed}
-use Rattle.shop_bound.specs.Bound.{lb}
-use Rattle.shop_bound.proofs.BoundLaw.{lb-le-end, full_word}
+use Rattle.shop_model.specs.{Shop.{Shop, Starts, IsFeasible, end_of}, Word.placed}
+use Rattle.shop_bound.{specs.Bound.lb, proofs.BoundLaw.{lb-le-end, full_word}}
 use Rattle.shop_nodes.proofs.Members.{in_contains}
-use Rattle.shop_runs.specs.Plans.{Planned}
-use Rattle.shop_runs.specs.Round.{Stand, round, opening, makespan_of}
-use Rattle.shop_runs.specs.Laws.{StandsCovering}
-use Rattle.shop_runs.proofs.Covering.{opens_covering, round_covers}
+use Rattle.shop_runs.specs.{Plans.Planned, Round.{Stand, round, opening, makespan_of}, Laws.StandsCovering}
+use Rattle.shop_runs.specs.{Answers.{unless_closed, rounds_from, answer, bound_of}, Trust.IsTrustworthy}
+use Rattle.shop_runs.{specs.Trust.AnswersAreTrustworthy, proofs.Covering.{opens_covering, round_covers}}
 use Rattle.shop_runs.proofs.OpenLemmas.{least_bound-le}
-use Rattle.shop_runs.specs.Answers.{unless_closed, rounds_from, answer, bound_of}
-use Rattle.shop_runs.specs.Trust.{IsTrustworthy, AnswersAreTrustworthy}
 
 unless_covers : (shop : Shop) (s : Stand) (go : Stand → Stand) (ws : List (List ℕ)) → StandsCovering shop s
     → StandsCovering shop (go s) → StandsCovering shop (unless_closed ws s go)

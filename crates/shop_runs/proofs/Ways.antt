@@ -1,27 +1,16 @@
 -- Runs on their way to the answer of a plan.
-use Rattle.std.proofs.Common.{◌≡◌, ℕ, ◌+◌, ◌≤◌, ◌<◌, inl, inr, [], ◌++◌, length, All, refl, sym, ◌∙◌}
-use Rattle.std.proofs.Common.{ap}
-use Rattle.std.proofs.Common.{subst, arith, append-nil}
-use Rattle.std.proofs.lemmas.List.{length-map, length-append}
-use Rattle.std.proofs.lemmas.List.Elements.{recursion_from_All}
-use Rattle.shop_model.specs.Shop.{Shop}
-use Rattle.shop_model.specs.Word.{placed, rows_of}
-use Rattle.shop_nodes.specs.declared.nodes.Node.{Node}
-use Rattle.shop_nodes.specs.Nodes.{words_of, AreNodes}
+use Rattle.std.proofs.Common.{◌≡◌, ℕ, ◌+◌, ◌≤◌, ◌<◌, inl, inr, [], ◌++◌, length, All, refl, sym, ◌∙◌, ap, subst, arith}
+use Rattle.std.proofs.{Common.append-nil, lemmas.List.{length-map, length-append, Elements.recursion_from_All}}
+use Rattle.shop_model.specs.{Shop.Shop, Word.{placed, rows_of}}
+use Rattle.shop_nodes.specs.{declared.nodes.Node.Node, Nodes.{words_of, AreNodes}}
 use Rattle.shop_runs.specs.{Plans.Planned, Round.{Stand, round, opening, cut_of}, Answers.answer, Runs.Says}
-use Rattle.shop_runs.specs.Laws.{IsStanding, StandsCovering}
-use Rattle.shop_runs.specs.declared.runs.{Answer.Answer, OpenRun.OpenRun}
-use Rattle.shop_runs.specs.inner.{Distant.HaveCounts, NodeLists.least_of_bounds}
-use Rattle.shop_runs.specs.inner.Searches.{stand_of, in_full, IsSearchAt, IsRunAt, IsRunOf}
-use Rattle.shop_runs.specs.inner.Stores.{open_list, order_of}
+use Rattle.shop_runs.specs.{Laws.{IsStanding, StandsCovering}, declared.runs.{Answer.Answer, OpenRun.OpenRun}}
+use Rattle.shop_runs.specs.inner.{Distant.HaveCounts, NodeLists.least_of_bounds, Searches.{stand_of, in_full}}
+use Rattle.shop_runs.specs.inner.{Searches.{IsSearchAt, IsRunAt, IsRunOf}, Stores.{open_list, order_of}}
 use Rattle.shop_runs.proofs.Answering.{GoesTo, goes_first, goes_on, goes_closed, goes_last, says_search}
-use Rattle.shop_runs.proofs.Counting.{counts_small}
-use Rattle.shop_runs.proofs.Covering.{opens_covering, round_covers}
-use Rattle.shop_runs.proofs.DistantLists.{least_near}
-use Rattle.shop_runs.proofs.DistantRuns.{list_is, order_is, whole, stored_enough}
-use Rattle.shop_runs.proofs.FrontLemmas.{search_of, length_order}
-use Rattle.shop_runs.proofs.KeptBelow.{all_below}
-use Rattle.shop_runs.proofs.Trusting.{none_from}
+use Rattle.shop_runs.proofs.{Counting.counts_small, Covering.{opens_covering, round_covers}, DistantLists.least_near}
+use Rattle.shop_runs.proofs.{DistantRuns.{list_is, order_is, whole, stored_enough}, FrontLemmas.search_of}
+use Rattle.shop_runs.proofs.{FrontLemmas.length_order, KeptBelow.all_below, Trusting.none_from}
 
 -- a run on its way: it stands where the definition does, which covers the instance, and goes to the answer
 pub record OnTheWay (shop : Shop) (plan : Planned) (i : ℕ) (t : OpenRun) : Type 0 where

@@ -1,48 +1,75 @@
 // A stack of open nodes that knows the least of their bounds, for the order `Kept`.
-ghost use Rattle.std.specs.Prelude.{◌≡◌, ◌==◌, ◌∷◌, [], length, OnOk};
+ghost use Rattle.std.specs.Prelude.{◌≡◌, ◌==◌, ◌∷◌, [], length, reverse, OnOk, OnErr};
 ghost use Rattle.shop_nodes.specs.inner.HeldNodes.{nodes_below};
-ghost use Rattle.shop_runs.specs.{inner.NodeLists.least_of_bounds, inner.KeptStacks.{AreLeasts, nodes_of}};
+ghost use Rattle.shop_runs.specs.inner.{NodeLists.least_of_bounds, KeptStacks.{with_bound, without_bound}};
 ghost use Rattle.shop_runs.specs.inner.Stacks.{IsNextOf};
 
 use shop_nodes::{Node, SharedNode};
 use std::alloc::{AllocError as NoMemory, Global};
 use std::marker::Model;
 
-/// A node on a stack, and the least bound among it and the nodes below it on the stack. It takes 32 bytes.
+/// The bound of nodes on a stack that have no lower bound below them: of one node and of `more` others.
 #[derive(Drop)]
-pub(crate) struct StackedNode {
-    pub(crate) node: SharedNode,
-    pub(crate) least: u64,
+pub(crate) struct Least {
+    pub(crate) bound: u64,
+    pub(crate) more: usize,
 }
 
-/// Computes anew the `least` of each node on a stack, from the bottom of the stack up.
-fn tell_leasts(nodes: &mut [StackedNode])
-    ensures leasts { AreLeasts nodes.new }
-    ensures nodes { nodes_of nodes.new ≡ nodes_of nodes.old }
+/// Counts a node of `bound` that is put on a stack with these least bounds. Fails with `NoMemory` if memory runs out;
+/// then nothing has changed.
+fn count_put(leasts: &mut Vec<Least>, bound: u64) -> Result<(), NoMemory>
+    ensures put { OnOk result (reverse leasts.new.items ≡ with_bound bound (reverse leasts.old.items)) }
+    ensures same { OnErr result (leasts.new.items ≡ leasts.old.items) }
 {
-    let mut least = u64::MAX;
-    for stacked in nodes.iter_mut() {
-        least = least.min(stacked.node.bound());
-        stacked.least = least;
+    if let Some(least) = leasts.last_mut() {
+        if least.bound < bound {
+            return Ok(());
+        }
+        if least.bound == bound {
+            least.more = least.more.checked_add(1).ok_or(NoMemory)?;
+            return Ok(());
+        }
     }
+    leasts.push(Least { bound, more: 0 })?;
+    Ok(())
 }
 
-/// A stack of open nodes; `pop` takes the top one. Contracts see the list of nodes from the top down.
+/// Counts a node of `bound` that is taken off a stack with these least bounds.
+fn count_taken(leasts: &mut Vec<Least>, bound: u64)
+    ensures { reverse leasts.new.items ≡ without_bound bound (reverse leasts.old.items) }
+{
+    let Some(least) = leasts.last_mut() else {
+        return;
+    };
+    if least.bound != bound {
+        return;
+    }
+    if least.more > 0 {
+        least.more -= 1;
+        return;
+    }
+    leasts.pop();
+}
+
+/// A stack of open nodes; `pop` takes the top one. A node takes 24 bytes. `leasts` has the bounds of nodes that have no
+/// lower bound below them, each bound once. The last of these is the least bound of all. Contracts see the list of nodes
+/// from the top down.
 #[derive(Drop)]
 pub(crate) struct KeptStack {
-    nodes: Vec<StackedNode>,
+    nodes: Vec<SharedNode>,
+    leasts: Vec<Least>,
 }
 
 impl Model for KeptStack {
-    ghost use Rattle.std.specs.Prelude.{List};
     ghost use Rattle.shop_nodes.specs.declared.nodes.Node.{Node};
-    ghost use Rattle.shop_runs.specs.inner.KeptStacks.{AreLeasts, nodes_from_top};
+    ghost use Rattle.std.specs.Prelude.{List, reverse};
+    ghost use Rattle.shop_runs.specs.inner.KeptStacks.{AreLeasts};
 
     ghost Value = { List Node };
 
-    ghost view = { λ s. nodes_from_top s.nodes.items };
+    ghost view = { λ s. reverse s.nodes.items };
 
-    ghost invariant = { λ s. AreLeasts s.nodes.items };
+    ghost invariant = { λ s. AreLeasts s.nodes.items s.leasts.items };
 }
 
 impl KeptStack {
@@ -52,6 +79,7 @@ impl KeptStack {
     {
         KeptStack {
             nodes: Vec::new(alloc),
+            leasts: Vec::new(alloc),
         }
     }
 
@@ -60,11 +88,11 @@ impl KeptStack {
     pub(crate) fn push(&mut self, node: SharedNode) -> Result<(), NoMemory>
         ensures { OnOk result (self.new ≡ node ∷ self.old) }
     {
-        let least = self.least_bound(node.bound());
         if self.nodes.len() == self.nodes.capacity() {
             self.nodes.reserve_exact(self.nodes.len() / 4 + 4)?;
         }
-        self.nodes.push(StackedNode { node, least })?;
+        count_put(&mut self.leasts, node.bound())?;
+        self.nodes.push(node)?;
         Ok(())
     }
 
@@ -72,26 +100,25 @@ impl KeptStack {
     pub(crate) fn pop(&mut self) -> Option<Node>
         ensures { IsNextOf result self.old self.new }
     {
-        match self.nodes.pop() {
-            Some(stacked) => Some(stacked.node.into_node()),
-            None => None,
-        }
+        let node = self.nodes.pop()?;
+        count_taken(&mut self.leasts, node.bound());
+        Some(node.into_node())
     }
 
     /// Drops the nodes whose bounds are at least `makespan`.
     pub(crate) fn keep_below(&mut self, makespan: u64)
         ensures { self.new ≡ nodes_below makespan self.old }
     {
-        self.nodes.retain(|stacked| stacked.node.bound() < makespan);
-        tell_leasts(self.nodes.as_mut_slice());
+        self.nodes.retain(|node| node.bound() < makespan);
+        self.leasts.retain(|least| least.bound < makespan);
     }
 
     /// Answers the least of `makespan` and the bounds of the nodes.
     pub(crate) fn least_bound(&self, makespan: u64) -> u64
         ensures { result ≡ least_of_bounds makespan self.now }
     {
-        match self.nodes.last() {
-            Some(top) => makespan.min(top.least),
+        match self.leasts.last() {
+            Some(least) => makespan.min(least.bound),
             None => makespan,
         }
     }

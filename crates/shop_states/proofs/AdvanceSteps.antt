@@ -5,13 +5,11 @@ use Rattle.std.proofs.lemmas.{Grind.get_or-set_at, List.{get_or-set_other, lengt
 use Rattle.shop_lanes.specs.Rows.{Rows, with_head}
 use Rattle.shop_model.specs.{Shop.{Shop, IsOperation, machine_of, time_of}, Word.{Placing, IsWord, placing, place_next}}
 use Rattle.shop_model.proofs.{Placings.{IsNext, place_next-is}, Unders.{placing-snoc, next_operation, after_word}}
-use Rattle.shop_bound.specs.Heads.{head_of}
+use Rattle.shop_bound.{specs.Heads.head_of, proofs.HeadTurns.ready_first}
 use Rattle.shop_states.specs.inner.{LaneEnds.IsEndOf, LaneHeads.AreHeadsAt, LaneStates.AreHeadsInLanes}
 use Rattle.shop_states.specs.inner.Raises.{AreFirst, HasBlocks, IsLeastRaise, IsOnMachine, IsRaisable, Raises}
-use Rattle.shop_layout.specs.Positions.{LayoutState, place, first_position}
-use Rattle.shop_bound.proofs.HeadTurns.{ready_first}
-use Rattle.shop_layout.proofs.LaidPlaces.{place_of}
 use Rattle.shop_states.proofs.RaisedHeads.{left, raisable, raised, has_blocks}
+use Rattle.shop_layout.{specs.Positions.{LayoutState, place, first_position}, proofs.LaidPlaces.place_of}
 
 module _ {greatest : ℕ} {shop : Shop} {l : LayoutState} {rows : Rows} {w : List ℕ} (j : ℕ)
     (kept : AreHeadsInLanes greatest shop w l rows) (fits : IsWord shop (w ++ j ∷ [])) where

@@ -7,8 +7,7 @@ use Rattle.shop_bound.specs.{Bound.lb, Conflicts.conflict, Renumbered.AreAlike}
 use Rattle.shop_layout.specs.LaidOuts.{LaidOutState}
 use Rattle.shop_states.specs.{States.{ListsBelow, TellsBoundBelow, none, listed, closed}, inner.AskedStates.IsKeptFor}
 use Rattle.shop_states.specs.{declared.dispatching.Candidate.Candidate, inner.LaneStates.IsKeptInLanes}
-use Rattle.shop_states.specs.inner.RisingLists.{IsIn}
-use Rattle.shop_states.proofs.Candidates.{candidate_fits}
+use Rattle.shop_states.{specs.inner.RisingLists.IsIn, proofs.Candidates.candidate_fits}
 
 -- a word that is kept in the layout
 module _ {greatest : ℕ} {d : LaidOutState} (alike : AreAlike d.asked d.shop) {w : List ℕ} {rows : Rows}

@@ -2,9 +2,8 @@
 use Rattle.std.proofs.Common.{◌≡◌, ℕ, ◌+◌, ◌*◌, ◌≤◌, ◌<◌, ◌⊎◌, inl, inr, List, [], ◌∷◌, length, get_or, refl, sym, ◌∙◌}
 use Rattle.std.proofs.{Common.{subst, arith}, lemmas.{Bool.{cases_eq, cases_lt}, List.{get_or_default, get_or_past}}}
 use Rattle.shop_lanes.specs.{Marks.positions_among, Rows.Rows}
-use Rattle.shop_layout.specs.{declared.legs.Leg.Leg, Legs.{all_legs, end_of, leg_index}}
-use Rattle.shop_layout.specs.Positions.{LayoutState, place, place_or}
-use Rattle.shop_layout.proofs.RouteLegs.{index_known, leg_behind, leg_here}
+use Rattle.shop_layout.specs.{declared.legs.Leg.Leg, Legs.{all_legs, end_of, leg_index}, Positions.{LayoutState, place}}
+use Rattle.shop_layout.{specs.Positions.place_or, proofs.RouteLegs.{index_known, leg_behind, leg_here}}
 use Rattle.shop_states.specs.inner.Raises.{AreInRouteOrder, IsFollowed, IsInBlocks, IsIndexed, IsPlace, IsPosition}
 use Rattle.shop_states.specs.inner.{Raises.{IsRaisable, IsRaised, Raises, at_in, steps_of}, RisingLists.{IsIn, Rises}}
 use Rattle.shop_states.specs.inner.Siblings.{CanRaiseBehind, IsEndAt, IsLateAt, IsRaisedBehind, RaisesBehind}

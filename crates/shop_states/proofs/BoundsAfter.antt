@@ -1,10 +1,8 @@
 -- The bound after one more operation, by the bound before and the raises.
 use Rattle.std.proofs.Common.{◌≡◌, ℕ, ◌≤◌, ◌<◌, max, List, [], ◌∷◌, ◌++◌, ap, arith}
 use Rattle.shop_model.specs.{Shop.{Shop, machine_of}, Word.{Placing, placing, place_next, IsWord}}
-use Rattle.shop_model.specs.Limits.{IsWithinLimits}
-use Rattle.shop_model.proofs.{Greatest.le-greatest_below, Unders.placing-snoc}
-use Rattle.shop_bound.proofs.{PlacedEnds.placed_end-free, BoundsRise.bounds_rise}
-use Rattle.shop_bound.specs.Bound.{lb}
+use Rattle.shop_model.{specs.Limits.IsWithinLimits, proofs.{Greatest.le-greatest_below, Unders.placing-snoc}}
+use Rattle.shop_bound.{proofs.{PlacedEnds.placed_end-free, BoundsRise.bounds_rise}, specs.Bound.lb}
 
 -- no machine is free later than the bound
 free_at_most : (shop : Shop) (w : List ℕ) → IsWithinLimits shop → IsWord shop w → (m : ℕ) → m < shop.machines

@@ -1,6 +1,5 @@
 -- A candidate of a word is dispatched: what that asks for, what is told of its bound, and what is kept.
-use Rattle.std.proofs.Common.{◌≡◌, ℕ, List, [], ◌∷◌, ◌++◌, max, min, refl, subst}
-use Rattle.std.specs.Prelude.{◌^◌, Option, OnSome}
+use Rattle.std.{proofs.Common.{◌≡◌, ℕ, List, [], ◌∷◌, ◌++◌, max, min, refl, subst}, specs.Prelude.{◌^◌, Option, OnSome}}
 use Rattle.shop_model.specs.{Limits.IsWithinLimits, Shop.Shop, Word.IsWord}
 use Rattle.shop_bound.specs.Bound.{lb}
 use Rattle.shop_layout.specs.{Lanes.rows_of, Positions.LayoutState}

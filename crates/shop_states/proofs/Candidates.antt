@@ -1,18 +1,16 @@
 -- The candidates of a word, and what is foreseen of the bound after one.
 use Rattle.std.proofs.Common.{rules, ◌≡◌, ℕ, ◌+◌, ◌-◌, ◌<◌, ◌^◌, max, min, List, [], ◌∷◌, ◌++◌, length, get_or, ap}
-use Rattle.std.proofs.Common.{arith}
+use Rattle.std.{proofs.Common.arith, specs.Prelude.{Option, Some, None}}
 use Rattle.shop_lanes.specs.Rows.{Rows}
-use Rattle.shop_model.specs.{Limits.IsWithinLimits, Shop.{Shop, IsOperation, machine_of}}
-use Rattle.shop_model.specs.Word.{Placing, IsWord, place_next, placing}
-use Rattle.shop_model.proofs.Unders.{after_word}
+use Rattle.shop_model.specs.{Limits.IsWithinLimits, Shop.{Shop, IsOperation, machine_of}, Word.{Placing, IsWord}}
+use Rattle.shop_model.{specs.Word.{place_next, placing}, proofs.Unders.after_word}
 use Rattle.shop_bound.specs.{Bound.lb, Conflicts.{conflict, conflict_among, open_jobs}}
-use Rattle.std.specs.Prelude.{Option, Some, None}
+use Rattle.shop_bound.proofs.{SmallSums.sums_small, Entries.IsWord-snoc}
 use Rattle.shop_states.specs.{States.TellsBoundBelow, inner.Advances.{IsAdvancing, IsLeastAt, foreseen}}
 use Rattle.shop_states.specs.inner.{LaneStates.IsKeptInLanes, RisingLists.IsIn}
-use Rattle.shop_bound.proofs.{SmallSums.sums_small, Entries.IsWord-snoc}
-use Rattle.shop_layout.specs.{Lanes.rows_of, Positions.{LayoutState, place}}
 use Rattle.shop_states.proofs.ChildReads.{after_look, end_here, head_here, machine_here, time_here}
 use Rattle.shop_states.proofs.{LaneConflicts.{AreChoosable, in_filter, open_is}, StateSteps.next_at}
+use Rattle.shop_layout.specs.{Lanes.rows_of, Positions.{LayoutState, place}}
 
 -- a conflict set is a part of the open jobs
 conflict_in : (shop : Shop) (p : Placing) (js : List ℕ) (q : ℕ) → IsIn (conflict_among shop p js) q → IsIn js q

@@ -1,18 +1,15 @@
 -- The bound after one more operation, by the bound before, the end of the operation and the heads that it raises.
 use Rattle.std.proofs.Common.{◌≡◌, ℕ, ◌+◌, ◌≤◌, ◌<◌, max, ◌⊎◌, inl, inr, List, [], ◌∷◌, ◌++◌, get_or, ap, subst, refl}
 use Rattle.std.proofs.{Common.{sym, arith}, lemmas.Bool.{cases_eq, leb-true, le-leb}}
-use Rattle.std.proofs.lemmas.List.Elements.{recursion_from_All}
-use Rattle.std.specs.List.{AllByRecursion}
+use Rattle.std.{proofs.lemmas.List.Elements.recursion_from_All, specs.List.AllByRecursion}
 use Rattle.shop_model.specs.{Shop.{Shop, machine_of, IsOperation}, Word.{Placing, IsWord, placing, place_next}}
-use Rattle.shop_model.specs.Limits.{IsWithinLimits}
-use Rattle.shop_model.proofs.{Greatest.{le-greatest_below, greatest_below-le}, Placings.place_next-is}
-use Rattle.shop_model.proofs.{Unders.placing-snoc, WordLemmas.IsWord-init}
+use Rattle.shop_model.{specs.Limits.IsWithinLimits, proofs.Greatest.{le-greatest_below, greatest_below-le}}
+use Rattle.shop_model.proofs.{Placings.place_next-is, Unders.placing-snoc, WordLemmas.IsWord-init}
 use Rattle.shop_bound.specs.{Bound.lb, Heads.head_of, OneMachine.one, inner.NonincreasingTails.one_between}
 use Rattle.shop_bound.proofs.HeadsStay.{steps_rise}
-use Rattle.shop_layout.specs.{Slots.AreMachineSlots, declared.slots.Slot.Slot}
+use Rattle.shop_layout.{specs.{Slots.AreMachineSlots, declared.slots.Slot.Slot}, proofs.SlotFacts.slots_are_operations}
 use Rattle.shop_states.proofs.{BoundsAfter.least_at_most, LeftSlots.{left_for, part_of, lb_by_parts}}
 use Rattle.shop_states.proofs.Raising.{IsSlotRaised, left_raised, one-raised_part}
-use Rattle.shop_layout.proofs.SlotFacts.{slots_are_operations}
 
 -- what is left for a machine bounds no more than the word
 pub left-le-lb : (shop : Shop) → IsWithinLimits shop → (slots : List (List Slot)) → AreMachineSlots shop slots

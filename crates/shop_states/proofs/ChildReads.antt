@@ -3,11 +3,10 @@ use Rattle.std.proofs.Common.{◌≡◌, ℕ, ◌+◌, ◌≤◌, max, ◌-◌, 
 use Rattle.shop_lanes.specs.{Rows.{Rows, with_head}, Spans.span}
 use Rattle.shop_model.specs.{Shop.{Shop, machine_of, time_of, IsOperation}, Word.{IsWord, placing, place_next}}
 use Rattle.shop_model.proofs.{Placings.place_next-is, Unders.{after_word, next_operation}, WordLemmas.IsWord-init}
-use Rattle.shop_bound.specs.{Bound.lb, Heads.head_of}
+use Rattle.shop_bound.{specs.{Bound.lb, Heads.head_of}, proofs.HeadTurns.ready_first}
 use Rattle.shop_states.specs.inner.{ChildBounds.IsLeastAfter, LaneHeads.AreStored, LaneStates.AreHeadsInLanes}
-use Rattle.shop_layout.specs.{Lanes.lanes_on, Positions.{AreMachinesOf, LayoutState, place}}
 use Rattle.shop_states.proofs.{ChildBounds.child-ge-before, ChildExits.open_span-le, RaisedHeads.left}
-use Rattle.shop_bound.proofs.HeadTurns.{ready_first}
+use Rattle.shop_layout.specs.{Lanes.lanes_on, Positions.{AreMachinesOf, LayoutState, place}}
 use Rattle.shop_layout.proofs.LaidPlaces.{place_of}
 
 module _ {greatest : ℕ} {shop : Shop} {w : List ℕ} {l : LayoutState} {rows : Rows}

@@ -3,8 +3,7 @@ use Rattle.std.proofs.Common.{rules, ◌≡◌, ℕ, ◌+◌, ◌^◌, ◌≤◌
 use Rattle.std.proofs.Common.{◌∙◌, ap, arith}
 use Rattle.shop_lanes.specs.Rows.{Rows}
 use Rattle.shop_model.specs.{Shop.{Shop, machine_of}, Word.placing}
-use Rattle.shop_bound.specs.Bound.{lb}
-use Rattle.shop_bound.proofs.SmallSums.{sums_small}
+use Rattle.shop_bound.{specs.Bound.lb, proofs.SmallSums.sums_small}
 use Rattle.shop_layout.specs.{HeadLimits.latest_end, Lanes.{lanes_on, rows_of}, Positions.LayoutState}
 use Rattle.shop_states.proofs.{CeilingLemmas.IsCeiling, LaneFits.spans_fit, OwnSpans.its_machine}
 use Rattle.shop_states.proofs.{LateHeads.{can_end, can_late, its_word, now_small, second_low}, RaisedHeads.has_blocks}

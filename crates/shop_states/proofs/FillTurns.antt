@@ -4,16 +4,13 @@ use Rattle.std.proofs.{Common.{ap, subst, arith}, lemmas.{Bool.cases_eq, Grind.g
 use Rattle.std.proofs.lemmas.List.{get_or-set_other, length-set}
 use Rattle.shop_lanes.specs.Rows.{Rows, with_head}
 use Rattle.shop_model.specs.{Shop.{Shop, IsOperation, machine_of, route_of, time_of}, Word.Placing}
-use Rattle.shop_model.specs.Placements.{PlacementState, IsPlacement}
-use Rattle.shop_model.proofs.{Ends.IsOperation-job, Unders.after_word}
+use Rattle.shop_model.{specs.Placements.{PlacementState, IsPlacement}, proofs.{Ends.IsOperation-job, Unders.after_word}}
 use Rattle.shop_bound.specs.Heads.{ready_after, head_of}
 use Rattle.shop_states.specs.inner.Fills.{IsAtLeg, IsStored, CanFill, AreSameBeside, HasFilledJob}
-use Rattle.shop_states.specs.inner.LaneHeads.{AreHeadsAt}
-use Rattle.shop_layout.specs.{declared.legs.Leg.Leg, Legs.{all_legs, end_of, leg_index}}
-use Rattle.shop_layout.specs.Positions.{IsFree, LayoutState, place}
-use Rattle.shop_layout.proofs.LaidPlaces.{place_of}
-use Rattle.shop_states.proofs.JobLegs.{IsLegOf, index_there, leg_is, leg_small, step_past, step_there}
-use Rattle.shop_states.proofs.RowTurns.{open_turn}
+use Rattle.shop_states.{specs.inner.LaneHeads.AreHeadsAt, proofs.JobLegs.{IsLegOf, index_there, leg_is, leg_small}}
+use Rattle.shop_states.proofs.{JobLegs.{step_past, step_there}, RowTurns.open_turn}
+use Rattle.shop_layout.specs.{declared.legs.Leg.Leg, Legs.{all_legs, end_of, leg_index}, Positions.IsFree}
+use Rattle.shop_layout.{specs.Positions.{LayoutState, place}, proofs.LaidPlaces.place_of}
 
 abbrev pub IsRested : List ℕ → Type 0
 IsRested heads = (q : ℕ) → get_or heads q 0 ≡ 0

@@ -2,10 +2,9 @@
 use Rattle.std.proofs.Common.{◌≡◌, ℕ, ◌+◌, ◌≤◌, ◌<◌, max, List, length, get_or, set, refl, sym, ◌∙◌, ap, arith, subst}
 use Rattle.std.proofs.lemmas.{Bool.cases_eq, Grind.get_or-set_at, List.{get_or-set_other, length-set}}
 use Rattle.shop_lanes.specs.Rows.{Rows}
-use Rattle.shop_model.specs.{Placements.{PlacementState, IsPlacement}, Shop.{IsOperation, Shop, route_of}}
-use Rattle.shop_model.specs.Word.{Placing, placing}
+use Rattle.shop_model.specs.{Placements.{PlacementState, IsPlacement}, Shop.{IsOperation, Shop, route_of}, Word.Placing}
+use Rattle.shop_model.{specs.Word.placing, proofs.Unders.after_word}
 use Rattle.shop_bound.specs.Conflicts.{next_end}
-use Rattle.shop_model.proofs.Unders.{after_word}
 use Rattle.shop_layout.specs.{declared.legs.Leg.Leg, Legs.{all_legs, end_of, leg_index}}
 use Rattle.shop_layout.specs.Positions.{LayoutState, first_position, place_or}
 use Rattle.shop_states.specs.inner.{Fills.{CanFill, IsAtLeg, IsNextSet}, PlacedNexts.IsWordAt}

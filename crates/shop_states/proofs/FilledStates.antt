@@ -3,8 +3,7 @@ use Rattle.std.proofs.{Common.{◌≡◌, ℕ, ◌<◌, List, length, replicate,
 use Rattle.std.proofs.lemmas.List.{get_or_past, get_or-replicate, length-replicate}
 use Rattle.shop_model.specs.{Placements.IsPlacement, Shop.Shop, Word.{IsWord, Placing, placing}}
 use Rattle.shop_model.proofs.Ends.{IsOperation-job}
-use Rattle.shop_layout.specs.{LaidOuts.IsReady, Lanes.rows_of, Positions.LayoutState}
-use Rattle.shop_layout.proofs.LatestEnds.{latest_end_is}
+use Rattle.shop_layout.{specs.{LaidOuts.IsReady, Lanes.rows_of, Positions.LayoutState}, proofs.LatestEnds.latest_end_is}
 use Rattle.shop_states.specs.inner.{Fills.CanFill, LaneStates.{HasRoom, IsKeptInLanes}, PlacedNexts.IsPlacedAt}
 use Rattle.shop_states.proofs.{HeadsFit.heads_fit, PlacedNexts.{placement_at, placement_is}, NextOperations.head_first}
 use Rattle.shop_states.proofs.{FilledJobs.AreNextsSet, FillTurns.{HasFilled, IsRested}, SoleCandidates.sole_keeps_bound}

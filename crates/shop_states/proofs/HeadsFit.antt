@@ -1,8 +1,7 @@
 -- Heads of a word fit into lanes that hold the loads of all machines.
 use Rattle.std.proofs.Common.{ℕ, arith}
 use Rattle.shop_model.specs.{Limits.IsWithinLimits, Shop.Shop}
-use Rattle.shop_layout.specs.{HeadLimits.FitsLanes, Positions.LayoutState}
-use Rattle.shop_layout.proofs.LatestEnds.{latest_end_is}
+use Rattle.shop_layout.{specs.{HeadLimits.FitsLanes, Positions.LayoutState}, proofs.LatestEnds.latest_end_is}
 use Rattle.shop_states.specs.inner.LaneHeads.{AreHeadsFit}
 
 pub heads_fit : (greatest : ℕ) (shop : Shop) (l : LayoutState) → IsWithinLimits shop → FitsLanes greatest shop l

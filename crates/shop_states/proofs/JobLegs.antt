@@ -1,8 +1,7 @@
 -- The legs of a job's route, in the layout of its instance.
 use Rattle.std.proofs.Common.{rules, ◌≡◌, ℕ, zero, suc, ◌+◌, ◌*◌, ◌≤◌, ◌<◌, List, [], ◌∷◌, length, get_or, map, take}
-use Rattle.std.proofs.{Common.{sym, ◌∙◌, ap, arith}, lemmas.Bool.cases_lt}
-use Rattle.std.proofs.lemmas.List.{flat_map_more, length-append, length-map, take_more}
-use Rattle.std.specs.List.{flat_map}
+use Rattle.std.proofs.{Common.{sym, ◌∙◌, ap, arith}, lemmas.{Bool.cases_lt, List.{flat_map_more, length-append}}}
+use Rattle.std.{proofs.lemmas.List.{length-map, take_more}, specs.List.flat_map}
 use Rattle.shop_model.specs.{Limits.IsWithinLimits, Shop.{Shop, machine_of, route_of, time_of}}
 use Rattle.shop_layout.specs.{declared.legs.Leg.Leg, Legs.{all_legs, end_of, leg_index, leg_of, route_legs}}
 use Rattle.shop_layout.specs.Positions.{IsLaidOut, LayoutState, first_position, place, place_or}

@@ -1,12 +1,10 @@
 -- Numbers as the bits of words: which are among them, that they rise, and one bit more.
 use Rattle.std.proofs.Common.{◌≡◌, ℕ, zero, suc, ◌+◌, ◌*◌, ◌/◌, ◌%◌, ◌^◌, ◌≤◌, ◌<◌, ◌⊎◌, inl, inr, List, [], ◌∷◌, ◌++◌}
 use Rattle.std.proofs.Common.{length, get_or, set, drop, replicate, max, refl, sym, ◌∙◌, ap, subst, append_assoc, arith}
-use Rattle.std.proofs.{lemmas.{Bool.cases_eq, List.{append-nil, length-append}}, Math.Pow.pow-lt}
-use Rattle.std.proofs.lemmas.Nat.Bits.{bit_at_or, bit_at-suc, bit_at_lowest, bit_at-lt, bit_at-pow_same}
-use Rattle.std.proofs.lemmas.Nat.Bits.{bit_at-pow_other}
+use Rattle.std.proofs.{lemmas.{Bool.cases_eq, List.{append-nil, length-append}, Nat.Bits.bit_at_or}, Math.Pow.pow-lt}
+use Rattle.std.proofs.lemmas.Nat.Bits.{bit_at-suc, bit_at_lowest, bit_at-lt, bit_at-pow_same, bit_at-pow_other}
 use Rattle.std.specs.Int.{Bits.bit_or, bit_at}
-use Rattle.shop_lanes.specs.SetBits.{set_bits}
-use Rattle.shop_lanes.proofs.MarkLemmas.{set_bits-odd, set_bits-even, set_bits-zero}
+use Rattle.shop_lanes.{specs.SetBits.set_bits, proofs.MarkLemmas.{set_bits-odd, set_bits-even, set_bits-zero}}
 use Rattle.shop_states.specs.inner.{JobSets.{members, HasPut}, RisingLists.{IsIn, Rises, HasGathered}}
 use Rattle.shop_states.proofs.RisingLists.{rising_short}
 

@@ -1,12 +1,17 @@
 -- A state after a dispatch has as much room as before, and so has scratch room.
-use Rattle.std.proofs.Common.{◌≡◌, ◌∙◌, ℕ, List, ap, length, take, drop, ◌++◌}
-use Rattle.std.proofs.lemmas.List.{length-set}
+use Rattle.std.proofs.{Common.{◌≡◌, ◌∙◌, ℕ, List, ap, length, sym, take, drop, ◌++◌}, lemmas.List.length-set}
 use Rattle.std.specs.{Prelude.Vec, declared.alloc.Global.Global}
 use Rattle.shop_lanes.specs.Rows.{Rows}
 use Rattle.shop_model.specs.Shop.{Shop}
 use Rattle.shop_layout.{proofs.Written.written_vec, specs.{LaidOuts.LaidOutState, Positions.LayoutState}}
 use Rattle.shop_states.specs.{declared.beginnings.Beginning.Beginning, inner.{AskedStates.IsKeptFor, HeadRaises.Raise}}
 use Rattle.shop_states.specs.inner.{LaneStates.{GoesOn, HasRoom}, MachineRaises.AreEmpty, Scratches.IsScratchOf}
+
+-- so does a vector whose slice was written
+pub long_kept : {A : Type 0} (v : Vec A Global) {given : List A} (after : List A) {n : ℕ} → given ≡ v.items
+    → length v.items ≡ n → length after ≡ n → length (take v.len (after ++ drop (length after) v.items)) ≡ n
+long_kept v {given} after read was long =
+    ap length (written_vec v given after read (long ∙ sym (ap length read ∙ was))) ∙ long
 
 module _ {greatest : ℕ} {d : LaidOutState} {w : List ℕ} {rows : Rows} {nexts : List ℕ}
     (of : IsKeptFor greatest d w rows nexts) where

@@ -1,8 +1,7 @@
 -- The choice among next operations by lanes.
 use Rattle.std.proofs.Common.{◌≡◌, ℕ, ◌*◌, ◌≤◌, ◌<◌, ◌⊎◌, inl, inr, List, [], ◌∷◌, length, get_or, refl, sym, ◌∙◌, ap}
 use Rattle.std.proofs.{Common.{subst, arith}, lemmas.List.Elements.{recursion_from_All, All-from_recursion}}
-use Rattle.std.proofs.lemmas.Bool.{cases_lt}
-use Rattle.std.specs.List.{AllByRecursion}
+use Rattle.std.{proofs.lemmas.Bool.cases_lt, specs.List.AllByRecursion}
 use Rattle.shop_lanes.specs.Marks.{positions_among}
 use Rattle.shop_layout.specs.Positions.{LayoutState}
 use Rattle.shop_states.specs.inner.{LaneChoices.{AreNextPlaced, HaveJobs, IsAlone, IsJobAt, IsJobBelow}, JobSets.HasPut}

@@ -2,8 +2,7 @@
 use Rattle.std.proofs.Common.{◌≡◌, ℕ, zero, suc, ◌+◌, ◌≤◌, ◌<◌, ◌^◌, ◌⊎◌, inl, inr, Bool, true, ◌||◌, List, [], ◌∷◌}
 use Rattle.std.proofs.{Common.{length, get_or, refl, sym, ◌∙◌, ap, subst, arith, eqb, ltb}, lemmas.List.get_or_past}
 use Rattle.std.proofs.lemmas.Bool.{cases_Bool, cases_eq, cases_lt, and_from, and_parts, lt-ltb, le-ltb, ltb-true}
-use Rattle.std.proofs.lemmas.Bool.{or_left, or_right, eq-eqb, eqb-true}
-use Rattle.std.specs.List.{filter, range_with_len, best_of}
+use Rattle.std.{proofs.lemmas.Bool.{or_left, or_right, eq-eqb, eqb-true}, specs.List.{filter, range_with_len, best_of}}
 use Rattle.shop_lanes.specs.{Ends.IsFirstLeast, Rows.Rows}
 use Rattle.shop_model.specs.{Shop.{Shop, IsOperation, route_of, machine_of}, Word.Placing}
 use Rattle.shop_model.proofs.Ends.{IsOperation-job}
@@ -11,10 +10,10 @@ use Rattle.shop_bound.specs.Conflicts.{open_jobs, next_machine, next_head, next_
 use Rattle.shop_bound.specs.Heads.{head_of, ready_after}
 use Rattle.shop_states.specs.inner.{LaneChoices.{AreEndsAt, AreNextsAt, IsJobBelow}, Raises.{HasBlocks, IsOnMachine}}
 use Rattle.shop_states.specs.inner.RisingLists.{IsIn, Rises, IsGatheredWith}
-use Rattle.shop_layout.specs.Positions.{LayoutState, place, first_position}
-use Rattle.shop_layout.proofs.LaidPlaces.{each_position, place_of, on_machine}
 use Rattle.shop_states.proofs.NextOperations.{next_is, next_placed, next_there, stored_end, stored_head}
 use Rattle.shop_states.proofs.{RaisedHeads.has_blocks, RisingLists.{none_in, one_rising}}
+use Rattle.shop_layout.specs.Positions.{LayoutState, place, first_position}
+use Rattle.shop_layout.proofs.LaidPlaces.{each_position, place_of, on_machine}
 
 -- all that the choice by lanes stands on
 pub record AreChoosable (greatest : ℕ) (shop : Shop) (p : Placing) (l : LayoutState) (nexts : List ℕ)

@@ -2,13 +2,11 @@
 use Rattle.std.proofs.Common.{◌≡◌, ℕ, ◌+◌, ◌<◌, inl, inr, List, length, get_or, sym, ◌∙◌, ap, arith}
 use Rattle.std.proofs.lemmas.{Bool.{cases_lt, lt-ltb, le-ltb}, Grind.get_or-set_at, List.{get_or-set_other, length-set}}
 use Rattle.shop_lanes.specs.Rows.{Rows, with_end}
-use Rattle.shop_model.specs.{Shop.{Shop, IsOperation, route_of}, Word.{Placing, placing}}
-use Rattle.shop_model.proofs.Ends.{IsOperation-job}
+use Rattle.shop_model.{specs.{Shop.{Shop, IsOperation, route_of}, Word.{Placing, placing}}, proofs.Ends.IsOperation-job}
 use Rattle.shop_bound.specs.Conflicts.{next_end}
-use Rattle.shop_layout.specs.{HeadLimits.FitsLanes, Positions.LayoutState}
+use Rattle.shop_layout.{specs.{HeadLimits.FitsLanes, Positions.LayoutState}, proofs.LatestEnds.latest_end_is}
 use Rattle.shop_states.specs.inner.{LaneChoices.{AreEndsAt, AreNextsAt, AreNextsOf}, LaneStates.AreHeadsInLanes}
 use Rattle.shop_states.specs.inner.{LaneEnds.{end_at, CanKeepEnds, IsEndOf}, Raises.AreFirst}
-use Rattle.shop_layout.proofs.LatestEnds.{latest_end_is}
 use Rattle.shop_states.proofs.{RaisedHeads.indexed, RaiseWalks.{apart, place_within}}
 use Rattle.shop_states.proofs.NextOperations.{head_first, next_is, next_placed, next_there, next_within, stored_end}
 

@@ -1,14 +1,12 @@
 -- Where lanes hold the loads of all machines, they hold the spans of any word.
 use Rattle.std.proofs.Common.{◌≡◌, ℕ, ◌+◌, ◌-◌, ◌*◌, ◌≤◌, ◌<◌, List, [], ◌∷◌, length, get_or, refl, sym, ◌∙◌, ap, arith}
-use Rattle.std.proofs.lemmas.List.Sums.{sum_by-cons}
-use Rattle.std.specs.List.{sum_by}
+use Rattle.std.{proofs.lemmas.List.Sums.sum_by-cons, specs.List.sum_by}
 use Rattle.shop_lanes.specs.{Rows.{Rows, Lane, lanes, blocks, AreBlocks}, Spans.{greatest_by, FitsSpan}}
 use Rattle.shop_lanes.proofs.{AnyOrder.greatest-by_columns, LaneLists.{lanes-blocks, length-blocks, length-lanes}}
 use Rattle.shop_model.specs.{Limits.IsWithinLimits, Shop.Shop}
 use Rattle.shop_bound.specs.OneMachine.{greatest_of}
-use Rattle.shop_layout.specs.{HeadLimits.{latest_end, FitsLanes}, Lanes.lanes_on}
-use Rattle.shop_layout.specs.Positions.{LayoutState, IsLaidOut, first_position}
-use Rattle.shop_layout.proofs.{ColumnSums.sum_by_columns, LaidPlaces.machines_rise}
+use Rattle.shop_layout.specs.{HeadLimits.{latest_end, FitsLanes}, Lanes.lanes_on, Positions.{LayoutState, IsLaidOut}}
+use Rattle.shop_layout.{specs.Positions.first_position, proofs.{ColumnSums.sum_by_columns, LaidPlaces.machines_rise}}
 
 -- each machine has its blocks, and a span from `top` on at the latest fits
 pub record AreSpansFit (greatest top machines : ℕ) (l : LayoutState) (rows : Rows) : Type 0 where

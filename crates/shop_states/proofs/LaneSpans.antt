@@ -1,8 +1,7 @@
 -- Spans over lanes that stand for operations by nonincreasing tail: parts of their one-machine bound.
 use Rattle.std.proofs.Common.{◌≡◌, ℕ, zero, suc, ◌+◌, ◌-◌, ◌^◌, ◌≤◌, ◌<◌, max, ◌⊎◌, inl, inr, List, [], ◌∷◌, ◌++◌}
 use Rattle.std.proofs.{Common.{length, sym, ap, subst, arith, append_assoc}, lemmas.List.Sums.sum_by-cons}
-use Rattle.std.proofs.lemmas.Bool.{cases_Bool, cases_lt, leb-true, le-leb}
-use Rattle.std.specs.List.{filter, sum_by}
+use Rattle.std.{proofs.lemmas.Bool.{cases_Bool, cases_lt, leb-true, le-leb}, specs.List.{filter, sum_by}}
 use Rattle.shop_lanes.specs.{Rows.Lane, Spans.{span, spans_from, spans_between}}
 use Rattle.shop_states.proofs.SpanTurns.{span_served, span_left, spans_counted, spans_low, spans_high}
 use Rattle.shop_bound.specs.{inner.NonincreasingTails.{one_between, IsNonincreasing}, declared.triples.Triple.Triple}

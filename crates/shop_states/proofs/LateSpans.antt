@@ -2,8 +2,7 @@
 use Rattle.std.proofs.Common.{rules, ◌≡◌, ℕ, ◌+◌, ◌*◌, ◌≤◌, ◌<◌, ◌⊎◌, inl, inr, List, [], ◌∷◌, ◌++◌, length, get_or}
 use Rattle.std.proofs.{Common.{refl, sym, ◌∙◌, ap, subst, arith}, lemmas.Bool.{cases_eq, cases_lt, eq-eqb, ne_eqb}}
 use Rattle.shop_lanes.specs.{Rows.{Lane, Rows, lanes_of}, Spans.{span, spans_between}}
-use Rattle.shop_model.specs.{Shop.{Shop, machine_of}, Word.{Placing, place_next, placing}}
-use Rattle.shop_model.proofs.Unders.{placing-snoc}
+use Rattle.shop_model.{specs.{Shop.{Shop, machine_of}, Word.{Placing, place_next, placing}}, proofs.Unders.placing-snoc}
 use Rattle.shop_bound.specs.Bound.{lb}
 use Rattle.shop_layout.specs.{HeadLimits.latest_end, Lanes.{lanes_on, rows_of}, Positions.LayoutState}
 use Rattle.shop_layout.proofs.LaneLimits.{blocks_within}

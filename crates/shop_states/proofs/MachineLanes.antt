@@ -2,19 +2,16 @@
 use Rattle.std.proofs.Common.{rules, ◌≡◌, ℕ, zero, suc, ◌+◌, ◌-◌, ◌*◌, ◌≤◌, ◌<◌, inl, inr, true, false, List, [], ◌∷◌}
 use Rattle.std.proofs.{Common.{length, get_or, refl, sym, ◌∙◌, ap, arith}, lemmas.List.{get_or-take, get_or-drop}}
 use Rattle.std.proofs.lemmas.Bool.{cases_Bool, cases_eq, cases_lt, leb-true, le-leb}
-use Rattle.shop_lanes.specs.Rows.{Lane, lanes, lanes_of, blocks}
-use Rattle.shop_lanes.proofs.Columns.{by_columns-at, length-by_columns}
+use Rattle.shop_lanes.{specs.Rows.{Lane, lanes, lanes_of, blocks}, proofs.Columns.{by_columns-at, length-by_columns}}
 use Rattle.shop_lanes.proofs.LaneLists.{lane_at, length-lanes, length-blocks}
 use Rattle.shop_model.specs.{Limits.IsWithinLimits, Shop.{Shop, route_of, machine_of, IsOperation}, Word.Placing}
 use Rattle.shop_model.proofs.Ends.{IsOperation-job}
-use Rattle.shop_layout.specs.{declared.slots.Slot.Slot, Slots.slot_at}
-use Rattle.shop_layout.specs.Positions.{LayoutState, IsLaidOut, place, first_position, position_at_rank}
+use Rattle.shop_layout.specs.{declared.slots.Slot.Slot, Slots.slot_at, Positions.{LayoutState, IsLaidOut, place}}
+use Rattle.shop_layout.{specs.Positions.{first_position, position_at_rank}, proofs.SlotFacts.slots_are_operations}
+use Rattle.shop_layout.proofs.{SlotFacts.slots_are_all, LaidPlaces.machines_rise, Ranks.{position_within, same_rank}}
 use Rattle.shop_bound.specs.declared.triples.Triple.{Triple}
-use Rattle.shop_states.specs.inner.LaneHeads.{AreHeadsAt, AreStored}
-use Rattle.shop_states.proofs.LaneSpans.{AreMatched, nothing, empty, matched, IsLaneOf}
-use Rattle.shop_states.proofs.LeftSlots.{is_left, triple_of, left_of, left_for}
-use Rattle.shop_layout.proofs.{SlotFacts.{slots_are_operations, slots_are_all}, LaidPlaces.machines_rise}
-use Rattle.shop_layout.proofs.Ranks.{position_within, same_rank}
+use Rattle.shop_states.{specs.inner.LaneHeads.{AreHeadsAt, AreStored}, proofs.LaneSpans.{AreMatched, nothing, empty}}
+use Rattle.shop_states.proofs.{LaneSpans.{matched, IsLaneOf}, LeftSlots.{is_left, triple_of, left_of, left_for}}
 
 -- lanes that stand for what is left of some slots, and for nothing else
 slots_matched : (R : Triple → Lane → Type 0) (shop : Shop) (p : Placing) (ls : List Lane) (xs : List Slot)

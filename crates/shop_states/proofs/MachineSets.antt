@@ -1,12 +1,9 @@
 -- Machines as the bits of two words: one bit more, and the lowest taken out.
 use Rattle.std.proofs.Common.{◌≡◌, ℕ, ◌+◌, ◌-◌, ◌*◌, ◌%◌, ◌^◌, ◌≤◌, ◌<◌, List, [], ◌∷◌, ◌++◌, sym, ◌∙◌, ap, subst}
-use Rattle.std.proofs.{Common.arith, lemmas.Nat.or_lt}
-use Rattle.std.specs.Int.Bits.{bit_and, bit_or}
+use Rattle.std.{proofs.{Common.arith, lemmas.Nat.or_lt}, specs.Int.Bits.{bit_and, bit_or}}
 use lib.Count.{count_trailing_zeros}
-use Rattle.shop_lanes.specs.SetBits.{set_bits}
-use Rattle.shop_lanes.proofs.MarkLemmas.{set_bits-lowest, set_bits-zero}
-use Rattle.shop_states.specs.inner.JobSets.{HasPut}
-use Rattle.shop_states.proofs.JobSets.{bit_put, more_before, more_behind}
+use Rattle.shop_lanes.{specs.SetBits.set_bits, proofs.MarkLemmas.{set_bits-lowest, set_bits-zero}}
+use Rattle.shop_states.{specs.inner.JobSets.HasPut, proofs.JobSets.{bit_put, more_before, more_behind}}
 
 -- the machines whose bits are set
 abbrev pub machines_of : ℕ → ℕ → List ℕ

@@ -2,13 +2,10 @@
 use Rattle.std.proofs.Common.{rules, ◌≡◌, ℕ, ◌+◌, ◌<◌, List, length, get_or, sym, ◌∙◌, ap, arith}
 use Rattle.std.proofs.lemmas.Bool.{cases_lt}
 use Rattle.shop_lanes.specs.Rows.{Rows}
-use Rattle.shop_model.specs.{Shop.{Shop, IsOperation, time_of}, Word.Placing}
-use Rattle.shop_model.proofs.Ends.{IsOperation-job}
+use Rattle.shop_model.{specs.{Shop.{Shop, IsOperation, time_of}, Word.Placing}, proofs.Ends.IsOperation-job}
 use Rattle.shop_bound.specs.{Conflicts.{next_end, next_head}, Heads.head_of}
-use Rattle.shop_layout.specs.Positions.{LayoutState, first_position, place}
-use Rattle.shop_layout.proofs.LaidPlaces.{place_of}
-use Rattle.shop_states.specs.inner.LaneChoices.{AreNextPlaced, AreNextsAt}
-use Rattle.shop_states.proofs.Followed.{place_there}
+use Rattle.shop_layout.{specs.Positions.{LayoutState, first_position, place}, proofs.LaidPlaces.place_of}
+use Rattle.shop_states.{specs.inner.LaneChoices.{AreNextPlaced, AreNextsAt}, proofs.Followed.place_there}
 
 -- the head of a next operation
 pub head_first : (shop : Shop) (p : Placing) (j : ℕ) → head_of shop p j (p.steps j) ≡ next_head shop p j

@@ -1,9 +1,8 @@
 -- Own spans tell the bound after each candidate of a word.
 use Rattle.std.proofs.Common.{rules, ◌≡◌, ℕ, zero, suc, ◌+◌, ◌-◌, ◌*◌, ◌≤◌, ◌<◌, max, inl, inr, true, List, [], ◌∷◌}
-use Rattle.std.proofs.Common.{◌++◌, length, get_or, drop, refl, sym, ◌∙◌, ap, subst, arith}
-use Rattle.std.proofs.lemmas.{Bool.{and_parts, cases_Bool, cases_lt, eqb-true}, Grind.same_number_lists}
-use Rattle.std.proofs.lemmas.List.Elements.{All-drop, All-take}
-use Rattle.std.specs.List.{All}
+use Rattle.std.proofs.{Common.{◌++◌, length, get_or, drop, refl, sym, ◌∙◌, ap, subst, arith}, lemmas.Bool.and_parts}
+use Rattle.std.proofs.lemmas.{Bool.{cases_Bool, cases_lt, eqb-true}, Grind.same_number_lists, List.Elements.All-drop}
+use Rattle.std.{proofs.lemmas.List.Elements.All-take, specs.List.All}
 use Rattle.shop_lanes.specs.Rows.{AreBlocks, Lane, Rows, lanes, lanes_between, lanes_of, blocks}
 use Rattle.shop_lanes.specs.Spans.{AreOwnSpans, FitOwnSpans}
 use Rattle.shop_lanes.proofs.{Columns.All-by_columns, LaneLists.{length-blocks, length-lanes}}
@@ -13,12 +12,11 @@ use Rattle.shop_states.specs.{inner.Advances.{IsAdvancing, foreseen}, States.{Li
 use Rattle.shop_states.specs.inner.Candidates.{AreCandidatesOf, IsCandidateOf, IsTold, ListsOwn, own_at, empty}
 use Rattle.shop_states.specs.inner.{Candidates.{left_out, taken, told_at}, LaneHeads.AreHeadsAt, RisingLists.IsIn}
 use Rattle.shop_states.specs.{inner.LaneStates.IsKeptInLanes, declared.dispatching.Candidate.Candidate}
-use Rattle.shop_layout.specs.{HeadLimits.latest_end, Lanes.{lanes_on, rows_of}}
-use Rattle.shop_layout.specs.Positions.{IsLaidOut, LayoutState, first_position, place}
 use Rattle.shop_states.proofs.{Candidates.{advancing, candidate_fits, foreseen_least}, ChildRaises.heads_small}
 use Rattle.shop_states.proofs.{ChildReads.{head_here, is_operation, machine_here}, LaneConflicts.in_filter}
 use Rattle.shop_states.proofs.{LaneFits.{AreSpansFit, spans_fit}, StateSteps.{next_at, next_known}}
-use Rattle.shop_layout.proofs.LaidPlaces.{each_position, place_of}
+use Rattle.shop_layout.specs.{HeadLimits.latest_end, Lanes.{lanes_on, rows_of}, Positions.{IsLaidOut, LayoutState}}
+use Rattle.shop_layout.{specs.Positions.{first_position, place}, proofs.LaidPlaces.{each_position, place_of}}
 
 -- heads of one placing are one list
 module _ {shop : Shop} (limits : IsWithinLimits shop) {l : LayoutState} (laid : IsLaidOut shop l) (p : Placing)

@@ -3,16 +3,14 @@ use Rattle.std.proofs.Common.{rules, ◌≡◌, ℕ, zero, suc, ◌+◌, ◌-◌
 use Rattle.std.proofs.{Common.{refl, sym, ◌∙◌, ap, subst, arith, cond, ltb}, lemmas.Grind.get_or-set_at}
 use Rattle.std.proofs.lemmas.{Bool.{cases_eq, cases_lt, lt-ltb, le-ltb}, List.{get_or-set_other, length-set}}
 use Rattle.shop_model.specs.{Limits.IsWithinLimits, Shop.{Shop, IsOperation, route_of, machine_of, time_of}}
-use Rattle.shop_model.specs.Word.{Placing}
-use Rattle.shop_model.proofs.{Ends.IsOperation-job, Placings.IsNext}
+use Rattle.shop_model.{specs.Word.Placing, proofs.{Ends.IsOperation-job, Placings.IsNext}}
 use Rattle.shop_lanes.specs.Rows.{Rows}
-use Rattle.shop_bound.specs.Heads.{head_of, ready_after}
+use Rattle.shop_bound.{specs.Heads.{head_of, ready_after}, proofs.{HeadsRise.heads_up, HeadsStay.ready_first_same}}
+use Rattle.shop_bound.proofs.{HeadsStay.steps_rise, HeadTurns.{ready_first, ready_more}}
 use Rattle.shop_states.specs.inner.LaneHeads.{AreHeadsAt, AreStored}
 use Rattle.shop_states.specs.inner.Raises.{steps_of, at_in, AreFirst, IsFollowed, IsIndexed, IsPlace, AreInRouteOrder}
 use Rattle.shop_states.specs.inner.Raises.{IsRaised, IsLeastRaise, IsRaisable, IsOnMachine, HasBlocks}
 use Rattle.shop_layout.specs.Positions.{place_or, LayoutState, place, first_position, IsLaidOut}
-use Rattle.shop_bound.proofs.{HeadsRise.heads_up, HeadsStay.{ready_first_same, steps_rise}}
-use Rattle.shop_bound.proofs.HeadTurns.{ready_first, ready_more}
 use Rattle.shop_layout.proofs.LaidPlaces.{IsOperationAt, machines_rise, place_of, each_position, on_machine}
 
 module _ {shop : Shop} (limits : IsWithinLimits shop) {l : LayoutState} (laid : IsLaidOut shop l) where

@@ -1,15 +1,14 @@
 -- Operations of which some are taken out and some heads are raised: only what begins among these heads can bound more.
 use Rattle.std.proofs.Common.{◌≡◌, ℕ, ◌+◌, ◌≤◌, ◌<◌, max, ◌⊎◌, inl, inr, Bool, true, false, List, [], ◌∷◌, length, cond}
 use Rattle.std.proofs.{Common.{refl, arith}, lemmas.Bool.{cases_Bool, cases_lt, and_from, leb-true, le-leb, true≢false}}
-use Rattle.std.proofs.lemmas.List.Sums.{sum_by-cons}
-use Rattle.std.specs.List.{AllByRecursion, filter, sum_by}
+use Rattle.std.{proofs.lemmas.List.Sums.sum_by-cons, specs.List.{AllByRecursion, filter, sum_by}}
 use Rattle.shop_layout.specs.declared.slots.Slot.{Slot}
 use Rattle.shop_bound.specs.{declared.triples.Triple.Triple, OneMachine.{sublists, greatest_of, least_of, span_of, one}}
 use Rattle.shop_bound.specs.{Heads.head_of, inner.NonincreasingTails.{begins_between, one_between}}
-use Rattle.shop_model.specs.{Shop.Shop, Word.Placing}
-use Rattle.shop_states.proofs.LeftSlots.{is_left, triple_of, left_of}
 use Rattle.shop_bound.proofs.Lists.{IsSublist, none, skip, keep, all_map, all_both, least_of-le, greatest_of-le}
 use Rattle.shop_bound.proofs.ThresholdLemmas.{le-greatest_sublist, le-least_of, sublists-are}
+use Rattle.shop_model.specs.{Shop.Shop, Word.Placing}
+use Rattle.shop_states.proofs.LeftSlots.{is_left, triple_of, left_of}
 
 -- y is x with the same head, or with one that is at most `to` where x has one that is at least `from` less 1
 pub record IsRaisedTo (from to : ℕ) (x y : Triple) : Type 0 where

@@ -2,8 +2,7 @@
 use Rattle.std.proofs.Common.{◌≡◌, ℕ, ◌+◌, ◌-◌, ◌≤◌, ◌<◌, max, length, get_or, arith}
 use Rattle.shop_model.specs.{Limits.IsWithinLimits, Shop.{Shop, machine_of, time_of}, Word.Placing}
 use Rattle.shop_model.specs.Placements.{PlacementState, IsPlacement}
-use Rattle.shop_bound.specs.Heads.{ready_after, head_of}
-use Rattle.shop_bound.proofs.HeadTurns.{ready_more}
+use Rattle.shop_bound.{specs.Heads.{ready_after, head_of}, proofs.HeadTurns.ready_more}
 
 -- what one step of the walk along what is left of a route finds
 pub open_turn : (shop : Shop) → IsWithinLimits shop → (s : PlacementState) (j : ℕ) → j < length shop.jobs

@@ -1,18 +1,17 @@
 -- Where the conflict set is one job, its next operation leaves the bound as it is.
 use Rattle.std.proofs.Common.{rules, ◌≡◌, ℕ, zero, suc, ◌+◌, ◌-◌, ◌≤◌, ◌<◌, inl, inr, List, [], ◌∷◌, ◌++◌, refl, sym}
-use Rattle.std.proofs.Common.{ap, subst, arith, eqb, ltb, true}
-use Rattle.std.proofs.lemmas.Bool.{cases_eq, cases_lt, and_from, eq-eqb, le-ltb, lt-ltb, or_left, or_right}
-use Rattle.std.specs.List.{best_of}
+use Rattle.std.proofs.{Common.{ap, subst, arith, eqb, ltb, true}, lemmas.Bool.{cases_eq, cases_lt, and_from, eq-eqb}}
+use Rattle.std.{proofs.lemmas.Bool.{le-ltb, lt-ltb, or_left, or_right}, specs.List.best_of}
 use Rattle.shop_model.specs.{Limits.IsWithinLimits, Shop.{Shop, IsOperation, machine_of}}
 use Rattle.shop_model.specs.Word.{Placing, IsWord, placing, place_next}
 use Rattle.shop_model.proofs.{Greatest.le-greatest_below, Placings.{IsNext, place_next-is}, Unders.after_word}
 use Rattle.shop_bound.specs.{Bound.{waiting, triples_on, lb}, Heads.{ready_after, head_of}, OneMachine.one}
 use Rattle.shop_bound.specs.Conflicts.{open_jobs, next_machine, next_head, next_end, chosen_of, conflicts_with}
 use Rattle.shop_bound.specs.Conflicts.{conflict, conflict_among, SoleCandidateKeepsBound}
-use Rattle.shop_layout.specs.{Slots.AreMachineSlots, declared.slots.Slot.Slot}
-use Rattle.shop_states.specs.inner.RisingLists.{IsIn}
 use Rattle.shop_bound.proofs.{BoundsRise.{bounds_rise, end-le-left}, Entries.IsWord-snoc, HeadsStay.head_stays}
 use Rattle.shop_bound.proofs.HeadTurns.{ready_more}
+use Rattle.shop_layout.specs.{Slots.AreMachineSlots, declared.slots.Slot.Slot}
+use Rattle.shop_states.specs.inner.RisingLists.{IsIn}
 use Rattle.shop_states.proofs.{ChildBounds.{child-le, raised_left}, LaneConflicts.{filter_in, is_open, open_is}}
 use Rattle.shop_states.proofs.{Raising.one_between-none, LeftSlots.left_for, NextOperations.head_first}
 

@@ -2,14 +2,13 @@
 use Rattle.std.proofs.Common.{◌≡◌, ℕ, ◌<◌, List, [], ◌∷◌, ◌++◌, length, get_or, set, refl, sym, ◌∙◌, ap, arith}
 use Rattle.std.proofs.lemmas.{Bool.{cases_lt, le-ltb, lt-ltb}, List.{get_or-set_other, length-set}}
 use Rattle.shop_lanes.specs.Rows.{Rows, with_end, with_head}
-use Rattle.shop_model.specs.{Shop.Shop, Word.{IsWord, placing, place_next}}
-use Rattle.shop_model.proofs.Unders.{placing-snoc}
+use Rattle.shop_model.{specs.{Shop.Shop, Word.{IsWord, placing, place_next}}, proofs.Unders.placing-snoc}
 use Rattle.shop_bound.specs.Conflicts.{conflict}
 use Rattle.shop_states.specs.inner.{LaneEnds.{CanKeepEnds, IsEndOf, end_at}, LaneHeads.AreHeadsAt}
 use Rattle.shop_states.specs.inner.LaneStates.{AreHeadsInLanes, IsKeptInLanes}
-use Rattle.shop_layout.specs.Positions.{LayoutState, place}
 use Rattle.shop_states.proofs.{ChildReads.left_stored, SoleCandidates.{sole_fits, sole_heads}}
 use Rattle.shop_states.proofs.StateSteps.{ends_more, kept_more, next_at, next_known, within}
+use Rattle.shop_layout.specs.Positions.{LayoutState, place}
 
 module _ {greatest : ℕ} {shop : Shop} {w : List ℕ} {l : LayoutState} {rows : Rows} {nexts : List ℕ} {j : ℕ}
     (kept : IsKeptInLanes greatest shop w l rows nexts) (alone : conflict shop w ≡ j ∷ []) where

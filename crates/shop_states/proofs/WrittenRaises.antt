@@ -6,8 +6,7 @@ use Rattle.shop_lanes.specs.Rows.{Rows}
 use Rattle.shop_layout.{proofs.Written.written_vec, specs.Positions.LayoutState}
 use Rattle.shop_states.specs.{declared.head_raises.LaneRaise.LaneRaise, inner.HeadRaises.{Raise, raises_in}}
 use Rattle.shop_states.specs.inner.{MachineRaises.{CanTakeSpansUnder, TakesSpans}, RaiseCalls.HasRaised}
-use Rattle.shop_states.specs.inner.Siblings.{BoundsRaises, HasRaisedBehind}
-use Rattle.shop_states.proofs.RaisedMachines.{lengths_in}
+use Rattle.shop_states.{specs.inner.Siblings.{BoundsRaises, HasRaisedBehind}, proofs.RaisedMachines.lengths_in}
 
 pub long_given : {N : Type 0} (value : N → ℕ) {given items : List (LaneRaise N)} {old : List Raise} → given ≡ items
     → raises_in value items ≡ old → (new : List Raise) → length new ≡ length old

@@ -11,10 +11,9 @@ use Rattle.shop_text.specs.inner.LineReading.{capped, JudgesRow, times_row_fault
 use Rattle.shop_text.specs.{inner.DraftLimits.IsDraftWithin, Grammar.{Row, LineFault}, Formats.{taillard, taillard_job}}
 use Rattle.shop_text.specs.Formats.{grammar_of, jobs_in, machines_in, orlib_fault, orlib_job, routes_fault, routes_job}
 use Rattle.shop_text.specs.{inner.Drafts.{items_of, jobs_drafted, HoldsRows, IsDraft}, declared.formats.Format.Format}
-use Rattle.shop_text.specs.{declared.instance_drafts.Draft.Draft, declared.faults.ReadFault.ReadFault}
-use Rattle.shop_text.specs.declared.formats.Format.TheVariants.{Orlib, Taillard, Routes}
-use Rattle.shop_text.proofs.Capping.{orlib_capped, orlib_same, routes_capped, routes_same, machines_capped}
-use Rattle.shop_text.proofs.Capping.{machines_same}
+use Rattle.shop_text.specs.declared.{instance_drafts.Draft.Draft, faults.ReadFault.ReadFault}
+use Rattle.shop_text.{specs.declared.formats.Format.TheVariants.{Orlib, Taillard, Routes}, proofs.Capping.orlib_capped}
+use Rattle.shop_text.proofs.Capping.{orlib_same, routes_capped, routes_same, machines_capped, machines_same}
 
 -- what refuses only what doesn't hold is there where it holds
 pub ok_since : {A E P : Type 0} (r : Result A E) → (IsErr r ↔ (P → ⊥)) → P → IsOk r

@@ -1,9 +1,8 @@
 -- What comes of a number line: a size line, a row of times, or the row of a job.
-use Rattle.std.proofs.{lemmas.Grind.common_steps, Common.{Some, None, Result, Ok, Err, Vec, ◌∙◌, arith}}
-use Rattle.std.proofs.Common.{◌≡◌, ℕ, ◌<◌, ◌≤◌, true, false, eqb, List, [], ◌∷◌, ◌++◌, length, map, take, drop, Option}
-use Rattle.std.proofs.lemmas.Bool.{ltb-true, ltb-false, eq-eqb, ne_eqb}
-use Rattle.std.proofs.lemmas.List.{map-append, length-append, take_all, drop_all, take-append-le}
-use Rattle.std.specs.{List.zip, declared.alloc.Global.Global}
+use Rattle.std.proofs.{lemmas.Grind.common_steps, Common.{Some, None, Result, Ok, Err, Vec, ◌∙◌, arith, ◌≡◌, ℕ, ◌<◌}}
+use Rattle.std.proofs.Common.{◌≤◌, true, false, eqb, List, [], ◌∷◌, ◌++◌, length, map, take, drop, Option}
+use Rattle.std.proofs.lemmas.{Bool.{ltb-true, ltb-false, eq-eqb, ne_eqb}, List.{map-append, length-append, take_all}}
+use Rattle.std.{proofs.lemmas.List.{drop_all, take-append-le}, specs.{List.zip, declared.alloc.Global.Global}}
 use Rattle.shop_model.specs.{declared.ops.Job.Job, Shop.Shop, Given.job_as_given}
 use Rattle.shop_text.specs.{Formats.{grammar_of, jobs_in, taillard_job}, Grammar.Row, declared.formats.Format.Format}
 use Rattle.shop_text.specs.{inner.LineReading.{capped, Fails, times_row_fault}, inner.Drafts.{IsOneMore, TakesRow}}

@@ -1,6 +1,5 @@
 -- A faulty text is answered by its one fault.
-use Rattle.std.proofs.Common.{◌≡◌, ℕ, ◌⊎◌, List, Result, Ok, Err, Vec, arith}
-use Rattle.std.specs.declared.alloc.Global.{Global}
+use Rattle.std.{proofs.Common.{◌≡◌, ℕ, ◌⊎◌, List, Result, Ok, Err, Vec, arith}, specs.declared.alloc.Global.Global}
 use Rattle.shop_model.specs.Shop.{Shop}
 use Rattle.shop_text.specs.{Grammar.Grammar, Texts.{IsTextFault, OrNoMemory, OneReading}, declared.names.Named.Named}
 use Rattle.shop_text.specs.{Names.{shops_of, FaultIsAnswered}, Schedules.{IsTableFault, OneTable, TableFaultIsAnswered}}

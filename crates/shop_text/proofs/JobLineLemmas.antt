@@ -6,11 +6,9 @@ use Rattle.std.proofs.lemmas.List.{get_or_at, length-take-le, map-append, length
 use Rattle.std.proofs.{lemmas.List.FromFn.length-enumerate_from, lemmas.Slice.Eq.bytes_eq-Decides}
 use Rattle.std.specs.{Prelude.codes, List.enumerate_from, Option.option_eq, Str.bytes_eq}
 use Rattle.shop_model.specs.Shop.{Shop}
-use Rattle.shop_text.specs.Lines.{lines_of, tokens_of, is_empty, is_number, value_of}
-use Rattle.shop_text.specs.inner.LineReading.{capped, number_in}
-use Rattle.shop_text.specs.Schedules.{Tokens, is_label, row_in, AreJobLines, IsBadAt}
-use Rattle.shop_text.specs.inner.ScheduleReading.{IsReadSoFar, rows_held}
-use Rattle.shop_text.proofs.Passing.{one_behind}
+use Rattle.shop_text.specs.{Lines.{lines_of, tokens_of, is_empty, is_number, value_of}, inner.LineReading.capped}
+use Rattle.shop_text.specs.{inner.LineReading.number_in, Schedules.{Tokens, is_label, row_in, AreJobLines, IsBadAt}}
+use Rattle.shop_text.{specs.inner.ScheduleReading.{IsReadSoFar, rows_held}, proofs.Passing.one_behind}
 
 -- ---- labels
 

@@ -1,9 +1,8 @@
 -- The parts of `taillard` are those in plain words.
-use Rattle.std.proofs.{lemmas.Grind.common_steps, lemmas.Bool.{eq-eqb, ne_eqb, true≢false}}
-use Rattle.std.proofs.Common.{◌≡◌, ℕ, zero, suc, ◌+◌, ◌-◌, ◌*◌, ◌≤◌, ◌<◌, inr, Bool, true, leb, List, [], rules, ◌∷◌}
-use Rattle.std.proofs.Common.{◌++◌, length, Option, None, refl, sym, ap, subst, cond, arith}
-use Rattle.std.proofs.lemmas.Bool.{and_parts, and_from, or_right, or_from, leb-true, le-leb, lt-ltb, le-ltb, eqb-true}
-use Rattle.std.proofs.lemmas.List.{length-map, length-append}
+use Rattle.std.proofs.lemmas.{Grind.common_steps, Bool.{eq-eqb, ne_eqb, true≢false, and_parts, and_from, or_right}}
+use Rattle.std.proofs.{lemmas.Bool.{or_from, leb-true, le-leb, lt-ltb, le-ltb, eqb-true}, Common.{◌≡◌, ℕ, zero, suc}}
+use Rattle.std.proofs.Common.{◌+◌, ◌-◌, ◌*◌, ◌≤◌, ◌<◌, inr, Bool, true, leb, List, [], rules, ◌∷◌, ◌++◌, length, Option}
+use Rattle.std.proofs.{Common.{None, refl, sym, ap, subst, cond, arith}, lemmas.List.{length-map, length-append}}
 use Rattle.std.specs.List.{list_all, AllByRecursion}
 use Rattle.shop_text.specs.{Lines.Numbered, Grammar.IsPart, Formats.{jobs_in, machines_in}}
 use Rattle.shop_text.specs.Grammar.{Row, LineFault, WrongShape, Entry, Part, entry_rows, AreSkipped, AreAccepted}

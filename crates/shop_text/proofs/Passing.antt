@@ -1,8 +1,7 @@
 -- One more line of a text: what is left behind it, and what a reader makes of it.
-use Rattle.std.proofs.{lemmas.Grind.common_steps, Common.{Err, Vec, ap, ◌∙◌, subst, append_assoc, arith}}
-use Rattle.std.proofs.Common.{◌≡◌, ℕ, ◌+◌, ◌<◌, ◌≤◌, ◌⊎◌, inl, inr, List, [], ◌∷◌, ◌++◌, length, map, filter, Result}
-use Rattle.std.proofs.lemmas.List.{append-nil}
-use Rattle.std.specs.{List.{list_any, enumerate_from}, declared.alloc.Global.Global}
+use Rattle.std.proofs.{lemmas.Grind.common_steps, Common.{Err, Vec, ap, ◌∙◌, subst, append_assoc, arith, ◌≡◌, ℕ, ◌+◌}}
+use Rattle.std.proofs.Common.{◌<◌, ◌≤◌, ◌⊎◌, inl, inr, List, [], ◌∷◌, ◌++◌, length, map, filter, Result}
+use Rattle.std.{proofs.lemmas.List.append-nil, specs.{List.{list_any, enumerate_from}, declared.alloc.Global.Global}}
 use Rattle.shop_text.specs.{Formats.grammar_of, Lines.{Numbered, is_left, line_of, lines_of, numbered_lines}}
 use Rattle.shop_text.specs.{Grammar.{Grammar, IsRefused}, Texts.{is_header, from_first_header, lines_left}}
 use Rattle.shop_text.specs.{Names.IsRead, inner.LineReading.{lines_after, IsBehind}, declared.names.Named.Named}

@@ -1,8 +1,7 @@
 -- Where in a part the lines stand after one more: a skipped text line, a row of the part, or its last row.
 use Rattle.std.proofs.Common.{arith, ◌≡◌, ℕ, inl, inr, true, false, List, [], ◌∷◌, ◌++◌, None, refl, sym, ap, ◌∙◌}
-use Rattle.std.proofs.{Common.append_assoc, lemmas.Grind.{common_steps, flat_map-append}}
-use Rattle.std.proofs.{lemmas.List.{append-nil, map-append}, lemmas.List.Concat.flat_map-cons}
-use Rattle.std.specs.{Prelude.IsTrue, List.AllByRecursion}
+use Rattle.std.proofs.{Common.append_assoc, lemmas.{Grind.{common_steps, flat_map-append}, List.append-nil}}
+use Rattle.std.{proofs.lemmas.List.{map-append, Concat.flat_map-cons}, specs.{Prelude.IsTrue, List.AllByRecursion}}
 use Rattle.shop_text.specs.{Lines.{Numbers, Words, Numbered}, Grammar.{IsAccepted, AreAccepted, IsPart, IsBegun}}
 use Rattle.shop_text.specs.Grammar.{Row, Grammar, Entry, Part, entry_rows, lines_of_part, lines_of_parts, AreText}
 use Rattle.shop_text.proofs.OneReading.{IsGrammar, entry, with_row}

@@ -1,10 +1,9 @@
 -- The job lines of a report, read as those of a schedule text.
-use Rattle.std.proofs.{lemmas.Grind.common_steps, Common.{length, get_or, map, Option, Some, refl, ap, ◌∙◌, arith}}
-use Rattle.std.proofs.Common.{◌≡◌, ℕ, suc, ◌+◌, ◌^◌, ◌<◌, ◌≤◌, true, false, cond, leb, List, rules, [], ◌∷◌, ◌++◌}
-use Rattle.std.proofs.{lemmas.Bool.{and_from, eq-eqb, le-leb, lt-ltb}, lemmas.List.{length-append, length-map, take_at}}
-use Rattle.std.proofs.lemmas.Slice.Eq.{bytes_eq-Decides}
-use Rattle.std.specs.{Prelude.{filter, codes}, List.{enumerate_from, list_all, join_with_byte}, Str.bytes_eq}
-use Rattle.std.specs.Fmt.{decimal}
+use Rattle.std.proofs.{lemmas.Grind.common_steps, Common.{length, get_or, map, Option, Some, refl, ap, ◌∙◌, arith, ◌≡◌}}
+use Rattle.std.proofs.Common.{ℕ, suc, ◌+◌, ◌^◌, ◌<◌, ◌≤◌, true, false, cond, leb, List, rules, [], ◌∷◌, ◌++◌}
+use Rattle.std.proofs.lemmas.{Bool.{and_from, eq-eqb, le-leb, lt-ltb}, List.{length-append, length-map, take_at}}
+use Rattle.std.{proofs.lemmas.Slice.Eq.bytes_eq-Decides, specs.{Prelude.{filter, codes}, List.enumerate_from}}
+use Rattle.std.specs.{List.{list_all, join_with_byte}, Str.bytes_eq, Fmt.decimal}
 use Rattle.shop_model.specs.Shop.{Shop, route_of}
 use Rattle.shop_text.specs.Lines.{is_line_feed, is_separator, is_empty, tokens_of, is_number, value_of}
 use Rattle.shop_text.specs.Schedules.{Tokens, begins_with_job, is_counted, is_label, is_start, row_in}

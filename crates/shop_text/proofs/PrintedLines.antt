@@ -1,15 +1,13 @@
 -- Printed lines as they are read again: lines, tokens, numbers.
-use Rattle.std.proofs.{lemmas.Grind.common_steps, lemmas.Bool.{eqb-true, or_parts}, lemmas.List.Folds.list_any-append}
-use Rattle.std.proofs.Common.{◌≡◌, ℕ, zero, suc, ◌+◌, ◌-◌, ◌*◌, ◌^◌, ◌/◌, ◌%◌, ◌<◌, ◌≤◌, Bool, true, false, not, ◌||◌}
-use Rattle.std.proofs.Common.{cond, eqb, ltb, List, [], ◌∷◌, ◌++◌, length, map, refl, sym, ap, ◌∙◌, arith, rules}
-use Rattle.std.proofs.lemmas.Fmt.{decimal_nonempty, digits_decimal, digits_value-decimal}
-use Rattle.std.proofs.{lemmas.Str.Parse.{IsNumeralModel, numerals_by_fold}, lemmas.List.{append_assoc, append-nil}}
-use Rattle.std.proofs.lemmas.List.Splits.{length-slice_split, slice_split-cons_yes, slice_split-cons_no}
-use Rattle.std.specs.{Prelude.{filter, fold}, List.{slice_split, list_any, join_with_byte}}
-use Rattle.std.specs.Fmt.{decimal, digits, digits_onto}
+use Rattle.std.proofs.{lemmas.{Grind.common_steps, Bool.{eqb-true, or_parts}, List.Folds.list_any-append}, Common.◌≡◌}
+use Rattle.std.proofs.Common.{ℕ, zero, suc, ◌+◌, ◌-◌, ◌*◌, ◌^◌, ◌/◌, ◌%◌, ◌<◌, ◌≤◌, Bool, true, false, not, ◌||◌, cond}
+use Rattle.std.proofs.Common.{eqb, ltb, List, [], ◌∷◌, ◌++◌, length, map, refl, sym, ap, ◌∙◌, arith, rules}
+use Rattle.std.proofs.lemmas.{Fmt.{decimal_nonempty, digits_decimal, digits_value-decimal}, Str.Parse.IsNumeralModel}
+use Rattle.std.proofs.lemmas.{Str.Parse.numerals_by_fold, List.{append_assoc, append-nil, Splits.length-slice_split}}
+use Rattle.std.{proofs.lemmas.List.Splits.{slice_split-cons_yes, slice_split-cons_no}, specs.Prelude.{filter, fold}}
+use Rattle.std.specs.{List.{slice_split, list_any, join_with_byte}, Fmt.{decimal, digits, digits_onto}}
 use Rattle.shop_text.specs.Lines.{is_line_feed, is_separator, is_empty, lines_of, tokens_of, is_number, value_of}
-use Rattle.shop_text.specs.{Schedules.Tokens, Writing.text_of}
-use Rattle.shop_text.proofs.LineLemmas.{ended_more}
+use Rattle.shop_text.{specs.{Schedules.Tokens, Writing.text_of}, proofs.LineLemmas.ended_more}
 
 -- no byte passes the test
 abbrev pub IsFree : (ℕ → Bool) → List ℕ → Type 0

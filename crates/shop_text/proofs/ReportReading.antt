@@ -1,10 +1,9 @@
 -- A report, and a Gantt text behind it, read as a schedule text.
-use Rattle.std.proofs.{lemmas.Grind.common_steps, Common.{Option, Some, None, refl, sym, ap, ◌∙◌, arith, subst}}
-use Rattle.std.proofs.Common.{◌≡◌, ℕ, ◌≤◌, Bool, true, false, ◌||◌, List, [], ◌∷◌, ◌++◌, rules, length, get_or, map}
-use Rattle.std.proofs.{lemmas.Bool.{eqb-true, leb-true}, lemmas.List.{length-append, length-map}}
-use Rattle.std.proofs.{lemmas.List.Concat.flat_map-append, lemmas.List.FromFn.length-enumerate_from}
-use Rattle.std.specs.{Prelude.{filter, codes}, List.{enumerate_from, list_any, list_all, join_with_byte}}
-use Rattle.std.specs.Option.{option_map_or}
+use Rattle.std.proofs.{lemmas.Grind.common_steps, Common.{Option, Some, None, refl, sym, ap, ◌∙◌, arith, subst, ◌≡◌, ℕ}}
+use Rattle.std.proofs.Common.{◌≤◌, Bool, true, false, ◌||◌, List, [], ◌∷◌, ◌++◌, rules, length, get_or, map}
+use Rattle.std.proofs.lemmas.{Bool.{eqb-true, leb-true}, List.{length-append, length-map, Concat.flat_map-append}}
+use Rattle.std.{proofs.lemmas.List.FromFn.length-enumerate_from, specs.{Prelude.{filter, codes}, List.enumerate_from}}
+use Rattle.std.specs.{List.{list_any, list_all, join_with_byte}, Option.option_map_or}
 use Rattle.shop_model.specs.{Shop.{Shop, Starts}, Limits.AreStarts, Checking.HasShape}
 use Rattle.shop_text.specs.{Lines.{is_line_feed, tokens_of}, Formats.is_visible, RoundTrip.ReportsAreSchedules}
 use Rattle.shop_text.specs.Schedules.{Tokens, is_counted, counted_lines, IsTable}

@@ -1,6 +1,5 @@
 -- Worked schedule texts, computed: two jobs of two steps each, behind the three lines of their instance.
-use Rattle.std.proofs.Common.{◌≡◌, ℕ, ◌≤◌, inr, List, [], ◌∷◌, ◌++◌, length, None, refl, arith}
-use Rattle.std.specs.Prelude.{codes}
+use Rattle.std.{proofs.Common.{◌≡◌, ℕ, ◌≤◌, inr, List, [], ◌∷◌, ◌++◌, length, None, refl, arith}, specs.Prelude.codes}
 use Rattle.shop_text.specs.Schedules.{Tokens, counted_lines, row_in, AreJobLines, IsTable, IsTableFault}
 use Rattle.shop_text.specs.declared.faults.ReadFault.TheVariants.{BadTable}
 use Rattle.shop_text.proofs.WrittenRows.{crossing, crossing_rows}

@@ -1,8 +1,7 @@
 -- By its tokens a line is blank, numbers or words.
 use Rattle.std.proofs.Common.{◌≡◌, ℕ, ◌<◌, Bool, true, false, cond, List, [], ◌∷◌, ◌++◌, length, map, Option, Some}
 use Rattle.std.proofs.{Common.{None, refl, sym, ap, ◌∙◌, arith, append_assoc}, lemmas.Bool.cases_Bool}
-use Rattle.std.proofs.lemmas.List.{append-nil}
-use Rattle.std.specs.{Prelude.MatchOption, List.list_all}
+use Rattle.std.{proofs.lemmas.List.append-nil, specs.{Prelude.MatchOption, List.list_all}}
 use Rattle.shop_text.specs.Lines.{Blank, Numbers, Words, is_number, value_of, line_of_tokens}
 use Rattle.shop_text.specs.inner.LineReading.{capped, with_tokens}
 

@@ -1,9 +1,8 @@
 -- The parts of `orlib` and `routes` are those in plain words.
-use Rattle.std.proofs.{lemmas.Grind.common_steps, lemmas.List.{length-map, length-append}}
-use Rattle.std.proofs.Common.{◌≡◌, ℕ, zero, suc, ◌+◌, ◌*◌, ◌%◌, ◌/◌, inr, cond, not, ◌&&◌, leb, rules, eqb, List, []}
-use Rattle.std.proofs.Common.{◌∷◌, ◌++◌, length, Option, Some, None, refl, sym, ◌∙◌, subst, arith}
-use Rattle.std.proofs.lemmas.Bool.{and_parts, leb-true, le-leb, ltb-true, lt-ltb, eqb-true, eq-eqb, ne_eqb, true≢false}
-use Rattle.std.specs.List.{AllByRecursion}
+use Rattle.std.proofs.{lemmas.{Grind.common_steps, List.{length-map, length-append}}, Common.{◌≡◌, ℕ, zero, suc, ◌+◌}}
+use Rattle.std.proofs.Common.{◌*◌, ◌%◌, ◌/◌, inr, cond, not, ◌&&◌, leb, rules, eqb, List, [], ◌∷◌, ◌++◌, length, Option}
+use Rattle.std.proofs.{Common.{Some, None, refl, sym, ◌∙◌, subst, arith}, lemmas.Bool.{and_parts, leb-true, le-leb}}
+use Rattle.std.{proofs.lemmas.Bool.{ltb-true, lt-ltb, eqb-true, eq-eqb, ne_eqb, true≢false}, specs.List.AllByRecursion}
 use Rattle.shop_model.specs.Shop.{ShopJob}
 use Rattle.shop_text.specs.Grammar.{Row, LineFault, WrongShape, WrongRow, WrongTime, Entry, Part, entry_rows}
 use Rattle.shop_text.specs.{Grammar.{AreAccepted, IsPart}, Formats.machines_in, Shapes.RoutesShape}

@@ -3,11 +3,10 @@ use Rattle.std.proofs.{lemmas.Grind.common_steps, lemmas.Bool.cases_lt, lemmas.L
 use Rattle.std.proofs.Common.{◌≡◌, ℕ, ◌+◌, ◌≤◌, ◌⊎◌, inl, inr, Bool, true, false, cond, List, [], ◌∷◌, ◌++◌, length}
 use Rattle.std.proofs.Common.{Option, Some, None, refl, sym, ap, subst, ◌∙◌, append_assoc, arith}
 use Rattle.std.specs.{Prelude.{IsTrue, filter}, List.AllByRecursion}
-use Rattle.shop_text.specs.Lines.{Line, Blank, Numbers, Words, Numbered, is_left, lines_of}
-use Rattle.shop_text.specs.Grammar.{Row, Grammar, LineFault, WrongRow, fault_at, Entry, Part, entry_rows}
-use Rattle.shop_text.specs.Grammar.{lines_of_parts, AreText, IsPart, IsGood, IsBegun, refusal, IsRefused, IsFault}
-use Rattle.shop_text.specs.declared.faults.ReadFault.{ReadFault}
-use Rattle.shop_text.specs.declared.faults.ReadFault.TheVariants.{NoInstance, Truncated, TooLong}
+use Rattle.shop_text.specs.{Lines.{Line, Blank, Numbers, Words, Numbered, is_left, lines_of}, Grammar.{Row, Grammar}}
+use Rattle.shop_text.specs.Grammar.{LineFault, WrongRow, fault_at, Entry, Part, entry_rows, lines_of_parts, AreText}
+use Rattle.shop_text.specs.Grammar.{IsPart, IsGood, IsBegun, refusal, IsRefused, IsFault}
+use Rattle.shop_text.specs.declared.faults.ReadFault.{ReadFault, TheVariants.{NoInstance, Truncated, TooLong}}
 use Rattle.shop_text.specs.Texts.{from_first_header, lines_left, named_from, HasReading, SomeReading}
 use Rattle.shop_text.proofs.{OneReading.{IsGrammar, with_row}, Places.{words_on, row_on, part_on}}
 

@@ -1,13 +1,11 @@
 -- Each schedule text gives exactly one table, or has exactly one fault.
-use Rattle.std.proofs.{lemmas.Grind.common_steps, Common.{sym, ap, ◌∙◌, arith, inl, inr, subst}, lemmas.Bool.cases_lt}
-use Rattle.std.proofs.Common.{◌≡◌, ℕ, ◌+◌, ◌<◌, ◌≤◌, ◌⊎◌, List, [], ◌∷◌, ◌++◌, length, map, Option, Some, None, refl}
-use Rattle.std.proofs.lemmas.List.{append-nil, append_assoc, length_push}
-use Rattle.std.specs.List.{enumerate_from}
+use Rattle.std.proofs.{lemmas.Grind.common_steps, Common.{sym, ap, ◌∙◌, arith, inl, inr, subst, ◌≡◌, ℕ, ◌+◌, ◌<◌, ◌≤◌}}
+use Rattle.std.proofs.{Common.{◌⊎◌, List, [], ◌∷◌, ◌++◌, length, map, Option, Some, None, refl}, lemmas.Bool.cases_lt}
+use Rattle.std.{proofs.lemmas.List.{append-nil, append_assoc, length_push}, specs.List.enumerate_from}
 use Rattle.shop_model.specs.Shop.{Shop}
-use Rattle.shop_text.specs.{Lines.lines_of, Schedules.{IsTableFault, OneTable, SomeTable}}
-use Rattle.shop_text.specs.Schedules.{Tokens, counted_lines, row_in, AreJobLines, IsTable, GoesWrong, IsBadAt}
-use Rattle.shop_text.specs.declared.faults.ReadFault.{ReadFault}
-use Rattle.shop_text.specs.declared.faults.ReadFault.TheVariants.{TooLong, BadTable}
+use Rattle.shop_text.specs.{Lines.lines_of, Schedules.{IsTableFault, OneTable, SomeTable, Tokens, counted_lines}}
+use Rattle.shop_text.specs.Schedules.{row_in, AreJobLines, IsTable, GoesWrong, IsBadAt}
+use Rattle.shop_text.specs.declared.faults.ReadFault.{ReadFault, TheVariants.{TooLong, BadTable}}
 use Rattle.shop_text.proofs.JobLineLemmas.{row_at, as_many, good_more, is_job_of}
 
 -- a counted line with its number

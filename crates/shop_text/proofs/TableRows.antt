@@ -1,7 +1,6 @@
 -- The starts of a table that is read are within their limit.
-use Rattle.std.proofs.Common.{◌≡◌, ℕ, ◌+◌, ◌≤◌, true, List, [], ◌∷◌, get_or, map, Some, arith}
-use Rattle.std.proofs.lemmas.Bool.{and_parts, leb-true}
-use Rattle.std.specs.List.{enumerate_from, list_all}
+use Rattle.std.proofs.{Common.{◌≡◌, ℕ, ◌+◌, ◌≤◌, true, List, [], ◌∷◌, get_or, map, Some, arith}, lemmas.Bool.and_parts}
+use Rattle.std.{proofs.lemmas.Bool.leb-true, specs.List.{enumerate_from, list_all}}
 use Rattle.shop_model.specs.{Shop.Shop, Limits.AreStarts}
 use Rattle.shop_text.specs.{Lines.value_of, Schedules.{Tokens, is_start, starts_in, IsTable}}
 use Rattle.shop_text.proofs.JobLineLemmas.{row_at}

@@ -1,6 +1,5 @@
 -- Worked texts that are printed, computed byte for byte.
-use Rattle.std.proofs.Common.{◌≡◌, ℕ, List, [], ◌∷◌, ◌++◌, map, refl}
-use Rattle.std.specs.{Prelude.codes, Fmt.digits}
+use Rattle.std.{proofs.Common.{◌≡◌, ℕ, List, [], ◌∷◌, ◌++◌, map, refl}, specs.{Prelude.codes, Fmt.digits}}
 use Rattle.shop_model.specs.{declared.ops.Op.Op, declared.ops.OperationId.OperationId, Shop.{Shop, ShopJob}}
 use Rattle.shop_model.specs.declared.checking.Verdict.TheVariants.{Feasible, Unreleased, Early, Overlap}
 use Rattle.shop_model.specs.Checking.{starts_of}

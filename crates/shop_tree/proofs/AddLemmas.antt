@@ -4,11 +4,11 @@ use Rattle.std.proofs.{Common.{reverse, refl, ◌∙◌, ap, arith, append_assoc
 use Rattle.std.proofs.lemmas.List.{length-map, length-reverse, length-append, drop_at, nil_from_length}
 use Rattle.shop_model.specs.{Shop.{Shop, operation_count}, Word.IsWord}
 use Rattle.shop_bound.specs.Bound.{lb}
-use Rattle.shop_nodes.specs.{Branching.{branch, conflict, sort_by}, Halts.{open_child, last_of, IsClosed, IsWaiting}}
+use Rattle.shop_nodes.specs.{Branching.{branch, conflict}, Halts.{open_child, last_of, IsClosed, IsWaiting}}
 use Rattle.shop_nodes.specs.declared.halts.{Open.Open, Waiting.{Waiting, TheVariants.Rest}}
 use Rattle.shop_tree.specs.inner.{Opens.{open_words, IsAt, AreChildren}, Searching.Adds}
 use Rattle.shop_tree.proofs.{Pushing.{with_opens, with_rest}, OpenLemmas.{opens-words, all-opens}}
-use Rattle.shop_nodes.proofs.WalkSteps.{branch_few, length-insert_by}
+use Rattle.shop_nodes.proofs.WalkSteps.{branch_few, length-sort_by}
 
 -- the last elements are the second part
 last_part : {A : Type 0} (xs ys : List A) → last_of (length ys) (xs ++ ys) ≡ ys
@@ -61,10 +61,6 @@ few-children shop limit word opens (suc n) depth old kids =
 pub long_rest : (old : List Waiting) (depth n : ℕ) → length (with_rest old depth n) ≤ length old + 1
 long_rest old depth zero = omega arith
 long_rest old depth (suc n) = let a = length-append old (Rest depth (suc n) ∷ []) in omega arith
-
-length-sort_by : {A : Type 0} (key : A → ℕ) (xs : List A) → length (sort_by key xs) ≡ length xs
-length-sort_by key [] = refl
-length-sort_by key (x ∷ xs) = length-insert_by key x (sort_by key xs) ∙ ap suc (length-sort_by key xs)
 
 pub conflict_few : (shop : Shop) (word : List ℕ) → length (conflict shop word) ≤ length shop.jobs
 conflict_few shop word =

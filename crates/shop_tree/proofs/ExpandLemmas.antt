@@ -1,21 +1,17 @@
 -- Where a walk goes on from the word that it came to.
 use Rattle.std.proofs.Common.{◌≡◌, ℕ, suc, ◌+◌, ◌-◌, ◌*◌, ◌≤◌, ◌<◌, Some, List, [], ◌∷◌, ◌++◌, length, map, refl, sym}
-use Rattle.std.proofs.{Common.{◌∙◌, ap, subst, arith, append-nil}, lemmas.List.length_push}
-use Rattle.std.proofs.Math.Seq.{take-append_seam, take-length}
-use Rattle.std.specs.{Prelude.take, List.fold}
+use Rattle.std.proofs.{Common.{◌∙◌, ap, subst, arith, append-nil}, lemmas.List.length_push, Math.Seq.take-append_seam}
+use Rattle.std.{proofs.Math.Seq.take-length, specs.{Prelude.take, List.fold}}
 use Rattle.shop_model.specs.{Shop.{Shop, operation_count}, Word.IsWord}
-use Rattle.shop_bound.specs.{Bound.lb, Conflicts.SoleCandidateKeepsBound}
-use Rattle.shop_nodes.specs.{Branching.{branch, conflict, sort_by}, Walking.{Walk, walk}}
-use Rattle.shop_nodes.specs.Halts.{open_child, word_at, IsWaiting}
-use Rattle.shop_nodes.specs.declared.halts.{Open.Open, Waiting.Waiting}
+use Rattle.shop_bound.{specs.{Bound.lb, Conflicts.SoleCandidateKeepsBound}, proofs.Lists.all_map}
+use Rattle.shop_nodes.specs.{Branching.{branch, conflict, sort_by}, Walking.{Walk, walk}, Halts.{open_child, word_at}}
+use Rattle.shop_nodes.{specs.{Halts.IsWaiting, declared.halts.{Open.Open, Waiting.Waiting}}, proofs.WalkSteps.walk-cut}
 use Rattle.shop_tree.specs.inner.{Walkers.on_top, Searching.{walk_stack, Adds, entered}, Opens.AreChildren}
 use Rattle.shop_tree.specs.inner.Walkers.{spent_one, Stage, HasFollowed, HasBranched, HasExpanded, IsInOrder, gone_on}
 use Rattle.shop_tree.proofs.{Entering.{entered-children, entered-full, walk-entered}, Pushing.{with_opens, with_rest}}
-use Rattle.shop_bound.proofs.Lists.{all_map}
 use Rattle.shop_tree.proofs.TurnLemmas.{below_waits, child_walks, children_walk}
 use Rattle.shop_tree.proofs.OpenLemmas.{IsUpTo, adds-waits, all-same, all-lower, deep, words-same}
 use Rattle.shop_tree.proofs.AddLemmas.{adds-children, few-children, long_rest}
-use Rattle.shop_nodes.proofs.WalkSteps.{walk-cut}
 
 some_budget : (shop : Shop) (t : Walk) (w : List ℕ) → 0 < t.budget
     → walk shop t w ≡ walk shop (record t { budget = suc (t.budget - 1) }) w
@@ -49,12 +45,8 @@ pub follows_one : (s : Stage) (j : ℕ) → length s.word < operation_count s.sh
     → conflict s.shop s.word ≡ j ∷ [] → SoleCandidateKeepsBound s.shop s.word
     → 0 < s.walk.budget → lb s.shop s.word < s.walk.best → IsInOrder s → HasGone s (gone_on s j) (lb s.shop s.word)
 follows_one s j short alone keeps some below ordered =
-    let shop = s.shop
-    in let w = s.word
-    in let child = w ++ j ∷ []
-    in let n = length w
-    in let bound : lb shop child ≡ lb shop w = keeps j alone
-    in let longer = length_push w j
+    let shop = s.shop in let w = s.word in let child = w ++ j ∷ [] in let n = length w
+    in let bound : lb shop child ≡ lb shop w = keeps j alone in let longer = length_push w j
     in let alike : take n child ≡ take n w = take-append_seam w (j ∷ []) ∙ sym (take-length w)
     in let low = all_map (IsWaiting shop s.walk.best w) (IsUpTo n) (deep shop s.walk.best w) s.stack ordered.each
     in let children : branch shop w ≡ child ∷ [] =

@@ -4,9 +4,8 @@ use Rattle.std.proofs.Common.{None, All, refl, sym, ◌∙◌, ap, subst, append
 use Rattle.std.proofs.{Math.Seq.{get_or-append_seam, set-append_seam}, lemmas.List.{length_push, map-append}}
 use Rattle.std.proofs.lemmas.List.Elements.{All-append, All-map, All-from_recursion}
 use Rattle.shop_nodes.specs.{Halts.open_child, declared.halts.Waiting.{Waiting, TheVariants.Rest}}
-use Rattle.shop_tree.specs.{declared.held.Held.Held, inner.Held.HasSetRestBelow}
-use Rattle.shop_tree.specs.inner.Held.{IsHeld, IsKept, Kept, held, opens_in, waiting_in, with_held_rest}
-use Rattle.shop_tree.proofs.Pushing.{with_opens, with_rest}
+use Rattle.shop_tree.specs.{declared.held.Held.Held, inner.Held.{HasSetRestBelow, IsHeld, IsKept, Kept, held, opens_in}}
+use Rattle.shop_tree.{specs.inner.Held.{waiting_in, with_held_rest}, proofs.Pushing.{with_opens, with_rest}}
 
 children_moved : {S : Type 0} (ks : List (Kept S)) → waiting_in (map held ks) ≡ map (λ o. open_child o) (opens_in ks)
 children_moved [] = refl

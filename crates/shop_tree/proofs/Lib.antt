@@ -11,6 +11,7 @@ mod HeldLemmas
 mod TrialLemmas
 mod WalkerLemmas
 mod StateLemmas
+mod PopLemmas
 mod StateSteps
 mod StripLemmas
 mod SiblingLemmas

@@ -1,7 +1,6 @@
 -- Lists reversed, what holds of all of their elements, and of calls that succeed.
 use Rattle.std.proofs.Common.{arith, ◌≡◌, List, [], ◌∷◌, ◌++◌, reverse, Result, Ok, Err, OnOk}
-use Rattle.std.proofs.lemmas.List.{reverse-append}
-use Rattle.std.specs.List.{AllByRecursion}
+use Rattle.std.{proofs.lemmas.List.reverse-append, specs.List.AllByRecursion}
 use Rattle.shop_bound.proofs.Lists.{all_append}
 
 pub reverse-cons : {A : Type 0} (x : A) (xs : List A) → reverse (x ∷ xs) ≡ reverse xs ++ x ∷ []

@@ -1,15 +1,13 @@
 -- What waits on a stack that is kept short, as the walk goes on to another word.
 use Rattle.std.proofs.Common.{◌≡◌, ℕ, ◌≤◌, List, [], ◌∷◌, ◌++◌, length, map, take, reverse, refl, sym, ◌∙◌, ap, subst}
-use Rattle.std.proofs.{Common.{arith, append_assoc, append-nil}, lemmas.List.Sums.fold-append}
-use Rattle.std.proofs.lemmas.List.{take-append-le, length-take-le, take-take, length-append}
-use Rattle.std.specs.List.{AllByRecursion, fold}
+use Rattle.std.proofs.{Common.{arith, append_assoc, append-nil}, lemmas.List.{Sums.fold-append, take-append-le}}
+use Rattle.std.{proofs.lemmas.List.{length-take-le, take-take, length-append}, specs.List.{AllByRecursion, fold}}
 use Rattle.shop_model.specs.Shop.{Shop}
 use Rattle.shop_nodes.specs.{Halts.{open_child, word_at, waiting_words, stack_words, IsWaiting}, Walking.{Walk, walk}}
 use Rattle.shop_nodes.specs.declared.halts.{Open.Open, Waiting.{Waiting, TheVariants.{Child, Rest}}}
 use Rattle.shop_tree.specs.inner.Opens.{open_words, depth_of, IsFrom, IsAt, IsRising, AreWaiting}
-use Rattle.shop_tree.specs.inner.Searching.{walk_stack, Adds}
+use Rattle.shop_tree.{specs.inner.Searching.{walk_stack, Adds}, proofs.ListLemmas.{reverse-cons, all_front, all_back}}
 use Rattle.shop_bound.proofs.Lists.{all_append, all_map}
-use Rattle.shop_tree.proofs.ListLemmas.{reverse-cons, all_front, all_back}
 
 -- an entry that begins with at most n entries of the word
 abbrev pub IsUpTo : ℕ → Waiting → Type 0

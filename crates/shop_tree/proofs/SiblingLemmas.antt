@@ -12,8 +12,8 @@ use Rattle.shop_nodes.specs.declared.halts.{Open.Open, Waiting.{Waiting, TheVari
 use Rattle.shop_nodes.proofs.ChildrenLemmas.{child-word}
 use Rattle.shop_tree.specs.{declared.walk_states.{WalkStates.WalkStates, Branching.Branching}, inner.Opens.AreChildren}
 use Rattle.shop_tree.specs.{inner.Held.{IsHeldOf, IsKept, Kept, held, opens_in}, declared.held.Held.Held}
-use Rattle.shop_tree.specs.inner.{Slots.{AreBounded, IsBranchingOf, IsStateIn, Lists}, Tried.{HasGiven, HasPutChildren}}
-use Rattle.shop_tree.proofs.{StripLemmas.{at_kid, many}, TrialLemmas.IsChildBelow}
+use Rattle.shop_tree.specs.inner.{Slots.{AreBounded, IsBranchingOf, IsStateIn, KeepSlots, Lists}, Tried.HasGiven}
+use Rattle.shop_tree.{specs.inner.Tried.HasPutChildren, proofs.{StripLemmas.{at_kid, many}, TrialLemmas.IsChildBelow}}
 
 -- the bound of a settled child
 pub settled_bound : (shop : Shop) (word : List ℕ) (bound top : ℕ) (cs : List Candidate)
@@ -92,13 +92,10 @@ pub put_given : {S : Type 0} (is : List ℕ → S → Type 0) (shop : Shop) (lim
     → HasGiven is word from mid new → HasPutChildren is shop limit word old new n
 put_given is shop limit word old mid new n from e put (inl same) = grind arith
 put_given {S} is shop limit word old mid new n from e put (inr (child, (state, at))) =
-    let i = length mid - 1
-    in let k = i - from
+    let i = length mid - 1 in let k = i - from
     in let bare : Kept S = record { «open» = child; state = None }
-    in let given : Kept S = record { «open» = child; state = state }
-    in let own = get_or put.kids k bare
-    in let long = many old put.kids from e mid put.stack
-    in let low = at.on_top.within
+    in let given : Kept S = record { «open» = child; state = state } in let own = get_or put.kids k bare
+    in let long = many old put.kids from e mid put.stack in let low = at.on_top.within
     in let within : k < length put.kids = omega arith
     in let there = at_kid old put.kids from e mid put.stack i (omega arith) (omega arith) (held bare) bare
     in let is_own : own.open ≡ child = child_same own.open child
@@ -124,6 +121,11 @@ put_given {S} is shop limit word old mid new n from e put (inr (child, (state, a
       states = All-set (IsKept is word) put.kids k given
           (subst (λ (w : List ℕ). IsHeldOf is w state) word_is at.own) put.states;
     }
+
+-- slots that are kept in two steps
+pub kept_then : {D S C : Type 0} {g : Ghosts D S C} {r s t : WalkStates D S C} → KeepSlots g s t
+    → s.dispatcher.now ≡ r.dispatcher.now → KeepSlots g r t
+kept_then kept same = record { states = kept.states; dispatcher = kept.dispatcher ∙ same }
 
 -- what is known of the current word, once a trial left its state
 module _ {D S C : Type 0} {g : Ghosts D S C} {s t : WalkStates D S C} {b : Branching}

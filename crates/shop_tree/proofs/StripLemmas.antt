@@ -2,8 +2,7 @@
 use Rattle.std.proofs.Common.{◌≡◌, ℕ, ◌+◌, ◌-◌, ◌≤◌, ◌<◌, List, ◌++◌, ◌∷◌, [], length, map, get_or, set, inl, inr, All}
 use Rattle.std.proofs.{Common.{None, Some, Option, refl, sym, ◌∙◌, ap, subst, arith}, Math.Seq.map-set_same}
 use Rattle.std.proofs.lemmas.List.{get_or-append-add, get_or-map, length-append, length-map, map-set, set-append_right}
-use Rattle.std.proofs.lemmas.List.Elements.{All-set}
-use Rattle.std.specs.{Global.Box, List.insert, Prelude.OnSome}
+use Rattle.std.{proofs.lemmas.List.Elements.All-set, specs.{Global.Box, List.insert, Prelude.OnSome}}
 use Rattle.shop_nodes.specs.Halts.{word_at}
 use Rattle.shop_tree.specs.{declared.held.Held.Held, inner.Held.{IsHeldOf, IsKept, Kept, held, opens_in}}
 use Rattle.shop_tree.specs.inner.Tried.{AreSlotsFrom, HasPutTried, HasStripped}
@@ -26,8 +25,7 @@ module _ {S : Type 0} (below : List (Held S)) (kids : List (Kept S)) (from : ℕ
   pub at_kid : (i : ℕ) → from ≤ i → i < length stack → (d : Held S) (k : Kept S)
       → get_or stack i d ≡ held (get_or kids (i - from) k)
   at_kid i low high d k =
-      let n = i - from
-      in let long = many
+      let n = i - from in let long = many
       in let there : get_or stack i d ≡ get_or (below ++ map held kids) (length below + n) d =
       ap (λ (xs : List (Held S)). get_or xs i d) top
       ∙ ap (λ (m : ℕ). get_or (below ++ map held kids) m d) (omega arith)

@@ -1,6 +1,5 @@
 -- One turn of the walk of a stack: where the walk goes.
-use Rattle.std.proofs.Common.{arith, ◌≡◌, ℕ, ◌<◌, List, [], ◌∷◌, ◌++◌, length, sym, ◌∙◌, ap}
-use Rattle.std.specs.List.{fold}
+use Rattle.std.{proofs.Common.{arith, ◌≡◌, ℕ, ◌<◌, List, [], ◌∷◌, ◌++◌, length, sym, ◌∙◌, ap}, specs.List.fold}
 use Rattle.shop_model.specs.Shop.{Shop, operation_count}
 use Rattle.shop_nodes.specs.{Halts.{open_child, word_at}, Walking.{Walk, walk}, declared.halts.Open.Open}
 use Rattle.shop_nodes.specs.declared.halts.Waiting.{Waiting}

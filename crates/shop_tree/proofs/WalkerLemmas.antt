@@ -1,19 +1,18 @@
 -- The turns of a walk, told of where it stands before and after.
 use Rattle.std.proofs.Common.{◌≡◌, ℕ, zero, suc, ◌+◌, ◌-◌, ◌*◌, ◌≤◌, ◌<◌, Option, List, [], ◌∷◌, ◌++◌, length, refl}
-use Rattle.std.proofs.{Common.{sym, ◌∙◌, ap, subst, arith}, lemmas.Bool.cases_lt, lemmas.List.Sums.fold-append}
+use Rattle.std.proofs.{Common.{get_or, sym, ◌∙◌, ap, subst, arith}, lemmas.{Bool.cases_lt, List.Sums.fold-append}}
 use Rattle.std.proofs.lemmas.List.{length_push, length-drop, drop_all, drop-drop}
-use Rattle.std.specs.{Prelude.{take, drop}, List.{AllByRecursion, fold}}
+use Rattle.std.{specs.{Prelude.{take, drop}, List.{AllByRecursion, fold}}, proofs.Math.Seq.drop-cons}
 use Rattle.shop_model.specs.{Shop.{Shop, operation_count}, Word.IsWord}
 use Rattle.shop_bound.specs.Bound.{lb}
 use Rattle.shop_nodes.specs.{Branching.branch, Nodes.words_of, Pieces.walk_told, Walking.{walk, sheet}}
 use Rattle.shop_nodes.specs.Halts.{open_child, word_at, last_of, waiting_words, stack_words, IsClosed}
 use Rattle.shop_nodes.specs.declared.{nodes.Node.Node, halts.{Open.Open, Waiting.TheVariants.Rest}}
-use Rattle.shop_tree.specs.{inner.Opens.AreChildren, inner.Walkers.{node_walk, spent_one, stack_walk, turns_left}}
-use Rattle.shop_tree.specs.inner.Walkers.{Stage, HasExpanded, HasWalked, HasWalkedUpTo, IsInOrder, IsTurn, on_top}
-use Rattle.shop_tree.specs.inner.Searching.{walk_stack, opening_walk}
 use Rattle.shop_nodes.proofs.HighWalks.{high-taken, none-walked}
-use Rattle.shop_tree.proofs.{OpenLemmas.{popped, replaced, walk-top}, TurnLemmas.{below_waits, child_walks}}
-use Rattle.shop_tree.proofs.ExpandLemmas.{ends_closed, enters, cuts}
+use Rattle.shop_tree.specs.inner.{Opens.AreChildren, Walkers.{node_walk, spent_one, stack_walk, turns_left, Stage}}
+use Rattle.shop_tree.specs.inner.Walkers.{HasExpanded, HasWalked, HasWalkedUpTo, IsInOrder, IsTurn, on_top}
+use Rattle.shop_tree.{specs.inner.Searching.{walk_stack, opening_walk}, proofs.OpenLemmas.{popped, replaced, walk-top}}
+use Rattle.shop_tree.proofs.{TurnLemmas.{below_waits, child_walks}, ExpandLemmas.{ends_closed, enters, cuts}}
 
 -- turns over plain numbers
 one_spent : (b jobs jobs' new rest one : ℕ) → 0 < b → jobs' ≡ jobs → one ≡ rest + 1
@@ -182,6 +181,12 @@ pub node_expanded : (s m t : Stage) (node : Node) → s.stack ≡ [] → 0 < s.w
     → lb s.shop node.word < s.walk.best → HasExpanded (at_node s node) m → HasWalked m t (stack_walk m)
     → HasWalked s t (node_walk s node)
 node_expanded s m t node empty some below e h = grind (arith, enters)
+
+-- one more node was walked
+pub nodes_on : (s m t : Stage) (nodes : List Node) (k : ℕ) (node : Node) → node ≡ get_or nodes k node → k < length nodes
+    → 0 < m.walk.budget → HasWalkedUpTo s m nodes k → HasWalked m t (node_walk m node) → HasWalkedUpTo s t nodes (k + 1)
+nodes_on s m t nodes k node at here some old new =
+    let e = drop-cons nodes k node here in let none = old.done some in grind (arith, e, none)
 
 -- what a walk of nodes comes to, from nothing on
 pub told_sheet : (s t : Stage) (nodes : List Node) (k : ℕ) (shop : Shop) (best budget : ℕ) → s.shop ≡ shop

@@ -1,10 +1,10 @@
 // The search of a piece, in lanes of the width of its layout.
 ghost use Rattle.std.specs.Prelude.{◌≡◌, ◌≤◌, ◌<◌, ◌^◌, IfOk, OnOk};
 ghost use Rattle.shop_nodes.specs.Nodes.{AreNodes};
-ghost use Rattle.shop_tree.specs.Searches.{Searches};
+ghost use Rattle.shop_tree.specs.{Searches.Searches, inner.StateWalkers.HasStates};
 
 use crate::walkers::Walker;
-use shop_lanes::{Lanes16, Lanes32, Lanes64};
+use shop_lanes::{Lanes16, Lanes32, Lanes64, StateLanes};
 use shop_layout::{LaidOut, LaneLayout, Layout};
 use shop_model::Instance;
 use shop_nodes::{Piece, Sheet};
@@ -15,8 +15,47 @@ use std::marker::Model;
 /// A walk over states in lanes of the type `L`.
 type WalkerIn<'l, 'a, L> = Walker<'l, 'a, LaidOut<'a, L>, State<L>>;
 
+// `LaneWalker` calls these for each of its lanes, and not the walk's own functions: so what a walk needs of its states,
+// how to let go of them among it, is proved once, for any lanes, and not for each.
+
+/// Makes a walk like `Walker::new`.
+#[inline(always)]
+fn walker_in<'l, 'a, L: StateLanes>(
+    alloc: Global,
+    instance: &'a Instance,
+    lanes: &'l LaidOut<'a, L>,
+    most: usize,
+) -> Result<WalkerIn<'l, 'a, L>, NoMemory>
+    requires { lanes.now.asked ≡ instance.now }
+    ensures instance { IfOk result (λ w. w.instance.now ≡ instance.now) }
+    ensures states { IfOk result HasStates }
+{
+    Walker::new(alloc, instance, lanes, most)
+}
+
+/// Searches `piece` like `Walker::search`.
+#[inline(always)]
+fn search_in<'l, 'a, L: StateLanes>(
+    walker: &mut WalkerIn<'l, 'a, L>,
+    alloc: Global,
+    piece: &'a Piece,
+    best: u64,
+    budget: u64,
+) -> Result<Sheet<'a>, NoMemory>
+    requires nodes { AreNodes walker.old.instance.now piece.now.nodes.items }
+    requires small { budget < 2 ^ 50 }
+    requires states { HasStates walker.old }
+    ensures sheet { IfOk result (Searches walker.old.instance.now piece.now best budget) }
+    ensures instance { OnOk result (walker.new.instance.now ≡ walker.old.instance.now) }
+    ensures states { OnOk result (HasStates walker.new) }
+{
+    walker.search(alloc, piece, best, budget)
+}
+
+/// Lets go of a walk.
+fn let_go<L: StateLanes>(_walker: WalkerIn<'_, '_, L>) {}
+
 /// A walk in lanes of 16, 32 or 64 bits; in those of 16 bits for two, three, four or any number of blocks a machine.
-#[derive(Drop)]
 enum LaneWalker<'l, 'a> {
     In16By2(WalkerIn<'l, 'a, Lanes16<2>>),
     In16By3(WalkerIn<'l, 'a, Lanes16<3>>),
@@ -24,6 +63,19 @@ enum LaneWalker<'l, 'a> {
     In16(WalkerIn<'l, 'a, Lanes16<0>>),
     In32(WalkerIn<'l, 'a, Lanes32>),
     In64(WalkerIn<'l, 'a, Lanes64>),
+}
+
+impl Drop for LaneWalker<'_, '_> {
+    fn drop(self) {
+        match self {
+            LaneWalker::In16By2(walker) => let_go(walker),
+            LaneWalker::In16By3(walker) => let_go(walker),
+            LaneWalker::In16By4(walker) => let_go(walker),
+            LaneWalker::In16(walker) => let_go(walker),
+            LaneWalker::In32(walker) => let_go(walker),
+            LaneWalker::In64(walker) => let_go(walker),
+        }
+    }
 }
 
 impl<'l, 'a> LaneWalker<'l, 'a> {
@@ -41,12 +93,12 @@ impl<'l, 'a> LaneWalker<'l, 'a> {
         ensures { IfOk result (IsWalkOf instance.now) }
     {
         Ok(match layout.lanes() {
-            LaneLayout::In16By2(lanes) => Self::In16By2(Walker::new(alloc, instance, lanes, most)?),
-            LaneLayout::In16By3(lanes) => Self::In16By3(Walker::new(alloc, instance, lanes, most)?),
-            LaneLayout::In16By4(lanes) => Self::In16By4(Walker::new(alloc, instance, lanes, most)?),
-            LaneLayout::In16(lanes) => Self::In16(Walker::new(alloc, instance, lanes, most)?),
-            LaneLayout::In32(lanes) => Self::In32(Walker::new(alloc, instance, lanes, most)?),
-            LaneLayout::In64(lanes) => Self::In64(Walker::new(alloc, instance, lanes, most)?),
+            LaneLayout::In16By2(lanes) => Self::In16By2(walker_in(alloc, instance, lanes, most)?),
+            LaneLayout::In16By3(lanes) => Self::In16By3(walker_in(alloc, instance, lanes, most)?),
+            LaneLayout::In16By4(lanes) => Self::In16By4(walker_in(alloc, instance, lanes, most)?),
+            LaneLayout::In16(lanes) => Self::In16(walker_in(alloc, instance, lanes, most)?),
+            LaneLayout::In32(lanes) => Self::In32(walker_in(alloc, instance, lanes, most)?),
+            LaneLayout::In64(lanes) => Self::In64(walker_in(alloc, instance, lanes, most)?),
         })
     }
 
@@ -66,12 +118,12 @@ impl<'l, 'a> LaneWalker<'l, 'a> {
         ensures walk { OnOk result (IsWalkOf (shop_walked self.old) self.new) }
     {
         match self {
-            LaneWalker::In16By2(walker) => walker.search(alloc, piece, best, budget),
-            LaneWalker::In16By3(walker) => walker.search(alloc, piece, best, budget),
-            LaneWalker::In16By4(walker) => walker.search(alloc, piece, best, budget),
-            LaneWalker::In16(walker) => walker.search(alloc, piece, best, budget),
-            LaneWalker::In32(walker) => walker.search(alloc, piece, best, budget),
-            LaneWalker::In64(walker) => walker.search(alloc, piece, best, budget),
+            LaneWalker::In16By2(walker) => search_in(walker, alloc, piece, best, budget),
+            LaneWalker::In16By3(walker) => search_in(walker, alloc, piece, best, budget),
+            LaneWalker::In16By4(walker) => search_in(walker, alloc, piece, best, budget),
+            LaneWalker::In16(walker) => search_in(walker, alloc, piece, best, budget),
+            LaneWalker::In32(walker) => search_in(walker, alloc, piece, best, budget),
+            LaneWalker::In64(walker) => search_in(walker, alloc, piece, best, budget),
         }
     }
 }

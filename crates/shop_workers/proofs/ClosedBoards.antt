@@ -5,10 +5,9 @@ use Rattle.std.specs.List.{IsDistinct, AllByRecursion}
 use mathlib.Core.Option.{some}
 use lib.ListN.{get_elem?}
 use Rattle.shop_workers.specs.{declared.views.View.View, Views.{has, once, HasServed, ArePieces, HasAll, HasAsMany}}
-use Rattle.shop_workers.specs.Moments.{hit_word, IsLive, IsLawful}
+use Rattle.shop_workers.{specs.Moments.{hit_word, IsLive, IsLawful}, proofs.Numbers.{has_cons, has_tail, is_false}}
+use Rattle.shop_workers.proofs.{Numbers.{once_first, once_others, once_cons}, Words.word_read, LawfulSteps.Moment}
 use Rattle.shop_runs.specs.Hits.{is_hit_in, IsLeastHit}
-use Rattle.shop_workers.proofs.Numbers.{has_cons, has_tail, is_false, once_first, once_others, once_cons}
-use Rattle.shop_workers.proofs.{Words.word_read, LawfulSteps.Moment}
 
 differs : (x : ℕ) (xs : List ℕ) → (has xs x ≡ true → ⊥) → AllByRecursion (λ y. eqb x y ≡ false) xs
 differs x [] none = tt

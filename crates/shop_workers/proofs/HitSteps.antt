@@ -1,15 +1,14 @@
 -- Reading and lowering the hit word keep a board lawful.
 use Rattle.std.proofs.Common.{◌≡◌, ◌⊎◌, ℕ, ◌<◌, ◌≤◌, List, [], ◌∷◌, length, set, min, Bool, true, refl, sym, ap, ◌∙◌}
-use Rattle.std.proofs.Common.{subst, inl, inr, ⊎_elim, arith}
-use Rattle.std.proofs.lemmas.List.{length-set, get_or-set_same, get_or-set_other}
-use Rattle.std.specs.Prelude.{slice_index}
+use Rattle.std.proofs.{Common.{subst, inl, inr, ⊎_elim, arith}, lemmas.List.{length-set, get_or-set_same}}
+use Rattle.std.{proofs.lemmas.List.get_or-set_other, specs.Prelude.slice_index}
 use mathlib.Core.Option.{none}
 use Rattle.atomic_table.specs.Table.{step, Me, Allows, keeps}
 use Rattle.shop_workers.specs.{declared.views.View.View, Views.has, Moments.{hit_word, IsLive, Knows, IsLawful}}
 use Rattle.shop_workers.specs.{Moves.{with_low, with_done, IsAtMostMarked}, inner.Steps.{Looks, Marks}}
-use Rattle.shop_runs.specs.Hits.{is_hit_in, IsHitOrEnd}
 use Rattle.shop_workers.proofs.{Numbers.{has_cons, has_head, has_tail}, Words.same_word, JoinedSeats.min_is}
 use Rattle.shop_workers.proofs.LawfulSteps.{Moment, Risen, Step, still_knows, stepped_lawful, quiet}
+use Rattle.shop_runs.specs.Hits.{is_hit_in, IsHitOrEnd}
 
 -- a look is one load
 look_step : (hits : List Bool) (s : Moment) (id : ℕ) (v : View) → IsLawful hits s → IsLive s.views id v

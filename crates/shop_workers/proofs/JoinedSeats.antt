@@ -1,17 +1,15 @@
 -- Two seats made one keep a board lawful.
-use Rattle.std.proofs.Common.{◌≡◌, ◌≢◌, ◌⊎◌, ℕ, List, [], length, set, min, Bool, true}
-use Rattle.std.proofs.Common.{true≢false, refl, sym, ◌∙◌, subst, inl, inr, ⊎_elim, arith}
+use Rattle.std.proofs.Common.{◌≡◌, ◌≢◌, ◌⊎◌, ℕ, List, [], length, set, min, Bool, true, true≢false, refl, sym, ◌∙◌}
+use Rattle.std.{proofs.Common.{subst, inl, inr, ⊎_elim, arith}, specs.Prelude.slice_index}
 use mathlib.Core.Option.{some, none, some-injective}
 use native.Mathlib.Decide.{ℕ_discrete}
 use lib.ListN.{get_elem?}
-use Rattle.std.specs.Prelude.{slice_index}
-use Rattle.atomic_table.specs.Table.{step, Me, Allows, Joins, keeps}
-use Rattle.atomic_table.proofs.Lists.{at_set, set_else}
+use Rattle.atomic_table.{specs.Table.{step, Me, Allows, Joins, keeps}, proofs.Lists.{at_set, set_else}}
 use Rattle.shop_workers.specs.{declared.views.View.View, Views.has, Moves.joined, inner.Steps.{spent, Recalls}}
 use Rattle.shop_workers.specs.Moments.{hit_word, IsLive, Somebody, Knows, IsLawful}
-use Rattle.shop_runs.specs.Hits.{IsHitOrEnd}
 use Rattle.shop_workers.proofs.{Numbers.{has_append, has_left, has_right, once_append}, Words.same_word}
 use Rattle.shop_workers.proofs.LawfulSteps.{Moment, Step, view_here, stepped_lawful, quiet}
+use Rattle.shop_runs.specs.Hits.{IsHitOrEnd}
 
 -- the least of two numbers is one of them
 pub min_is : (a b : ℕ) → (min a b ≡ a) ⊎ (min a b ≡ b)

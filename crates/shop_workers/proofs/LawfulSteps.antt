@@ -1,13 +1,10 @@
 -- A step of one seat keeps a board lawful.
 use Rattle.std.proofs.Common.{◌≡◌, ◌≢◌, ◌⊎◌, ℕ, zero, suc, ◌<◌, ◌≤◌, List, [], ◌∷◌, length, set, Bool, true, rules}
-use Rattle.std.proofs.Common.{refl, sym, ap, ◌∙◌, subst, inl, inr, ⊎_elim, arith}
-use Rattle.std.specs.Prelude.{slice_index}
-use mathlib.Core.Option.{some, some-ne-none, some-injective}
-use mathlib.Core.Logic.{dite}
+use Rattle.std.{proofs.Common.{refl, sym, ap, ◌∙◌, subst, inl, inr, ⊎_elim, arith}, specs.Prelude.slice_index}
+use mathlib.Core.{Option.{some, some-ne-none, some-injective}, Logic.dite}
 use native.Mathlib.Decide.{ℕ_discrete}
 use lib.ListN.{get_elem?}
-use Rattle.atomic_table.specs.Table.{State}
-use Rattle.atomic_table.proofs.Lists.{at_set, set_else}
+use Rattle.atomic_table.{specs.Table.State, proofs.Lists.{at_set, set_else}}
 use Rattle.shop_workers.specs.{declared.views.View.View, Views.has}
 use Rattle.shop_workers.specs.Moments.{hit_word, IsLive, Somebody, IsClaimed, Knows, IsLawful}
 use Rattle.shop_runs.specs.Hits.{IsHitOrEnd}

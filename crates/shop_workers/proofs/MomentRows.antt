@@ -1,10 +1,9 @@
 -- Worked moments of a board of three pieces, of which the first ends at the opening bound.
 use Rattle.std.proofs.Common.{◌≡◌, ℕ, List, [], ◌∷◌, Bool, true, false, true≢false, refl, arith, lit<}
 use mathlib.Core.Option.{some-ne-none, some-injective}
-use Rattle.shop_workers.specs.{declared.views.View.View, Views.has, Moments.{IsLive, IsLawful}}
-use Rattle.shop_workers.specs.Moves.{newcomer, with_mine, with_done}
-use Rattle.shop_workers.proofs.{ClaimSteps.claim_won, HitSteps.mark_step, LawfulSteps.{Moment, stepped_lawful}}
-use Rattle.shop_workers.proofs.SeatCounts.{begins}
+use Rattle.shop_workers.specs.{declared.views.View.View, Views.has, Moments.{IsLive, IsLawful}, Moves.newcomer}
+use Rattle.shop_workers.{specs.Moves.{with_mine, with_done}, proofs.{ClaimSteps.claim_won, HitSteps.mark_step}}
+use Rattle.shop_workers.proofs.{LawfulSteps.{Moment, stepped_lawful}, SeatCounts.begins}
 
 abbrev hits : List Bool
 hits = true ∷ false ∷ false ∷ []

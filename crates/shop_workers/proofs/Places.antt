@@ -1,7 +1,6 @@
 -- One place written, and one entry more.
 use Rattle.std.proofs.Common.{◌≡◌, ℕ, ◌+◌, ◌<◌, ◌≤◌, List, [], ◌∷◌, ◌++◌, length, Option, None, arith}
-use Rattle.std.proofs.lemmas.Grind.{common_steps, elements}
-use Rattle.std.specs.Prelude.{IfSome, slice_index_or, slice_set}
+use Rattle.std.{proofs.lemmas.Grind.{common_steps, elements}, specs.Prelude.{IfSome, slice_index_or, slice_set}}
 use Rattle.shop_runs.specs.{Round.Told, Crews.IsEntryOf, declared.entries.Entry.Entry}
 use Rattle.shop_workers.specs.inner.Gathered.{Placed}
 

@@ -1,10 +1,8 @@
 -- Seats that come and go keep a board lawful: the first one, one split in two, and two joined.
-use Rattle.std.proofs.Common.{◌≡◌, ◌⊎◌, ℕ, ◌<◌, List, [], ◌∷◌, ◌++◌, length, replicate, Bool}
-use Rattle.std.proofs.Common.{true, true≢false, refl, sym, ap, ◌∙◌, subst, inl, inr, ⊎_elim, arith}
-use Rattle.std.specs.Prelude.{slice_index}
+use Rattle.std.proofs.Common.{◌≡◌, ◌⊎◌, ℕ, ◌<◌, List, [], ◌∷◌, ◌++◌, length, replicate, Bool, true, true≢false, refl}
+use Rattle.std.{proofs.Common.{sym, ap, ◌∙◌, subst, inl, inr, ⊎_elim, arith}, specs.Prelude.slice_index}
 use mathlib.Core.Option.{some-ne-none, some-injective}
-use Rattle.atomic_table.specs.Table.{Splits, opening}
-use Rattle.atomic_table.proofs.Lists.{at_snoc, set_again, at_longer}
+use Rattle.atomic_table.{specs.Table.{Splits, opening}, proofs.Lists.{at_snoc, set_again, at_longer}}
 use Rattle.shop_workers.specs.{declared.views.View.View, Views.has, Moves.{newcomer, empty_handed}}
 use Rattle.shop_workers.specs.Moments.{hit_word, IsLive, Somebody, Knows, IsLawful}
 use Rattle.shop_workers.proofs.{Words.{zeros_length, zeros_at, zeros_end}, LawfulSteps.Moment}

@@ -1,16 +1,14 @@
 -- A seat has served all that it won, if it had served what it had won before and serves what it wins since.
 use Rattle.std.proofs.Common.{◌≡◌, ◌⊎◌, ℕ, ◌<◌, List, [], ◌∷◌, ◌++◌, reverse, Bool, true, sym, ◌∙◌, subst, ⊎_elim}
-use Rattle.std.proofs.{Common.{arith, true≢false}, lemmas.List.reverse-append}
-use Rattle.std.proofs.lemmas.List.Elements.{All-head, All-tail}
+use Rattle.std.proofs.{Common.{arith, true≢false}, lemmas.List.{reverse-append, Elements.{All-head, All-tail}}}
 use Rattle.std.specs.Prelude.{All}
 use Rattle.shop_runs.specs.Round.{Told}
 use Rattle.shop_runs.specs.Entries as entries
-use Rattle.shop_runs.specs.{Entries.{told, number_of, Fits}, declared.entries.Entry.Entry, declared.rounds.Round.Round}
-use Rattle.shop_runs.specs.{declared.entries.Kind.Kind, Hits.hits_of_round}
+use Rattle.shop_runs.specs.{Entries.{told, number_of, Fits}, declared.{entries.Entry.Entry, rounds.Round.Round}}
+use Rattle.shop_runs.{specs.{declared.entries.Kind.Kind, Hits.hits_of_round}, proofs.RoundPieces.{same_hit, is_piece}}
 use Rattle.shop_workers.specs.{declared.views.View.View, Views.{has, HasServed}, Entries.OfRound}
 use Rattle.shop_workers.specs.Works.{Grows, numbers_of, IsServed, AreWon}
 use Rattle.shop_workers.proofs.Numbers.{has_append, has_cons, has_same, has_tail}
-use Rattle.shop_runs.proofs.RoundPieces.{same_hit, is_piece}
 
 has_reverse : (xs : List ℕ) (n : ℕ) → has (reverse xs) n ≡ true → has xs n ≡ true
 has_reverse [] n h = h

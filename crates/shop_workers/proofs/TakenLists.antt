@@ -1,6 +1,5 @@
 -- Lists that are taken from their ends.
-use Rattle.std.proofs.{Common.{◌≡◌, List, [], ◌∷◌, ◌++◌, arith}, lemmas.List.append_assoc}
-use Rattle.std.proofs.lemmas.List.Elements.{All-cons}
+use Rattle.std.proofs.{Common.{◌≡◌, List, [], ◌∷◌, ◌++◌, arith}, lemmas.List.{append_assoc, Elements.All-cons}}
 use Rattle.std.specs.Prelude.{All}
 
 -- what was taken has P

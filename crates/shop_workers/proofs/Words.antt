@@ -1,7 +1,6 @@
 -- Words of a board that are read, or written as they were, and the words that it opens with.
 use Rattle.std.proofs.Common.{◌≡◌, ℕ, zero, suc, ◌<◌, List, [], ◌∷◌, ◌++◌, length, set, replicate, refl, sym, ap, subst}
-use Rattle.std.proofs.{Common.arith, lemmas.List.set-get_or}
-use Rattle.std.specs.Prelude.{slice_index}
+use Rattle.std.{proofs.{Common.arith, lemmas.List.set-get_or}, specs.Prelude.slice_index}
 use mathlib.Core.Option.{some, some-ne-none, some-injective}
 use lib.ListN.{get_elem?}
 

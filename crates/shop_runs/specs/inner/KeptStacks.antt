@@ -1,25 +1,28 @@
--- Nodes on a stack, each with the least of its own bound and of all bounds below it.
---     nodes_of stacked           the nodes
---     nodes_from_top stacked     the nodes from the top of the stack down
---     least_in nodes             the least of their bounds, the greatest number where there are none
---     AreLeastsFromTop stacked   top first: each tells the least bound from itself down
---     AreLeasts stacked          bottom first: each tells the least bound from itself down
-use Rattle.std.specs.Prelude.{◌≡◌, ℕ, List, [], ◌∷◌, map, reverse}
+-- The least bounds of a stack of nodes: those of nodes that have no lower bound below them. Lists have the top first.
+--     with_bound b leasts      the least bounds once a node of bound b is put on top
+--     without_bound b leasts   the least bounds once such a node is taken off the top
+--     leasts_of nodes          the least bounds of these nodes
+--     AreLeasts nodes leasts   these are the least bounds of the nodes; both lists have the top last
+use Rattle.std.specs.Prelude.{◌≡◌, ℕ, suc, ◌-◌, List, [], ◌∷◌, reverse, if◌then◌else◌, nat_lt, nat_eq}
 use Rattle.shop_nodes.specs.declared.nodes.Node.{Node}
-use Rattle.shop_runs.specs.{inner.NodeLists.least_of_bounds, declared.kept_stacks.StackedNode.StackedNode}
+use Rattle.shop_runs.specs.declared.kept_stacks.Least.{Least}
 
-abbrev pub nodes_of : List StackedNode → List Node
-nodes_of stacked = map (λ s. s.node) stacked
+abbrev pub with_bound : ℕ → List Least → List Least
+with_bound b [] = record { bound = b; more = 0 } ∷ []
+with_bound b (l ∷ leasts) =
+    if nat_lt l.bound b then l ∷ leasts
+    else if nat_eq l.bound b then record { bound = b; more = suc l.more } ∷ leasts
+    else record { bound = b; more = 0 } ∷ l ∷ leasts
 
-abbrev pub nodes_from_top : List StackedNode → List Node
-nodes_from_top stacked = nodes_of (reverse stacked)
+abbrev pub without_bound : ℕ → List Least → List Least
+without_bound b [] = []
+without_bound b (l ∷ leasts) =
+    if nat_eq l.bound b then (if nat_lt 0 l.more then record { bound = b; more = l.more - 1 } ∷ leasts else leasts)
+    else l ∷ leasts
 
-abbrev pub least_in : List Node → ℕ
-least_in nodes = least_of_bounds 18446744073709551615 nodes
+abbrev pub leasts_of : List Node → List Least
+leasts_of [] = []
+leasts_of (n ∷ below) = with_bound n.bound (leasts_of below)
 
-abbrev pub AreLeastsFromTop : List StackedNode → Type 0
-AreLeastsFromTop [] = Unit {0}
-AreLeastsFromTop (s ∷ below) = (s.least ≡ least_in (nodes_of (s ∷ below))) × AreLeastsFromTop below
-
-abbrev pub AreLeasts : List StackedNode → Type 0
-AreLeasts stacked = AreLeastsFromTop (reverse stacked)
+abbrev pub AreLeasts : List Node → List Least → Type 0
+AreLeasts nodes leasts = reverse leasts ≡ leasts_of (reverse nodes)

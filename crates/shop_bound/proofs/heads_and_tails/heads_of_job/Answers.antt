@@ -1,7 +1,7 @@
-use Rattle.std.proofs.Common.{List, length, ap, arith, rules}
+use Rattle.std.proofs.Common.{List, Some, length, ap, arith}
 use Rattle.shop_model.specs.declared.ops.Op.{Op}
-use Rattle.shop_bound.proofs.Filled.{filled_more}
-use Rattle.shop_bound.proofs.HeadTurns.{ends_of_word, ready_first, placed_turn, left_turn, left_small}
+use Rattle.shop_bound.{specs.Heads.head_if_left, proofs.{Filled.filled_more, HeadTurns.{ends_of_word, ready_first}}}
+use Rattle.shop_bound.proofs.HeadTurns.{placed_turn, left_turn, left_small}
 use Rattle.shop_bound.proofs.heads_and_tails.heads_of_job.Goals as goal
 
 pub loop-k-init : goal.loop-k-init
@@ -32,10 +32,14 @@ loop-k-preserved c =
     c.if-k-placed.false c.route-route.ensures.limits c.route-route.result.now c.route-route.ensures.route
     c.loop-k-test.true
     c.free.result c.max-head.result c.free.ensures c.max-head.ensures
+    in let pushed = rw c.unwrap-in-loop-k.ensures at c.push-in-loop-k.ensures
     in record {
-      filled = λ p is. grind (arith, filled_more);
+      filled = λ p is. filled_more (head_if_left shop p j) c.loop-k.heads.items c.push-in-loop-k.new.self.items
+          c.loop-k.k (Some c.max-head.result) (c.loop-k.invariant.filled p is) (turn p is).0 pushed.items;
       ready = λ p is. (turn p is).1;
-      small = search (rules, left_small, ends_of_word);
-      long = search rules;
-      room = search rules;
+      small = left_small shop c.route-route.ensures.limits s (ends_of_word shop c.route-route.ensures.limits s
+          c.requires.word) j c.route-route.result.now c.route-route.ensures.route c.loop-k.k c.loop-k.ready
+          c.free.result c.max-head.result c.free.ensures c.max-head.ensures c.loop-k.invariant.small;
+      long = omega (arith, c.loop-k.invariant.long, pushed.len);
+      room = omega (arith, c.loop-k.invariant.room, pushed.capacity);
     }

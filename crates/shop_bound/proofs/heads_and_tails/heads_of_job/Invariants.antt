@@ -1,5 +1,4 @@
-use Rattle.std.proofs.Common.{◌≡◌, ◌+◌, ◌*◌, ◌-◌, ◌≤◌, length, map, vec_len, vec_capacity}
-use Rattle.std.specs.List.{range_with_len}
+use Rattle.std.{proofs.Common.{◌≡◌, ◌+◌, ◌*◌, ◌-◌, ◌≤◌, length, map, vec_len, vec_capacity}, specs.List.range_with_len}
 use Rattle.shop_model.specs.{Word.Placing, Placements.IsPlacement}
 use Rattle.shop_bound.specs.Heads.{head_if_left, ready_after}
 use Rattle.shop_bound.proofs.heads_and_tails.heads_of_job.Given as goal

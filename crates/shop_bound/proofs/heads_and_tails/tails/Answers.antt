@@ -1,8 +1,6 @@
-use Rattle.std.proofs.Common.{arith, ◌∙◌, List, map, length, ap, rules}
-use Rattle.std.specs.List.{range_with_len}
+use Rattle.std.{proofs.Common.{arith, ◌∙◌, List, map, length, ap, rules}, specs.List.range_with_len}
 use Rattle.shop_model.specs.{declared.ops.Op.Op, Shop.route_of}
-use Rattle.shop_bound.specs.Heads.{tail_in, tail_of}
-use Rattle.shop_bound.proofs.{Filled.rows_more, TimeSums.times_small}
+use Rattle.shop_bound.{specs.Heads.{tail_in, tail_of}, proofs.{Filled.rows_more, TimeSums.times_small}}
 use Rattle.shop_bound.proofs.heads_and_tails.tails.Goals as goal
 
 pub tails_of_route-requires : goal.tails_of_route-requires

@@ -1,5 +1,4 @@
-use Rattle.std.proofs.Common.{◌≡◌, ◌≤◌, drop, length, map, vec_len, vec_capacity}
-use Rattle.std.specs.List.{range_with_len, sum_by}
+use Rattle.std.{proofs.Common.{◌≡◌, ◌≤◌, drop, length, map, vec_len, vec_capacity}, specs.List.{range_with_len, sum_by}}
 use Rattle.shop_bound.specs.Heads.{tail_in}
 use Rattle.shop_bound.proofs.heads_and_tails.tails_of_route.Given as goal
 

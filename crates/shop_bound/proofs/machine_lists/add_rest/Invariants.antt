@@ -1,5 +1,4 @@
-use Rattle.std.proofs.Common.{◌≡◌, ◌+◌, ◌*◌, ◌≤◌, drop}
-use Rattle.std.specs.List.{sum_by}
+use Rattle.std.{proofs.Common.{◌≡◌, ◌+◌, ◌*◌, ◌≤◌, drop}, specs.List.sum_by}
 use Rattle.shop_bound.proofs.MachineListTurns.{AreAddedTo}
 use Rattle.shop_bound.proofs.machine_lists.add_rest.Given as goal
 

@@ -1,8 +1,7 @@
 use Rattle.std.proofs.Common.{◌≡◌, ℕ, ◌+◌, max, rules, arith, subst, sym, set, refl}
-use Rattle.shop_bound.specs.inner.Serving.{IsRun, work_at}
-use Rattle.shop_bound.proofs.Turns.{held, finished, left_of, held_run, held_fewer, finished_run, finished_fewer}
-use Rattle.shop_bound.proofs.{Turns.end_small, WorkSums.triples-set, TurnCounts.undone-set}
-use Rattle.shop_bound.proofs.QueueTurns.{stop_is, first_served, queue_done, queue_held}
+use Rattle.shop_bound.{specs.inner.Serving.{IsRun, work_at}, proofs.Turns.{held, finished, left_of, held_run}}
+use Rattle.shop_bound.proofs.{Turns.{held_fewer, finished_run, finished_fewer, end_small}, WorkSums.triples-set}
+use Rattle.shop_bound.proofs.{TurnCounts.undone-set, QueueTurns.{stop_is, first_served, queue_done, queue_held}}
 use Rattle.shop_bound.proofs.schedules.serve.Goals as goal
 
 pub overflow_add-end : goal.overflow_add-end

@@ -1,5 +1,4 @@
-use Rattle.std.proofs.Common.{◌≡◌, ◌≤◌, length, take}
-use Rattle.std.specs.List.{filter, sum_by}
+use Rattle.std.{proofs.Common.{◌≡◌, ◌≤◌, length, take}, specs.List.{filter, sum_by}}
 use Rattle.shop_bound.specs.inner.Thresholds.{is_above}
 use Rattle.shop_bound.proofs.triples.span_of_above.Given as goal
 

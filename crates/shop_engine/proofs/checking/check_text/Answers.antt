@@ -1,5 +1,4 @@
-use Rattle.std.proofs.Common.{inr}
-use Rattle.std.specs.Option.{option_map}
+use Rattle.std.{proofs.Common.inr, specs.Option.option_map}
 use Rattle.shop_engine.specs.{Faults.fault_of, Devices.{IsWritten, IsCutOff}, Asking.name_in, Checking.IsChecking}
 use Rattle.shop_engine.proofs.{Picks.is_asked_in, Sources.at_err, Verdicts.{unread_after, faulty_after, judged}}
 use Rattle.shop_engine.proofs.checking.check_text.Goals as goal

@@ -1,5 +1,4 @@
-use Rattle.std.proofs.Common.{◌≤◌, ◌-◌, length}
-use Rattle.std.specs.Io.KnownBytes.{Consumes}
+use Rattle.std.{proofs.Common.{◌≤◌, ◌-◌, length}, specs.Io.KnownBytes.Consumes}
 use Rattle.shop_engine.specs.Devices.{HasWorked, GoesOn}
 use Rattle.shop_engine.proofs.devices.read_all.Given as goal
 

@@ -1,5 +1,4 @@
-use Rattle.std.proofs.Common.{◌≡◌, List, ℕ, ◌++◌, length}
-use Rattle.std.specs.Io.KnownBytes.{Appends}
+use Rattle.std.{proofs.Common.{◌≡◌, List, ℕ, ◌++◌, length}, specs.Io.KnownBytes.Appends}
 use Rattle.shop_engine.specs.Devices.{HasWorked}
 use Rattle.shop_engine.proofs.devices.write_all.Given as goal
 

@@ -1,6 +1,5 @@
 use Rattle.shop_text.specs.Names.{shop_of_named}
-use Rattle.shop_engine.specs.Asking.{name_in}
-use Rattle.shop_engine.proofs.{Picks.{is_asked, solution}, SolvedSchedules.passes_check}
+use Rattle.shop_engine.{specs.Asking.name_in, proofs.{Picks.{is_asked, solution}, SolvedSchedules.passes_check}}
 use Rattle.shop_engine.proofs.solving.solve_bytes.Goals as goal
 
 pub returns-clause-right : goal.returns-clause-right

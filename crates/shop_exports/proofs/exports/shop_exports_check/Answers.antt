@@ -1,7 +1,5 @@
-use Rattle.std.proofs.Common.{ℕ, List, Option, inr, subst, ap, ◌∙◌}
-use Rattle.std.specs.Option.{option_copied}
-use Rattle.shop_exports.specs.Exports.{ChecksWith}
-use Rattle.shop_exports.proofs.Calls.{check_served, check_refused, given_is}
+use Rattle.std.{proofs.Common.{ℕ, List, Option, inr, subst, ap, ◌∙◌}, specs.Option.option_copied}
+use Rattle.shop_exports.{specs.Exports.ChecksWith, proofs.Calls.{check_served, check_refused, given_is}}
 use Rattle.shop_exports.proofs.exports.shop_exports_check.Goals as goal
 
 pub returns-in-Ok-check_bytes : goal.returns-in-Ok-check_bytes

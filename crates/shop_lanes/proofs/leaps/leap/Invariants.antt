@@ -1,6 +1,5 @@
 use Rattle.std.proofs.Common.{◌-◌}
-use Rattle.shop_lanes.specs.Rows.{lanes_in}
-use Rattle.shop_lanes.proofs.LeapTurns.{IsLeaped}
+use Rattle.shop_lanes.{specs.Rows.lanes_in, proofs.LeapTurns.IsLeaped}
 use Rattle.shop_lanes.proofs.leaps.leap.Given as goal
 
 abbrev pub invariant-loop-settled : goal.invariant-loop-settled

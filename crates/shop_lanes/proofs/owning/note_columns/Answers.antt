@@ -27,3 +27,6 @@ serve-after-requires-clause-times g c = grind (arith, length-map, length-block)
 
 pub serve-after-requires-clause-tails : goal.serve-after-requires-clause-tails
 serve-after-requires-clause-tails g c = grind (arith, length-map, length-block)
+
+pub loop-block-init : goal.loop-block-init
+loop-block-init g c = grind (arith, length-map)

@@ -1,6 +1,5 @@
 use Rattle.std.proofs.Common.{◌/◌, map}
-use Rattle.shop_lanes.specs.Rows.{lanes_in}
-use Rattle.shop_lanes.proofs.OwnColumns.{IsNotedTo}
+use Rattle.shop_lanes.{specs.Rows.lanes_in, proofs.OwnColumns.IsNotedTo}
 use Rattle.shop_lanes.proofs.owning.note_columns.Given as goal
 
 abbrev pub invariant-loop-block : goal.invariant-loop-block

@@ -1,11 +1,8 @@
-use Rattle.std.proofs.lemmas.List.{length-map}
-use Rattle.shop_lanes.proofs.BlockMasks.{length-block}
-use Rattle.std.proofs.Common.{◌≡◌, ℕ, List, max, ◌∙◌, ◌-◌, ap, sym, length, arith}
+use Rattle.std.proofs.{lemmas.List.length-map, Common.{◌≡◌, ℕ, List, max, ◌∙◌, ◌-◌, ap, sym, length, arith}}
+use Rattle.shop_lanes.proofs.{BlockMasks.length-block, ColumnTurns.columns_in, OwnColumns.{begins_fit, ends_fit}}
+use Rattle.shop_lanes.proofs.OwnColumns.{tails_fit, own_eight, late_eight, served_eight, back_more, noted_fit}
+use Rattle.shop_lanes.{proofs.OwnColumns.{begun_long, heads_eight_long, rest_long}, specs.Eights.{added, lessened}}
 use lib.Lanes.{zip2}
-use Rattle.shop_lanes.specs.Eights.{added, lessened}
-use Rattle.shop_lanes.proofs.ColumnTurns.{columns_in}
-use Rattle.shop_lanes.proofs.OwnColumns.{begins_fit, ends_fit, tails_fit, own_eight, late_eight, served_eight}
-use Rattle.shop_lanes.proofs.OwnColumns.{back_more, noted_fit, begun_long, heads_eight_long, rest_long}
 use Rattle.shop_lanes.proofs.owning.write_back.Goals as goal
 
 -- the own spans of a block, by the two sums and the greater number that make them
@@ -108,3 +105,6 @@ waiting-requires-clause-heads g c = grind (arith, length-map, length-block)
 
 pub less-requires : goal.less-requires
 less-requires g c = grind (arith, length-map, length-block)
+
+pub loop-block-init : goal.loop-block-init
+loop-block-init g c = grind (arith, length-map, length-block)

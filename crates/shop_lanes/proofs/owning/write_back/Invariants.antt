@@ -1,6 +1,5 @@
 use Rattle.std.proofs.Common.{◌/◌, map}
-use Rattle.shop_lanes.specs.Rows.{lanes_in}
-use Rattle.shop_lanes.proofs.OwnColumns.{IsBackTo}
+use Rattle.shop_lanes.{specs.Rows.lanes_in, proofs.OwnColumns.IsBackTo}
 use Rattle.shop_lanes.proofs.owning.write_back.Given as goal
 
 abbrev pub invariant-loop-block : goal.invariant-loop-block

@@ -1,7 +1,6 @@
 use Rattle.std.proofs.{Common.{◌≤◌, length, map, arith}, lemmas.List.length-map}
-use Rattle.shop_lanes.specs.Eights.{is_marked}
-use Rattle.shop_lanes.proofs.BlockMasks.{length-block, mask_back, mask_fits, no_odd, odd_block}
-use Rattle.shop_lanes.proofs.passes.bits_of.Goals.{then-count-gt0, else-count-gt0}
+use Rattle.shop_lanes.{specs.Eights.is_marked, proofs.BlockMasks.{length-block, mask_back, mask_fits, no_odd}}
+use Rattle.shop_lanes.proofs.{BlockMasks.odd_block, passes.bits_of.Goals.{then-count-gt0, else-count-gt0}}
 use Rattle.shop_lanes.proofs.passes.bits_of.Goals as goal
 
 pub overflow_mul-bits : goal.overflow_mul-bits

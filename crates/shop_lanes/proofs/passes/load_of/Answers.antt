@@ -1,9 +1,7 @@
-use Rattle.std.proofs.lemmas.List.{length-map}
-use Rattle.shop_lanes.proofs.BlockMasks.{length-block}
-use Rattle.std.proofs.Common.{◌∙◌, ap, arith, length}
+use Rattle.std.proofs.{lemmas.List.length-map, Common.{◌∙◌, ap, arith, length}}
+use Rattle.shop_lanes.proofs.{BlockMasks.length-block, ColumnTurns.{columns_in, parts, both_fit, served_more}}
+use Rattle.shop_lanes.proofs.{ColumnTurns.served_whole, ColumnScan.{works_fit, ends_fit, ends_eight, last_end}}
 use Rattle.shop_lanes.specs.Folds.{greatest}
-use Rattle.shop_lanes.proofs.ColumnTurns.{columns_in, parts, both_fit, served_more, served_whole}
-use Rattle.shop_lanes.proofs.ColumnScan.{works_fit, ends_fit, ends_eight, last_end}
 use Rattle.shop_lanes.proofs.passes.load_of.Goals as goal
 
 pub serve-after-requires-clause-fits : goal.serve-after-requires-clause-fits

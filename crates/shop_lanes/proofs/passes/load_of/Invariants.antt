@@ -1,6 +1,5 @@
 use Rattle.std.proofs.Common.{◌/◌}
-use Rattle.shop_lanes.specs.Rows.{lanes_in}
-use Rattle.shop_lanes.proofs.ColumnTurns.{IsServedTo, part_of}
+use Rattle.shop_lanes.{specs.Rows.lanes_in, proofs.ColumnTurns.{IsServedTo, part_of}}
 use Rattle.shop_lanes.proofs.passes.load_of.Given as goal
 
 abbrev pub invariant-loop-block : goal.invariant-loop-block

@@ -1,9 +1,7 @@
-use Rattle.std.proofs.Common.{◌≡◌, ◌∙◌, ℕ, ◌≤◌, ◌<◌, List, ap, length, map, sym, subst, take}
-use Rattle.std.proofs.lemmas.List.{length-map, take_all}
-use Rattle.std.specs.{List.flat_map, Prelude.Vec, declared.alloc.Global.Global}
-use Rattle.std.proofs.{Common.arith, lemmas.List.length_push}
-use Rattle.shop_layout.specs.Legs.{route_legs}
-use Rattle.shop_layout.proofs.RouteLegs.{legs_more, row_below}
+use Rattle.std.proofs.Common.{◌≡◌, ◌∙◌, ℕ, ◌≤◌, ◌<◌, List, ap, length, map, sym, subst, take, arith}
+use Rattle.std.{proofs.lemmas.List.{length-map, take_all, length_push}, specs.{List.flat_map, Prelude.Vec}}
+use Rattle.std.specs.declared.alloc.Global.{Global}
+use Rattle.shop_layout.{specs.Legs.route_legs, proofs.RouteLegs.{legs_more, row_below}}
 use Rattle.shop_layout.proofs.legs.legs_of.Goals as goal
 
 all_rows : (places : List (Vec ℕ Global)) {j : ℕ} → length places ≤ j

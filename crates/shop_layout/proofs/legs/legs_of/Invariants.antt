@@ -1,5 +1,4 @@
-use Rattle.std.proofs.Common.{◌≡◌, ℕ, ◌<◌, get_or, length, map, take}
-use Rattle.std.specs.List.{flat_map}
+use Rattle.std.{proofs.Common.{◌≡◌, ℕ, ◌<◌, get_or, length, map, take}, specs.List.flat_map}
 use Rattle.shop_layout.specs.Legs.{route_legs}
 use Rattle.shop_layout.proofs.legs.legs_of.Given as goal
 

@@ -18,3 +18,9 @@ loop-m-preserved c =
     c.index-lists-m.result c.loop-m-test.true c.index-lists-m.is)) c.div_ceil.result c.div_ceil.ensures
     c.add_blocks.new.slots.items c.in_ok-add_blocks.ensures (c.len.result / 8) last
     c.push-in-loop-m.new.self.items c.in_ok-push-2.ensures.items
+
+pub returns : goal.returns
+returns c = grind arith
+
+pub loop-m-init : goal.loop-m-init
+loop-m-init c = grind arith

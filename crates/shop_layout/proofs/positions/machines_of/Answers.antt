@@ -1,7 +1,5 @@
-use Rattle.std.proofs.Common.{◌≡◌, ◌-◌, length, subst}
-use Rattle.shop_layout.specs.Positions.{AreMachinesOf}
-use Rattle.std.proofs.Common.{refl, arith}
-use Rattle.shop_layout.proofs.LaidLists.{machines_turn}
+use Rattle.std.proofs.Common.{◌≡◌, ◌-◌, length, subst, refl, arith}
+use Rattle.shop_layout.{specs.Positions.AreMachinesOf, proofs.LaidLists.machines_turn}
 use Rattle.shop_layout.proofs.positions.machines_of.Goals as goal
 
 pub loop-machine-preserved : goal.loop-machine-preserved

@@ -2,8 +2,7 @@ use Rattle.std.proofs.Common.{◌≡◌, ℕ, ◌+◌, ◌<◌, List, [], length
 use Rattle.std.proofs.lemmas.List.{map-set, get_or-map, length-map}
 use Rattle.std.specs.{Prelude.Vec, Vec.with_item, declared.alloc.Global.Global}
 use Rattle.shop_lanes.specs.Rows.{place_at_rank}
-use Rattle.shop_layout.specs.inner.Layings.{no_slot}
-use Rattle.shop_layout.proofs.NotedPlaces.{noted_more}
+use Rattle.shop_layout.{specs.inner.Layings.no_slot, proofs.NotedPlaces.noted_more}
 use Rattle.shop_layout.proofs.positions.note_places.Goals as goal
 
 items_set : (now : List (Vec ℕ Global)) (j k x : ℕ) (d : Vec ℕ Global) → j < length now

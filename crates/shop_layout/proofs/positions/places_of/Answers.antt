@@ -1,4 +1,5 @@
-use Rattle.std.proofs.{lemmas.Grind.common_steps, lemmas.List.length-map}
+use Rattle.std.proofs.{lemmas.Bool.cases_eq, lemmas.Grind.common_steps}
+use Rattle.std.proofs.lemmas.List.{get_or_append_left, get_or_push, length-map, length_push, map-append}
 use Rattle.std.proofs.Common.{◌≡◌, ◌∙◌, ℕ, ◌+◌, ◌-◌, ◌*◌, ◌<◌, List, [], get_or, length, map, sym, subst, arith}
 use Rattle.std.specs.{Prelude.Vec, declared.alloc.Global.Global}
 use Rattle.shop_model.specs.Shop.{Shop}
@@ -57,3 +58,19 @@ loop-m-preserved c =
     (known shop c.args.lists.now c.requires.slots.1 m c.loop-m-test.true)
     (places_ranked ranks c.args.instance.now (map (λ v. v.items) c.args.lists.now) c.args.blocks.now m
     (map (λ v. v.items) c.loop-m.places.items) c.loop-m.invariant) c.as_slice.result.now is noted))
+
+pub bounds-blocks-m : goal.bounds-blocks-m
+bounds-blocks-m c =
+    let few = known (ranked c.requires.slots.0 c.args.instance.now) c.args.lists.now c.requires.slots.1 c.loop-m.m
+    c.loop-m-test.true in let long = c.requires.blocks in omega arith
+
+pub bounds-blocks-m-in-loop-m : goal.bounds-blocks-m-in-loop-m
+bounds-blocks-m-in-loop-m c =
+    let few = known (ranked c.requires.slots.0 c.args.instance.now) c.args.lists.now c.requires.slots.1 c.loop-m.m
+    c.loop-m-test.true in let long = c.requires.blocks in omega arith
+
+pub returns : goal.returns
+returns c = grind (arith, length-map)
+
+pub loop-j-preserved : goal.loop-j-preserved
+loop-j-preserved c = grind (arith, cases_eq, length_push, length-map, map-append, get_or_append_left, get_or_push)

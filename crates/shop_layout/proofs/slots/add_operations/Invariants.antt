@@ -1,7 +1,5 @@
-use Rattle.std.proofs.Common.{◌≡◌, drop, length, map}
-use Rattle.std.specs.List.{sum_by}
-use Rattle.shop_layout.specs.Ranks.{ranked_op}
-use Rattle.shop_layout.proofs.SlotLists.{IsAddedTo}
+use Rattle.std.{proofs.Common.{◌≡◌, drop, length, map}, specs.List.sum_by}
+use Rattle.shop_layout.{specs.Ranks.ranked_op, proofs.SlotLists.IsAddedTo}
 use Rattle.shop_layout.proofs.slots.add_operations.Given as goal
 
 abbrev pub invariant-loop-k : goal.invariant-loop-k

@@ -1,10 +1,10 @@
 use Rattle.std.proofs.Common.{◌≡◌, ◌∙◌, ◌+◌, ◌<◌, List, ap, length, get_or, map, arith, rules, sym, subst}
-use Rattle.std.proofs.{lemmas.Fn.always_returns_same, lemmas.List.length-map}
-use Rattle.std.specs.Prelude.{IsPermutation}
+use Rattle.std.{proofs.lemmas.Fn.always_returns_same, specs.Prelude.IsPermutation}
+use Rattle.std.proofs.lemmas.List.{get_or-replicate, length-map, length-replicate}
 use Rattle.shop_layout.specs.{declared.slots.Slot.Slot, Ranks.{ranked, ranked_op}}
-use Rattle.shop_bound.proofs.{SortedTails.falls_from_sort, TimeSums.times_small}
 use Rattle.shop_layout.proofs.SlotLists.{IsSortedUpTo, jobs_written, sorted_more, items_written, items_read}
 use Rattle.shop_layout.proofs.RankedShops.{jobs_ranked, route_ranked}
+use Rattle.shop_bound.proofs.{SortedTails.falls_from_sort, TimeSums.times_small}
 use Rattle.shop_layout.proofs.slots.machine_slots.Goals as goal
 
 pub add_operations-requires-clause-times : goal.add_operations-requires-clause-times
@@ -50,3 +50,12 @@ loop-m-preserved c =
     (falls_from_sort (λ (s : Slot). s.tail) row
     (c.in_ok-sort_by_key.ensures.sorted (λ (s : Slot). record { 0 = s.tail })
     (always_returns_same _ (λ a k. k ≡ record { 0 = a.0.now.tail }) _ (λ a k f h. search rules)))))
+
+pub add_operations-requires-clause-machines : goal.add_operations-requires-clause-machines
+add_operations-requires-clause-machines c = grind (arith, length-map)
+
+pub loop-j-init : goal.loop-j-init
+loop-j-init c = grind (arith, length-map, length-replicate, get_or-replicate)
+
+pub returns : goal.returns
+returns c = grind (arith, length-map)

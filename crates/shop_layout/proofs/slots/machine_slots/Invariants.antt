@@ -1,6 +1,5 @@
 use Rattle.std.proofs.Common.{◌≡◌, ◌≤◌, [], map, replicate, vec_len, vec_capacity}
-use Rattle.shop_layout.specs.Ranks.{ranked}
-use Rattle.shop_layout.proofs.SlotLists.{HasJobs, IsSortedUpTo}
+use Rattle.shop_layout.{specs.Ranks.ranked, proofs.SlotLists.{HasJobs, IsSortedUpTo}}
 use Rattle.shop_layout.proofs.slots.machine_slots.Given as goal
 
 abbrev pub invariant-loop : goal.invariant-loop

@@ -1,6 +1,5 @@
 use Rattle.std.proofs.Common.{ℕ, ◌<◌, ◌≤◌}
-use Rattle.shop_model.specs.Shop.{IsOperation}
-use Rattle.shop_model.specs.Checking.{starts_of, earliest_of}
+use Rattle.shop_model.specs.{Shop.IsOperation, Checking.{starts_of, earliest_of}}
 use Rattle.shop_model.proofs.checking.first_early.Given as goal
 
 abbrev pub invariant-loop-j : goal.invariant-loop-j

@@ -1,6 +1,5 @@
 use Rattle.std.proofs.Common.{length, rules}
-use Rattle.shop_model.specs.Shop.{greatest_below, route_of, finish_of}
-use Rattle.shop_model.specs.Checking.{starts_of}
+use Rattle.shop_model.specs.{Shop.{greatest_below, route_of, finish_of}, Checking.starts_of}
 use Rattle.shop_model.proofs.Greatest.{greatest_below-next}
 use Rattle.shop_model.proofs.checking.makespan.Goals as goal
 

@@ -1,6 +1,5 @@
 use Rattle.std.proofs.Common.{ℕ, ◌<◌, slice_index_or}
-use Rattle.shop_model.specs.declared.ops.Job.{Job}
-use Rattle.shop_model.specs.Limits.{IsJobWithin}
+use Rattle.shop_model.specs.{declared.ops.Job.Job, Limits.IsJobWithin}
 use Rattle.shop_model.proofs.instances.are_jobs_within.Given as goal
 
 abbrev pub invariant-loop-job : goal.invariant-loop-job

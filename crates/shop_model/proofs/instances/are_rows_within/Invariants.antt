@@ -1,8 +1,5 @@
-use Rattle.std.proofs.Common.{◌≡◌, ℕ, ◌<◌, length, slice_index_or}
-use Rattle.std.specs.Prelude.{Vec}
-use Rattle.std.specs.declared.alloc.Global.{Global}
-use Rattle.shop_model.specs.declared.ops.Op.{Op}
-use Rattle.shop_model.specs.Limits.{IsRouteWithin}
+use Rattle.std.{proofs.Common.{◌≡◌, ℕ, ◌<◌, length, slice_index_or}, specs.{Prelude.Vec, declared.alloc.Global.Global}}
+use Rattle.shop_model.specs.{declared.ops.Op.Op, Limits.IsRouteWithin}
 use Rattle.shop_model.proofs.instances.are_rows_within.Given as goal
 
 abbrev pub invariant-loop-row : goal.invariant-loop-row

@@ -1,6 +1,5 @@
 use Rattle.std.proofs.Common.{ℕ, ◌<◌}
-use Rattle.shop_model.specs.Checking.{starts_of}
-use Rattle.shop_model.specs.inner.FirstFaults.{IsJobApart}
+use Rattle.shop_model.specs.{Checking.starts_of, inner.FirstFaults.IsJobApart}
 use Rattle.shop_model.proofs.overlaps.first_overlap.Given as goal
 
 abbrev pub invariant-loop-j : goal.invariant-loop-j

@@ -1,6 +1,5 @@
 use Rattle.std.proofs.Common.{ℕ, ◌<◌}
-use Rattle.shop_model.specs.Shop.{IsOperation}
-use Rattle.shop_model.specs.Checking.{starts_of, AreApart, IsBefore}
+use Rattle.shop_model.specs.{Shop.IsOperation, Checking.{starts_of, AreApart, IsBefore}}
 use Rattle.shop_model.proofs.overlaps.first_overlap_of.Given as goal
 
 abbrev pub invariant-loop-k : goal.invariant-loop-k

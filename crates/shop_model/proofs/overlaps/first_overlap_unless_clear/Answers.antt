@@ -1,6 +1,5 @@
 use Rattle.std.proofs.Common.{sym, ◌∙◌}
-use Rattle.shop_model.specs.inner.Spans.{span_at}
-use Rattle.shop_model.proofs.ClearSpanLemmas.{found}
+use Rattle.shop_model.{specs.inner.Spans.span_at, proofs.ClearSpanLemmas.found}
 use Rattle.shop_model.proofs.overlaps.first_overlap_unless_clear.Goals as goal
 
 pub returns-then-is_ok : goal.returns-then-is_ok

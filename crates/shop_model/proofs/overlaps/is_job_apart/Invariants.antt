@@ -1,6 +1,5 @@
 use Rattle.std.proofs.Common.{ℕ, ◌<◌}
-use Rattle.shop_model.specs.Shop.{IsOperation}
-use Rattle.shop_model.specs.Checking.{starts_of, AreApart}
+use Rattle.shop_model.specs.{Shop.IsOperation, Checking.{starts_of, AreApart}}
 use Rattle.shop_model.proofs.overlaps.is_job_apart.Given as goal
 
 abbrev pub invariant-loop-i : goal.invariant-loop-i

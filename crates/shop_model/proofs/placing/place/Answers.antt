@@ -1,12 +1,13 @@
-use Rattle.std.proofs.Common.{◌∙◌, arith, sym, subst, take}
-use Rattle.std.proofs.lemmas.List.{length-map, take_all}
-use Rattle.shop_model.specs.Word.{Placing, placing}
-use Rattle.shop_model.specs.Placements.{IsPlacement}
-use Rattle.shop_model.proofs.PlacedTables.{placed_by}
-use Rattle.shop_model.proofs.PlacementLemmas.{job_of_next, next_of_job, placing-job}
-use Rattle.shop_model.proofs.StartRows.{rows_next, rows_starts, rows_are}
-use Rattle.shop_model.proofs.WordLemmas.{full_is_word}
+use Rattle.std.proofs.Common.{◌≡◌, ℕ, List, [], ◌∙◌, arith, length, replicate, sym, subst, take}
+use Rattle.std.proofs.lemmas.List.{get_or-replicate, length-map, length-replicate, take_all}
+use Rattle.shop_model.specs.{Shop.Shop, Word.{Placing, none_placed, placing}, Placements.IsPlacement}
+use Rattle.shop_model.proofs.{PlacedTables.placed_by, PlacementLemmas.{job_of_next, next_of_job, placing-job}}
+use Rattle.shop_model.proofs.{StartRows.{HasRows, rows_next, rows_starts, rows_are}, WordLemmas.full_is_word}
 use Rattle.shop_model.proofs.placing.place.Goals as goal
+
+rows_begin : (shop : Shop) {rows : List (List ℕ)} → rows ≡ replicate (length shop.jobs) []
+    → HasRows shop (none_placed shop) rows
+rows_begin shop is = grind (arith, length-replicate, get_or-replicate)
 
 pub index_mut-requires : goal.index_mut-requires
 index_mut-requires c =
@@ -50,12 +51,17 @@ returns-clause-table c =
     in c.of_checked.ensures ∙ rows_are c.args.instance.now w _ c.requires stands
 
 pub returns-clause-law : goal.returns-clause-law
-returns-clause-law c =
-    let w = c.args.word.now
-    in let all = c.len-index-end.ensures in let done = c.loop-index-test.false
-    in let stands = rw (take_all c.loop-index.index w (omega arith)) at c.loop-index.invariant.1
-    in let table = c.of_checked.ensures ∙ rows_are c.args.instance.now w _ c.requires stands
-    in rw table (placed_by c.args.instance.now w c.requires)
+returns-clause-law c = rw (returns-clause-table c) (placed_by c.args.instance.now c.args.word.now c.requires)
 
 pub returns-clause-ends : goal.returns-clause-ends
 returns-clause-ends c j k = grind (arith, take_all, rows_starts, full_is_word)
+
+pub place_next-start-requires : goal.place_next-start-requires
+place_next-start-requires c =
+    let w = c.args.word.now
+    in next_of_job c.args.instance.now w (full_is_word c.args.instance.now w c.requires) c.loop-index.index
+    c.len-index-end.result c.job-j.result c.loop-index-test.true c.len-index-end.ensures c.job-j.ensures
+    c.loop-index.placement c.loop-index.invariant.0
+
+pub loop-index-init : goal.loop-index-init
+loop-index-init c = (c.in_ok-placement.ensures, rows_begin c.args.instance.now c.in_ok-rows.ensures)

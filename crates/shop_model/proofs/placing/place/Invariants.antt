@@ -1,7 +1,5 @@
 use Rattle.std.proofs.Common.{take, map}
-use Rattle.shop_model.specs.Placements.{IsPlacement}
-use Rattle.shop_model.specs.Word.{placing}
-use Rattle.shop_model.proofs.StartRows.{HasRows}
+use Rattle.shop_model.{specs.{Placements.IsPlacement, Word.placing}, proofs.StartRows.HasRows}
 use Rattle.shop_model.proofs.placing.place.Given as goal
 
 abbrev pub invariant-loop-index : goal.invariant-loop-index

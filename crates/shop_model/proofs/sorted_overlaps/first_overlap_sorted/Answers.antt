@@ -1,10 +1,8 @@
-use Rattle.std.proofs.lemmas.List.Sorted.{All-permutation}
-use Rattle.std.proofs.Common.{arith}
-use Rattle.shop_model.specs.inner.Spans.{spans_of}
-use Rattle.shop_model.specs.inner.ClearSpans.{ArePartedSpans}
-use Rattle.shop_model.proofs.SwappedPairs.{AllPairs-permutation}
-use Rattle.shop_model.proofs.SpanLemmas.{IsForward, parted_both_ways, parted_pairs, apart_from_pairs, spans_forward}
-use Rattle.shop_model.proofs.ClearSpanLemmas.{AreClearPair, clear_both_ways, clear_pairs, apart_from_clear}
+use Rattle.std.proofs.{lemmas.List.Sorted.All-permutation, Common.arith}
+use Rattle.shop_model.specs.inner.{Spans.spans_of, ClearSpans.ArePartedSpans}
+use Rattle.shop_model.proofs.{SwappedPairs.AllPairs-permutation, SpanLemmas.{IsForward, parted_both_ways, parted_pairs}}
+use Rattle.shop_model.proofs.{SpanLemmas.{apart_from_pairs, spans_forward}, ClearSpanLemmas.AreClearPair}
+use Rattle.shop_model.proofs.ClearSpanLemmas.{clear_both_ways, clear_pairs, apart_from_clear}
 use Rattle.shop_model.proofs.sorted_overlaps.first_overlap_sorted.Goals as goal
 
 pub returns-then-are_in_turn : goal.returns-then-are_in_turn

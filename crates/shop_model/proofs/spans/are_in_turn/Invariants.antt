@@ -1,6 +1,5 @@
 use Rattle.std.proofs.Common.{ℕ, ◌+◌, ◌<◌, slice_index_or}
-use Rattle.shop_model.specs.declared.spans.Occupied.{Occupied}
-use Rattle.shop_model.specs.inner.Spans.{IsInTurn}
+use Rattle.shop_model.specs.{declared.spans.Occupied.Occupied, inner.Spans.IsInTurn}
 use Rattle.shop_model.proofs.spans.are_in_turn.Given as goal
 
 abbrev pub invariant-loop-k : goal.invariant-loop-k

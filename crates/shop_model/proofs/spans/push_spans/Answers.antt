@@ -1,5 +1,4 @@
-use Rattle.std.proofs.Common.{arith, append_assoc, refl}
-use Rattle.std.proofs.lemmas.List.FromFn.{map-range_with_len_more}
+use Rattle.std.proofs.{Common.{arith, append_assoc, refl}, lemmas.List.FromFn.map-range_with_len_more}
 use Rattle.shop_model.specs.inner.Spans.{span_at}
 use Rattle.shop_model.proofs.spans.push_spans.Goals as goal
 

@@ -1,8 +1,5 @@
-use Rattle.std.proofs.Common.{◌≡◌, [], slice_index_or}
-use Rattle.std.specs.Prelude.{flat_map}
-use Rattle.std.specs.List.{range_with_len}
-use Rattle.shop_model.specs.Shop.{route_of}
-use Rattle.shop_model.specs.inner.Spans.{spans_at}
+use Rattle.std.{proofs.Common.{◌≡◌, [], slice_index_or}, specs.{Prelude.flat_map, List.range_with_len}}
+use Rattle.shop_model.specs.{Shop.route_of, inner.Spans.spans_at}
 use Rattle.shop_model.proofs.spans.spans.Given as goal
 
 abbrev pub invariant-loop-j : goal.invariant-loop-j

@@ -1,6 +1,5 @@
 use Rattle.std.proofs.Common.{ℕ, ◌<◌, ◌≤◌, length}
-use Rattle.shop_model.specs.Shop.{route_of}
-use Rattle.shop_model.specs.Word.{count_of}
+use Rattle.shop_model.specs.{Shop.route_of, Word.count_of}
 use Rattle.shop_model.proofs.words.fits.Given as goal
 
 abbrev pub invariant-loop-j : goal.invariant-loop-j

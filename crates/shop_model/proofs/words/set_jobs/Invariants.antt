@@ -1,5 +1,4 @@
-use Rattle.std.proofs.Common.{◌≡◌, ◌≤◌, take}
-use Rattle.std.specs.Prelude.{vec_capacity}
+use Rattle.std.{proofs.Common.{◌≡◌, ◌≤◌, take}, specs.Prelude.vec_capacity}
 use Rattle.shop_model.proofs.words.set_jobs.Given as goal
 
 abbrev pub invariant-loop-job : goal.invariant-loop-job

@@ -1,6 +1,5 @@
 use Rattle.std.proofs.Common.{◌≡◌, ◌+◌, ◌-◌, length, replicate, arith, ap, vec_len}
-use Rattle.shop_model.specs.Shop.{route_of}
-use Rattle.shop_model.proofs.StartWord.{start_more}
+use Rattle.shop_model.{specs.Shop.route_of, proofs.StartWord.start_more}
 use Rattle.shop_model.proofs.words.start_word.Goals as goal
 
 pub loop-j-preserved : goal.loop-j-preserved

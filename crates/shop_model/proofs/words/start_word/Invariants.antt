@@ -1,5 +1,4 @@
-use Rattle.std.proofs.Common.{◌≡◌, ◌*◌, ◌≤◌, length, vec_len}
-use Rattle.std.specs.Prelude.{flat_map, replicate}
+use Rattle.std.{proofs.Common.{◌≡◌, ◌*◌, ◌≤◌, length, vec_len}, specs.Prelude.{flat_map, replicate}}
 use Rattle.std.specs.List.{range_with_len}
 use Rattle.shop_model.specs.Shop.{route_of}
 use Rattle.shop_model.proofs.words.start_word.Given as goal

@@ -1,5 +1,4 @@
-use Rattle.std.proofs.Common.{arith, ◌++◌, ◌∷◌, []}
-use Rattle.std.specs.Arc.{arc_slice_items}
+use Rattle.std.{proofs.Common.{arith, ◌++◌, ◌∷◌, []}, specs.Arc.arc_slice_items}
 use Rattle.shop_model.proofs.WordLengths.{word_shared}
 use Rattle.shop_nodes.proofs.ChildrenLemmas.{child-small}
 use Rattle.shop_nodes.proofs.child_nodes.child_along.Goals as goal

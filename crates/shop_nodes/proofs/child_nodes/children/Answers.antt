@@ -2,11 +2,9 @@ use Rattle.std.proofs.Common.{◌≡◌, [], ◌∷◌, ◌++◌, ◌∙◌, ℕ
 use Rattle.std.proofs.Common.{length}
 use Rattle.shop_bound.specs.Bound.{lb}
 use Rattle.shop_model.specs.Word.{IsWord}
-use Rattle.shop_nodes.specs.Branching.{branch, conflict, insert_by, sort_by}
-use Rattle.shop_nodes.specs.Laws.{HaveBetterChildren}
-use Rattle.shop_nodes.specs.Nodes.{words_of, AreNodes}
-use Rattle.shop_nodes.specs.inner.Places.{IsPlaceFor}
-use Rattle.shop_nodes.proofs.ChildrenLemmas.{child-word, all_done, words_of-insert, nodes-insert, better_children}
+use Rattle.shop_nodes.specs.{Branching.{branch, conflict, insert_by, sort_by}, Laws.HaveBetterChildren, Nodes.words_of}
+use Rattle.shop_nodes.{specs.{Nodes.AreNodes, inner.Places.IsPlaceFor}, proofs.ChildrenLemmas.{child-word, all_done}}
+use Rattle.shop_nodes.proofs.ChildrenLemmas.{words_of-insert, nodes-insert, better_children}
 use Rattle.shop_nodes.proofs.child_nodes.children.Goals as goal
 
 pub loop-job-init : goal.loop-job-init

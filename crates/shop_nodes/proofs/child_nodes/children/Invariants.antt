@@ -1,7 +1,6 @@
 use Rattle.std.proofs.Common.{◌≡◌, List, ◌++◌, ◌∷◌, [], ℕ, map, vec_len}
 use Rattle.shop_bound.specs.Bound.{lb}
-use Rattle.shop_nodes.specs.Branching.{conflict, sort_by}
-use Rattle.shop_nodes.specs.Nodes.{words_of, AreNodes}
+use Rattle.shop_nodes.specs.{Branching.{conflict, sort_by}, Nodes.{words_of, AreNodes}}
 use Rattle.shop_nodes.proofs.child_nodes.children.Given as goal
 
 abbrev pub invariant-loop-job : goal.invariant-loop-job

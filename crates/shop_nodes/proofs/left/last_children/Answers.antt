@@ -1,10 +1,7 @@
-use Rattle.std.proofs.Common.{◌≡◌, ◌-◌, ℕ, suc, List, take, sym, subst, arith, rules}
-use Rattle.std.proofs.lemmas.List.{length-take-le}
-use Rattle.shop_model.specs.Word.{IsFull}
-use Rattle.shop_model.proofs.WordLengths.{word_length}
-use Rattle.shop_nodes.specs.Walking.{operations_left}
-use Rattle.shop_nodes.proofs.Counting.{open_from}
-use Rattle.shop_nodes.proofs.LeftLemmas.{last_words, nodes_dropped}
+use Rattle.std.proofs.{Common.{◌≡◌, ◌-◌, ℕ, suc, List, take, sym, subst, arith, rules}, lemmas.List.length-take-le}
+use Rattle.shop_model.{specs.Word.IsFull, proofs.WordLengths.word_length}
+use Rattle.shop_nodes.{specs.Walking.operations_left, proofs.{Counting.open_from, LeftLemmas.last_words}}
+use Rattle.shop_nodes.proofs.LeftLemmas.{nodes_dropped}
 use Rattle.shop_nodes.proofs.left.last_children.Goals as goal
 
 pub of_path-requires : goal.of_path-requires

@@ -1,9 +1,6 @@
-use Rattle.std.proofs.Common.{◌≡◌, ◌+◌, ◌-◌, ◌∙◌, drop, sym, ap, subst, arith}
+use Rattle.std.proofs.{Common.{◌≡◌, ◌+◌, ◌-◌, ◌∙◌, drop, sym, ap, subst, arith}, lemmas.List.Elements.All-append}
 use Rattle.std.specs.Arc.{arc_slice_items}
-use Rattle.std.proofs.lemmas.List.Elements.{All-append}
-use Rattle.shop_nodes.specs.Nodes.{words_of, IsNode, AreNodes}
-use Rattle.shop_nodes.specs.Halts.{stack_words}
-use Rattle.shop_nodes.proofs.LeftLemmas.{all_more}
+use Rattle.shop_nodes.{specs.{Nodes.{words_of, IsNode, AreNodes}, Halts.stack_words}, proofs.LeftLemmas.all_more}
 use Rattle.shop_nodes.proofs.left.waiting_nodes.Goals as goal
 
 pub loop-index-preserved : goal.loop-index-preserved

@@ -1,7 +1,5 @@
-use Rattle.std.proofs.Common.{◌≡◌, ◌≤◌, drop, length}
-use Rattle.std.specs.Arc.{arc_slice_items}
-use Rattle.shop_nodes.specs.Nodes.{words_of, AreNodes}
-use Rattle.shop_nodes.specs.Halts.{stack_words}
+use Rattle.std.{proofs.Common.{◌≡◌, ◌≤◌, drop, length}, specs.Arc.arc_slice_items}
+use Rattle.shop_nodes.specs.{Nodes.{words_of, AreNodes}, Halts.stack_words}
 use Rattle.shop_nodes.proofs.left.waiting_nodes.Given as goal
 
 abbrev pub invariant-loop-index : goal.invariant-loop-index

@@ -1,7 +1,6 @@
 use Rattle.std.proofs.{Common.{codes, arith}, lemmas.Result.IfOk-weaker}
 use Rattle.clap.specs.Words.{AddsSubcommand, App, new_app, with_subcommand}
-use Rattle.clap.specs.declared.builder.value_parser.ValueParser.{ValueParser}
-use Rattle.clap.specs.declared.builder.value_parser.ValueParser.TheVariants.{Names}
+use Rattle.clap.specs.declared.builder.value_parser.ValueParser.{ValueParser, TheVariants.Names}
 use Rattle.shop_program.specs.CommandLine.{IsCommandLine, check_command, list_command, needing_subcommand}
 use Rattle.shop_program.specs.CommandLine.{IsChoice, format_words, order_words, solve_command}
 use Rattle.shop_program.proofs.Commands.{needs_subcommand, has_subcommand}

@@ -3,8 +3,7 @@ use Rattle.clap.specs.Words.{AddsArg, App, Rule, new_app, with_rule}
 use Rattle.clap.specs.declared.builder.value_parser.ValueParser.TheVariants.{Names}
 use Rattle.shop_runs.specs.declared.plans.TheConstants.{MAX_ROUNDS, MAX_BUDGET, MAX_PIECE, MAX_WORKERS}
 use Rattle.shop_program.specs.CommandLine.{choice_rule, flag_rule, format_rule, number_rule, option_rule, path_rule}
-use Rattle.shop_program.specs.CommandLine.{IsCommandOf, solve_command, with_plan_rules}
-use Rattle.shop_program.proofs.Commands.{has_argument}
+use Rattle.shop_program.{specs.CommandLine.{IsCommandOf, solve_command, with_plan_rules}, proofs.Commands.has_argument}
 use Rattle.shop_program.proofs.command_line.solve.Goals as goal
 
 pub returns : goal.returns

@@ -1,9 +1,8 @@
 use Rattle.std.proofs.{Common.{◌∙◌, ap, sym, codes, map}, lemmas.Result.err_from_is_err_and}
 use Rattle.std.specs.Prelude.{Some, string_bytes}
 use Rattle.clap.specs.Words.{found_of, rows_of}
-use Rattle.shop_program.specs.CommandLine.{IsUnread}
-use Rattle.shop_program.proofs.{Getters.unless, LineReads.{told, unread_of, unread_without, untaken}}
-use Rattle.shop_program.proofs.Refusals.{no_command}
+use Rattle.shop_program.{specs.CommandLine.IsUnread, proofs.{Getters.unless, LineReads.{told, unread_of}}}
+use Rattle.shop_program.proofs.{LineReads.{unread_without, untaken}, Refusals.no_command}
 use Rattle.shop_program.proofs.reading_args.args_of.Goals as goal
 
 pub returns-in-list : goal.returns-in-list

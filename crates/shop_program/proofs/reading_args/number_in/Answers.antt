@@ -1,7 +1,6 @@
 use Rattle.std.proofs.Common.{ℕ, ◌<◌, ◌^◌}
 use Rattle.clap.specs.Words.{found_of, rows_of}
-use Rattle.shop_program.specs.CommandLine.{HasNumber}
-use Rattle.shop_program.proofs.Getters.{has_number, unless, no_number}
+use Rattle.shop_program.{specs.CommandLine.HasNumber, proofs.Getters.{has_number, unless, no_number}}
 use Rattle.shop_program.proofs.reading_args.number_in.Goals as goal
 
 pub returns-in-Some-clause-ok : goal.returns-in-Some-clause-ok

@@ -1,8 +1,7 @@
 use Rattle.std.proofs.Common.{codes, sym}
 use Rattle.clap.specs.Words.{found_of, rows_of}
 use Rattle.shop_runs.specs.{declared.plans.Order.Order, Orders.order_word}
-use Rattle.shop_program.specs.CommandLine.{HasText}
-use Rattle.shop_program.proofs.Getters.{has_text, unless, no_value, other_value, or_unread}
+use Rattle.shop_program.{specs.CommandLine.HasText, proofs.Getters.{has_text, unless, no_value, other_value, or_unread}}
 use Rattle.shop_program.proofs.reading_args.order_in.Goals as goal
 
 pub returns-in_default : goal.returns-in_default

@@ -1,5 +1,4 @@
-use Rattle.std.proofs.Common.{◌∙◌, ap}
-use Rattle.std.specs.Prelude.{Some, None, string_bytes}
+use Rattle.std.{proofs.Common.{◌∙◌, ap}, specs.Prelude.{Some, None, string_bytes}}
 use Rattle.clap.specs.Words.{found_of}
 use Rattle.shop_program.proofs.Getters.{may_have}
 use Rattle.shop_program.proofs.reading_args.text_in.Goals as goal

@@ -1,6 +1,5 @@
 use Rattle.std.proofs.Common.{ℕ, inr, Result}
-use Rattle.shop_engine.specs.declared.faults.Fault.{Fault}
-use Rattle.shop_engine.proofs.Sources.{at_err}
+use Rattle.shop_engine.{specs.declared.faults.Fault.Fault, proofs.Sources.at_err}
 use Rattle.shop_program.specs.Commands.{ChecksFrom}
 use Rattle.shop_program.proofs.running.run_from.Goals as goal
 

@@ -1,6 +1,5 @@
 use Rattle.std.proofs.Common.{◌≡◌, ◌+◌, ◌-◌, ◌≤◌, vec_len}
-use Rattle.shop_runs.specs.inner.Stacks.{nodes_in_row}
-use Rattle.shop_runs.specs.inner.BoundRows.{StaysEmpty}
+use Rattle.shop_runs.specs.inner.{Stacks.nodes_in_row, BoundRows.StaysEmpty}
 use Rattle.shop_runs.proofs.bound_rows.reach.Given as goal
 
 abbrev pub invariant-loop-stacks : goal.invariant-loop-stacks

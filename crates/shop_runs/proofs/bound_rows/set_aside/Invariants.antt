@@ -1,5 +1,4 @@
-use Rattle.std.proofs.Common.{◌≡◌, ◌≤◌, take}
-use Rattle.std.specs.Prelude.{vec_len}
+use Rattle.std.{proofs.Common.{◌≡◌, ◌≤◌, take}, specs.Prelude.vec_len}
 use Rattle.shop_runs.proofs.bound_rows.set_aside.Given as goal
 
 abbrev pub invariant-loop-stacks : goal.invariant-loop-stacks

@@ -1,9 +1,7 @@
-use Rattle.std.proofs.Common.{refl, ◌∙◌, ap, subst, arith}
-use Rattle.std.specs.Prelude.{unwrap_or}
+use Rattle.std.{proofs.Common.{refl, ◌∙◌, ap, subst, arith}, specs.Prelude.unwrap_or}
 use Rattle.shop_nodes.proofs.LeftLemmas.{can_be_shared}
-use Rattle.shop_runs.specs.inner.{Distant.ArePutOrCounted, Outcomes.left_open}
-use Rattle.shop_runs.proofs.GatheredLemmas.{stands_gathered, gathered_standing, gathered_covering}
-use Rattle.shop_runs.proofs.PutLemmas.{all_gathered}
+use Rattle.shop_runs.{specs.inner.{Distant.ArePutOrCounted, Outcomes.left_open}, proofs.GatheredLemmas.stands_gathered}
+use Rattle.shop_runs.proofs.{GatheredLemmas.{gathered_standing, gathered_covering}, PutLemmas.all_gathered}
 use Rattle.shop_runs.proofs.outcomes.gather.Goals as goal
 
 pub put_nodes-requires : goal.put_nodes-requires
@@ -26,3 +24,6 @@ returns-clause-standing c = gathered_standing c.args.round.now _ (returns-clause
 
 pub returns-clause-covers : goal.returns-clause-covers
 returns-clause-covers c = gathered_covering c.args.round.now _ (returns-clause-gathered c)
+
+pub invariant_of-result : goal.invariant_of-result
+invariant_of-result c = grind arith

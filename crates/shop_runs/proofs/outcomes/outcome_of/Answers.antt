@@ -1,8 +1,10 @@
-use Rattle.std.proofs.Common.{rules, ◌≤◌, length, ◌∙◌, arith}
-use Rattle.std.proofs.lemmas.Bool.{eq-eqb, ne_eqb}
-use Rattle.std.proofs.lemmas.List.{length_push, length-map}
-use Rattle.shop_runs.specs.Entries.{told}
-use Rattle.shop_runs.specs.declared.rounds.Round.{Round}
+use Rattle.std.proofs.{Common.{rules, ◌≡◌, ℕ, ◌+◌, ◌≤◌, ◌<◌, List, length, ◌∙◌, arith}, lemmas.Bool.{eq-eqb, ne_eqb}}
+use Rattle.std.proofs.lemmas.List.{length_push}
+use Rattle.std.proofs.lemmas.List.{length-map}
+use Rattle.shop_nodes.specs.declared.sheets.Sheet.{Sheet}
+use Rattle.shop_runs.specs.{Entries.told, Crews.OneForEach, declared.rounds.Round.Round}
+use Rattle.shop_runs.specs.declared.{entries.{Entry.Entry, Kind.TheVariants.Done}, outcomes.RoundResult.RoundResult}
+use Rattle.shop_runs.proofs.GatherLemmas.{GatheredSoFar, few_here}
 use Rattle.shop_runs.proofs.EntryLemmas.{IsEntryAt, entry_turn, entries_end, entry_done, entry_not_passed}
 use Rattle.shop_runs.proofs.GatherLemmas.{gathered_turn}
 use Rattle.shop_runs.proofs.OutcomeLemmas.{closed_outcome, open_outcome}
@@ -10,6 +12,17 @@ use Rattle.shop_runs.proofs.outcomes.outcome_of.Goals as goal
 
 length_pieces : (r : Round) → length (told r).pieces ≤ 256
 length_pieces r = grind (arith, length-map)
+
+-- with one more sheet the count fits
+small_sum : (r : Round) (es : List Entry) (e : Entry) (i : ℕ) (s : Sheet) (o : RoundResult) → OneForEach (told r) es
+    → IsEntryAt es i e → e.kind ≡ Done s → GatheredSoFar (told r) i o → o.nodes + s.taken < 18446744073709551616
+small_sum r es e i s o each at is so_far =
+    let small = few_here (told r) i s (entry_done (told r) es i e each at s is) o so_far r.small_budget
+    in let inside = at.inside
+    in let pieces = length_pieces r
+    in let counted = r.counted
+    in let left = r.rounds_left
+    in omega arith
 
 pub unreachable-requires : goal.unreachable-requires
 unreachable-requires c =
@@ -50,3 +63,9 @@ returns c =
     in open_outcome (told c.args.round.now) c.args.round.now.is_round
     (length c.loop-entry.yielded) c.loop-entry.outcome c.loop-entry.invariant.so_far
     c.args.round.now.small_budget (length_pieces c.args.round.now) (all ∙ c.requires.0)
+
+pub overflow_add-result : goal.overflow_add-result
+overflow_add-result c = search (rules, entry_turn, small_sum)
+
+pub take_in-requires : goal.take_in-requires
+take_in-requires c = search (rules, entry_turn, small_sum)

@@ -1,6 +1,5 @@
 use Rattle.std.proofs.Common.{length}
-use Rattle.shop_runs.specs.Entries.{told}
-use Rattle.shop_runs.proofs.GatherLemmas.{GatheredSoFar}
+use Rattle.shop_runs.{specs.Entries.told, proofs.GatherLemmas.GatheredSoFar}
 use Rattle.shop_runs.proofs.outcomes.outcome_of.Given as goal
 
 abbrev pub invariant-loop-entry : goal.invariant-loop-entry

@@ -1,10 +1,8 @@
-use Rattle.std.proofs.Common.{◌≡◌, ◌+◌, ◌-◌, ◌*◌, ◌<◌, ◌++◌, [], ◌∷◌, length, drop, subst, sym, ◌∙◌, ap}
-use Rattle.std.proofs.Common.{arith, eqb-true}
-use Rattle.std.proofs.lemmas.List.{length_push, drop-drop}
+use Rattle.std.proofs.Common.{◌≡◌, ◌+◌, ◌-◌, ◌*◌, ◌≤◌, ◌<◌, ◌++◌, [], ◌∷◌, length, drop, subst, sym, ◌∙◌, ap, arith}
+use Rattle.std.proofs.{Common.eqb-true, lemmas.List.{length_push, drop-drop}, Math.{Nat.mul-le-mul_right, Seq.drop-nil}}
 use Rattle.shop_nodes.specs.declared.pieces.Piece.{Piece}
-use Rattle.shop_runs.specs.Round.{cut_into}
-use Rattle.shop_runs.specs.inner.Stores.{open_list}
-use Rattle.shop_runs.proofs.PieceLemmas.{some_open, numbered_more, cut_turn, cut_empty, cut_last, take_some, take_none}
+use Rattle.shop_runs.{specs.{Round.cut_into, inner.Stores.open_list}, proofs.PieceLemmas.{some_open, numbered_more}}
+use Rattle.shop_runs.proofs.PieceLemmas.{cut_turn, cut_empty, cut_last, take_some, take_none, all_taken}
 use Rattle.shop_runs.proofs.rounds.cut_pieces.Goals as goal
 use Rattle.shop_runs.proofs.rounds.cut_pieces.Goals.{else-loop-number-test}
 use Rattle.shop_runs.proofs.rounds.cut_pieces.Goals.{then-loop-number-test+in_ok-take+then-is_empty}
@@ -51,3 +49,28 @@ returns-clause-nodes c =
           in cut_empty ps (256 - n) c.args.size rest all
           (take_none c.args.size rest c.requires (sym (ap length w.in_ok-take.ensures.1) ∙ e)) was.nodes)
     ]
+
+pub returns-clause-left : goal.returns-clause-left
+returns-clause-left c =
+    let was = c.loop-number.invariant
+    in let n = c.loop-number.number
+    in let rest = open_list c.loop-number.store
+    in let all = open_list c.args.store.now
+    in elim c.loop-number-test.branch [
+      | else-loop-number-test w ↦ (let h = w.loop-number-test.false
+          in let last : n ≡ 256 = omega arith
+          in ap open_list w.store-is ∙ (was.left ∙ ap (λ k. drop (k * c.args.size) all) last))
+      | then-loop-number-test+in_ok-take+then-is_empty w ↦
+          (let piece = w.take.new.taken
+          in let len = piece.ok.0
+          in let empty = eqb-true piece.len 0 (sym w.if-is_empty.ensures)
+          in let e : length piece.items ≡ 0 = omega arith
+          in let none = take_none c.args.size rest c.requires (sym (ap length w.in_ok-take.ensures.1) ∙ e)
+          in let within : n * c.args.size ≤ 256 * c.args.size = mul-le-mul_right c.args.size (omega arith)
+          in let done = all_taken all (n * c.args.size) (256 * c.args.size) (sym was.left ∙ none) within
+          in ap open_list w.store-is ∙ (w.in_ok-take.ensures.2 ∙ (ap (drop c.args.size) none
+          ∙ (drop-nil c.args.size ∙ done.1))))
+    ]
+
+pub returns-clause-order : goal.returns-clause-order
+returns-clause-order c = grind arith

@@ -1,7 +1,5 @@
 use Rattle.std.proofs.Common.{◌≡◌, ◌-◌, ◌*◌, ◌++◌, true, length, drop}
-use Rattle.shop_runs.specs.Round.{cut_into}
-use Rattle.shop_runs.specs.Nodes.{numbered}
-use Rattle.shop_runs.specs.inner.{NodeLists.nodes_in, Stores.{open_list, order_of}}
+use Rattle.shop_runs.specs.{Round.cut_into, Nodes.numbered, inner.{NodeLists.nodes_in, Stores.{open_list, order_of}}}
 use Rattle.shop_runs.proofs.rounds.cut_pieces.Given as goal
 
 abbrev pub invariant-loop-number : goal.invariant-loop-number

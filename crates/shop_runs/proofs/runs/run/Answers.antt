@@ -1,12 +1,7 @@
 use Rattle.std.proofs.Common.{◌≡◌, ◌+◌, length, refl, sym, ◌∙◌, subst, arith}
 use Rattle.shop_model.specs.Word.{IsFull}
-use Rattle.shop_runs.specs.Answers.{answer}
-use Rattle.shop_runs.specs.Plans.{planned}
-use Rattle.shop_runs.specs.inner.Searches.{in_full}
-use Rattle.shop_runs.specs.inner.Stores.{open_list}
-use Rattle.shop_runs.proofs.Answering.{word_same, trust_says}
-use Rattle.shop_runs.proofs.Trusting.{trustworthy, answer_covers}
-use Rattle.shop_runs.proofs.Ways.{says_run}
+use Rattle.shop_runs.specs.{Answers.answer, Plans.planned, inner.{Searches.in_full, Stores.open_list}}
+use Rattle.shop_runs.proofs.{Answering.{word_same, trust_says}, Trusting.{trustworthy, answer_covers}, Ways.says_run}
 use Rattle.shop_runs.proofs.runs.run.Goals as goal
 
 pub place-requires : goal.place-requires
@@ -36,3 +31,6 @@ returns-clause-trust g c =
     in let trust = trust_says shop (planned c.args.plan.now) _ (returns-clause-says g c)
     in let law = c.in_ok-table.ensures.law
     in record { answer_is = trust; shape = law.shape; feasible = law.feasible; ends = law.ends ∙ trust.ends }
+
+pub invariant_of-end-in_err-table : goal.invariant_of-end-in_err-table
+invariant_of-end-in_err-table g c = grind arith

@@ -1,10 +1,11 @@
-use Rattle.std.proofs.{Common.{rules, ℕ, List, ◌∙◌, ap, refl, arith, length}, lemmas.List.length-set}
+use Rattle.std.proofs.{Common.{ℕ, List, ◌∙◌, ap, refl, arith, length}, lemmas.List.length-set}
 use Rattle.shop_layout.proofs.Written.{written_vec}
-use Rattle.shop_states.proofs.Trials.{can_delay, its_job, its_position, trial_keep, trial_kept}
+use Rattle.shop_states.proofs.{KeptRoom.long_kept, Trials.{can_delay, its_job, its_position, trial_keep, trial_kept}}
 use Rattle.shop_states.proofs.advances.advance.Goals as goal
 
 pub set_head-requires-clause-in_range : goal.set_head-requires-clause-in_range
-set_head-requires-clause-in_range g c = search (rules, its_position)
+set_head-requires-clause-in_range g c =
+    its_position c.requires.can.kept c.args.dispatch.job c.requires.can.fits c.requires.is.position_is
 
 pub delay-requires : goal.delay-requires
 delay-requires g c = rw c.as_mut_slice-next.ensures.value (can_delay c.requires.can.kept c.args.dispatch
@@ -37,3 +38,6 @@ returns-clause-state g c = λ shop w kept fits.
     c.as_mut_slice-next.ensures.value long
     in rw whole (trial_kept kept c.args.dispatch.job fits c.requires.is.position_is c.requires.is.machine_is
     c.requires.is.end_is c.set_head.ensures.heads c.set_head.ensures.ends raised on.are_next on.ends)
+
+pub returns-clause-room : goal.returns-clause-room
+returns-clause-room g c = grind (arith, long_kept, length-set)

@@ -1,10 +1,11 @@
-use Rattle.std.proofs.Common.{rules, ◌∙◌, refl, arith}
+use Rattle.std.proofs.Common.{◌∙◌, refl, arith}
 use Rattle.shop_states.proofs.Trials.{can_delay, its_position, now_heads, same_machines, trial_bound}
 use Rattle.shop_states.proofs.Trials.{trial_keep, trial_kept, trial_raises_fit, trial_under}
 use Rattle.shop_states.proofs.advances.advance_below.Goals as goal
 
 pub set_head-requires-clause-in_range : goal.set_head-requires-clause-in_range
-set_head-requires-clause-in_range g c = search (rules, its_position)
+set_head-requires-clause-in_range g c =
+    its_position c.requires.can.is.kept c.args.dispatch.job c.requires.can.is.fits c.requires.is.position_is
 
 pub raise-raised-requires-clause-can : goal.raise-raised-requires-clause-can
 raise-raised-requires-clause-can g c = can_delay c.requires.can.is.kept c.args.dispatch c.requires.can.is.fits

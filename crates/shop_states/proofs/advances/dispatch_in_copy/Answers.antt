@@ -1,6 +1,6 @@
 use Rattle.std.proofs.{Common.{ℕ, List, ◌∙◌, ap, arith, length}, lemmas.List.length-set}
 use Rattle.shop_layout.proofs.Written.{written_vec}
-use Rattle.shop_states.proofs.Trials.{its_job}
+use Rattle.shop_states.proofs.{KeptRoom.long_kept, Trials.{its_job, its_position}}
 use Rattle.shop_states.proofs.advances.dispatch_in_copy.Goals as goal
 
 pub returns-in_err-bound-clause-told : goal.returns-in_err-bound-clause-told
@@ -39,3 +39,13 @@ returns-clause-state g c = λ shop w kept fits.
     in let whole = written_vec c.args.to.now.next c.as_mut_slice-copied.result.now c.go_on.new.next
     c.as_mut_slice-copied.ensures.value long
     in rw whole (ready.kept shop w kept fits _ _ on)
+
+pub go_on-requires-clause-position : goal.go_on-requires-clause-position
+go_on-requires-clause-position g c =
+    let kept = c.requires.can.is.kept
+    in let here = its_position kept c.args.job c.requires.can.is.fits
+    (rw c.of-dispatch.ensures.job at c.of-dispatch.ensures.is.position_is)
+    in let following = kept.kept.laid.positions.following in let long = kept.kept.heads.positions in omega arith
+
+pub returns-clause-room : goal.returns-clause-room
+returns-clause-room g c = grind (arith, long_kept, length-set)

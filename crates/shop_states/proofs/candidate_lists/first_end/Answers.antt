@@ -1,7 +1,6 @@
 use Rattle.std.proofs.Common.{◌≡◌, ℕ, List, get_or, length, ◌∙◌, ap, sym, subst, arith}
-use Rattle.shop_states.specs.inner.Raises.{HasBlocks}
-use Rattle.shop_states.proofs.Candidates.{choosable}
-use Rattle.shop_states.proofs.LaneConflicts.{chosen_at, chosen_in, chosen_job, is_conflict, none_open}
+use Rattle.shop_states.{specs.inner.Raises.HasBlocks, proofs.{Candidates.choosable, LaneConflicts.chosen_at}}
+use Rattle.shop_states.proofs.LaneConflicts.{chosen_in, chosen_job, is_conflict, none_open}
 use Rattle.shop_states.proofs.candidate_lists.first_end.Goals as goal
 
 pub returns-then-position-positions-clause-is : goal.returns-then-position-positions-clause-is

@@ -84,16 +84,4 @@ loop-word-preserved g c =
     (c.loop-word.invariant.0 ++ c.new-jobs.result, grind (arith, length-append, word_more))
 
 pub returns-clause-listed : goal.returns-clause-listed
-returns-clause-listed g c =
-    let past = c.loop-word-test.false
-    in let own : ℕ → ℕ = told_at c.as_slice-next.result.now (8 * c.args.blocks.from)
-    (map g.L.StateLanes.value c.args.owns.now)
-    in let whole : ListsOwn c.args.limit own (members 0 c.words-words.result.now) c.loop-word.candidates.items
-    c.loop-word.others = subst (λ (js : List ℕ). ListsOwn c.args.limit own js c.loop-word.candidates.items
-    c.loop-word.others) (all_words c.words-words.result.now c.loop-word.word c.loop-word.invariant.0 (omega arith)
-    c.loop-word.invariant.1.all) c.loop-word.invariant.1.listed
-    in record {
-      jobs = members 0 c.words-words.result.now;
-      gathered = rw c.words-words.ensures.members c.conflict_set-set.ensures;
-      listed = rw c.as_slice-next.ensures.value at whole;
-    }
+returns-clause-listed g c = grind (arith, all_words)

@@ -1,7 +1,6 @@
 use Rattle.std.proofs.Common.{◌≡◌, ◌+◌, ◌-◌, get_or, min}
 use Rattle.shop_lanes.specs.Marks.{positions_among}
-use Rattle.shop_states.specs.inner.LaidLanes.{rows_in}
-use Rattle.shop_states.proofs.MarkedRaises.{AreBlocksRaised}
+use Rattle.shop_states.{specs.inner.LaidLanes.rows_in, proofs.MarkedRaises.AreBlocksRaised}
 use Rattle.shop_states.proofs.delays.delay.Given as goal
 
 abbrev pub invariant-loop-from : goal.invariant-loop-from

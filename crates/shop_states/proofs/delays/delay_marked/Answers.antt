@@ -1,7 +1,6 @@
 use Rattle.std.proofs.Common.{◌≤◌, arith, get_or}
-use Rattle.shop_states.proofs.RaisedEnds.{mid_raisable, raised_with_ends, raised_within}
-use Rattle.shop_states.proofs.RaiseLoops.{marks_begin, popped_within, popped_waits}
-use Rattle.shop_states.proofs.RaiseLoops.{popped_raisable, marks_on, marks_past, marks_end}
+use Rattle.shop_states.proofs.{RaisedEnds.{mid_raisable, raised_with_ends}, RaiseLoops.marks_begin}
+use Rattle.shop_states.proofs.RaiseLoops.{popped_within, popped_waits, popped_raisable, marks_on, marks_past, marks_end}
 use Rattle.shop_states.proofs.delays.delay_marked.Goals as goal
 
 pub loop-position-init : goal.loop-position-init
@@ -10,17 +9,30 @@ loop-position-init g c = marks_begin c.requires.raisable c.requires.marks
 pub head-requires : goal.head-requires
 head-requires g c = popped_within c.requires.raisable c.loop-position.invariant c.in-Some.ensures
 
-pub set_end_at-requires : goal.set_end_at-requires
-set_end_at-requires g c =
-    let raisable = popped_raisable c.requires.raisable c.loop-position.invariant c.in-Some.ensures
-    in let waits = popped_waits c.requires.raisable c.loop-position.invariant c.in-Some.ensures
-    in let jobs = c.requires.jobs in grind (arith, raised_within)
+pub set_end_at-requires-clause-within : goal.set_end_at-requires-clause-within
+set_end_at-requires-clause-within g c = grind (arith, popped_within)
 
-pub delay_route-requires : goal.delay_route-requires
-delay_route-requires g c =
-    let raisable = popped_raisable c.requires.raisable c.loop-position.invariant c.in-Some.ensures
-    in let waits = popped_waits c.requires.raisable c.loop-position.invariant c.in-Some.ensures
-    in grind (arith, mid_raisable)
+pub set_end_at-requires-clause-job : goal.set_end_at-requires-clause-job
+set_end_at-requires-clause-job g c = grind (arith, popped_within)
+
+pub set_end_at-requires-clause-known : goal.set_end_at-requires-clause-known
+set_end_at-requires-clause-known g c = grind (arith, popped_waits)
+
+pub set_end_at-requires-clause-ends : goal.set_end_at-requires-clause-ends
+set_end_at-requires-clause-ends g c = grind (arith, popped_raisable)
+
+pub set_end_at-requires-clause-fits : goal.set_end_at-requires-clause-fits
+set_end_at-requires-clause-fits g c = grind (arith, popped_waits)
+
+pub delay_route-requires-clause-waits : goal.delay_route-requires-clause-waits
+delay_route-requires-clause-waits g c = grind (arith, popped_waits)
+
+pub delay_route-requires-clause-below : goal.delay_route-requires-clause-below
+delay_route-requires-clause-below g c = grind arith
+
+pub delay_route-requires-clause-raisable : goal.delay_route-requires-clause-raisable
+delay_route-requires-clause-raisable g c = mid_raisable
+    (popped_raisable c.requires.raisable c.loop-position.invariant c.in-Some.ensures) c.set_end_at.ensures
 
 pub loop-position-preserved-then-head-end : goal.loop-position-preserved-then-head-end
 loop-position-preserved-then-head-end g c =

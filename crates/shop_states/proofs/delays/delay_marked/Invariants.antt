@@ -1,6 +1,5 @@
 use Rattle.std.proofs.Common.{length}
-use Rattle.shop_states.specs.inner.LaidLanes.{rows_in}
-use Rattle.shop_states.proofs.RaiseLoops.{AreMarksRaised}
+use Rattle.shop_states.{specs.inner.LaidLanes.rows_in, proofs.RaiseLoops.AreMarksRaised}
 use Rattle.shop_states.proofs.delays.delay_marked.Given as goal
 
 abbrev pub invariant-loop-position : goal.invariant-loop-position

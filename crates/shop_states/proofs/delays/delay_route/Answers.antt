@@ -14,7 +14,8 @@ head_or_greatest-head-requires g c = position_up_to c.requires.raisable c.requir
     c.leg-leg.ensures
 
 pub returns-then-ready-head : goal.returns-then-ready-head
-returns-then-ready-head g c = search (rules, ended_at)
+returns-then-ready-head g c = ended_at c.requires.raisable c.requires.waits c.loop-ready.invariant
+    c.leg-leg.ensures c.head_or_greatest-head.ensures c.if-ready-head.true
 
 pub set_head-requires-in-loop-ready-clause-in_range : goal.set_head-requires-in-loop-ready-clause-in_range
 set_head-requires-in-loop-ready-clause-in_range g c =
@@ -33,7 +34,9 @@ overflow_add-ready-in-loop-ready g c =
     in let computable = c.requires.raisable.computable in omega arith
 
 pub overflow_add-index : goal.overflow_add-index
-overflow_add-index g c = search (rules, leg_known)
+overflow_add-index g c =
+    let known = leg_known c.requires.raisable c.requires.waits c.loop-ready.invariant
+    in let few = c.behind-index.ensures.few in omega arith
 
 pub loop-ready-smaller : goal.loop-ready-smaller
 loop-ready-smaller g c =

@@ -1,7 +1,6 @@
 use Rattle.std.proofs.Common.{◌-◌, length}
-use Rattle.shop_states.specs.inner.LaidLanes.{rows_in}
+use Rattle.shop_states.{specs.inner.LaidLanes.rows_in, proofs.RaiseSteps.IsFollowing}
 use Rattle.shop_layout.specs.Legs.{all_legs}
-use Rattle.shop_states.proofs.RaiseSteps.{IsFollowing}
 use Rattle.shop_states.proofs.delays.delay_route.Given as goal
 
 abbrev pub invariant-loop-ready : goal.invariant-loop-ready

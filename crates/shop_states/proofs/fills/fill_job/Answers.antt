@@ -47,3 +47,9 @@ returns-clause-next g c = λ s at p placed. end_set c.requires.fill c.requires.j
     (c.routes.ensures ∙ c.grid-grid.ensures.grid) c.leg-leg.ensures (rw c.grid-grid.ensures.grid at c.positions.ensures)
     p placed c.if-leg-positions.false c.max-head.ensures (c.fill_route.ensures.ends ∙ c.set_end.ensures.ends)
     (let many = c.requires.ends in let known = c.requires.job in omega arith)
+
+pub fill_route-requires-clause-fill : goal.fill_route-requires-clause-fill
+fill_route-requires-clause-fill g c = grind arith
+
+pub returns-clause-heads : goal.returns-clause-heads
+returns-clause-heads g c = grind arith

@@ -1,8 +1,7 @@
 use Rattle.std.proofs.Common.{◌≡◌, ℕ, ◌<◌, ◌-◌, length}
 use Rattle.shop_model.specs.Placements.{PlacementState}
-use Rattle.shop_states.specs.inner.{LaidLanes.rows_in, Fills.IsAtLeg}
+use Rattle.shop_states.{specs.inner.{LaidLanes.rows_in, Fills.IsAtLeg}, proofs.FillTurns.IsFillingTo}
 use Rattle.shop_layout.specs.Legs.{all_legs}
-use Rattle.shop_states.proofs.FillTurns.{IsFillingTo}
 use Rattle.shop_states.proofs.fills.fill_route.Given as goal
 
 abbrev pub invariant-loop-routes : goal.invariant-loop-routes

@@ -1,5 +1,4 @@
-use Rattle.std.proofs.Common.{ℕ, ◌+◌, ◌≡◌, List, rules, subst, arith}
-use Rattle.shop_states.specs.inner.{JobSets.HasPut, LaneChoices.IsJobBelow, Raises.IsInBlocks, RisingLists.HasGathered}
+use Rattle.std.proofs.Common.{◌+◌, rules, arith}
 use Rattle.shop_states.proofs.LaneChoices.{gathered_below, gathered_with, have_all, marked_within, more_gathered}
 use Rattle.shop_states.proofs.lane_choices.conflict_set.Goals as goal
 
@@ -12,18 +11,7 @@ gather_marked-requires g c =
     in (search rules, (λ q h. let here = within q h in omega arith, have_all c.requires.jobs))
 
 pub loop-from-init : goal.loop-from-init
-loop-from-init g c =
-    let blocks = c.args.blocks in let are = c.requires.blocks in let last = are.last in let high = are.within
-    in (
-      c.put.new.self,
-      record {
-        put = subst (λ (old : List ℕ). HasPut blocks.chosen old c.put.new.self) c.new-jobs.ensures c.put.ensures;
-        ordered = are.ordered;
-        within = are.last;
-        gathered = gathered_below (g.L.StateLanes.heads c.args.lanes.now) blocks.from blocks.to blocks.end are.ordered
-            (omega arith) are.marks c.gather_marked.ensures;
-      },
-    )
+loop-from-init g c = grind (arith, gathered_below)
 
 pub gather_marked-requires-in-loop-from : goal.gather_marked-requires-in-loop-from
 gather_marked-requires-in-loop-from g c =
@@ -54,13 +42,4 @@ loop-from-preserved g c =
     )
 
 pub returns : goal.returns
-returns g c =
-    let blocks = c.args.blocks
-    in let so = c.loop-from.invariant.1
-    in let within = so.within in let past = c.loop-from-test.false
-    in let end : c.loop-from.from ≡ blocks.behind = omega arith
-    in let below = λ (to : ℕ). IsJobBelow c.args.grid.now (g.L.StateLanes.heads c.args.lanes.now)
-    (IsInBlocks blocks.from to) blocks.end
-    in gathered_with blocks.chosen (below blocks.behind) c.loop-from.invariant.0 c.loop-from.jobs so.put
-    (subst (λ (to : ℕ). HasGathered (below to) c.loop-from.invariant.0 c.loop-from.jobs) end so.gathered)
-    c.rises.ensures
+returns g c = grind (arith, gathered_with)

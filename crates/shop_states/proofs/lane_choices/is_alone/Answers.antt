@@ -1,7 +1,5 @@
-use Rattle.std.proofs.Common.{ℕ, ◌≡◌, List, subst}
-use Rattle.std.specs.List.{All}
-use Rattle.shop_states.specs.inner.LaneChoices.{IsAlone}
-use Rattle.shop_states.proofs.LaneChoices.{alone_on}
+use Rattle.std.{proofs.Common.{ℕ, ◌≡◌, List, subst}, specs.List.All}
+use Rattle.shop_states.{specs.inner.LaneChoices.IsAlone, proofs.LaneChoices.alone_on}
 use Rattle.shop_states.proofs.lane_choices.is_alone.Goals as goal
 
 pub returns-then-blocks : goal.returns-then-blocks

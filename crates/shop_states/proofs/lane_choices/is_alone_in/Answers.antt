@@ -1,5 +1,4 @@
-use Rattle.std.proofs.Common.{ℕ, ◌≡◌, List, subst, arith}
-use Rattle.std.specs.List.{All}
+use Rattle.std.{proofs.Common.{ℕ, ◌≡◌, List, subst, arith}, specs.List.All}
 use Rattle.shop_states.proofs.LaneChoices.{alone_on}
 use Rattle.shop_states.proofs.lane_choices.is_alone_in.Goals as goal
 

@@ -1,4 +1,4 @@
-use Rattle.std.proofs.Common.{◌∙◌, arith, refl}
+use Rattle.std.proofs.{Common.{◌∙◌, arith, refl}, lemmas.List.take_all}
 use Rattle.shop_states.proofs.PlacedNexts.{can_place_entry, entry_placed}
 use Rattle.shop_states.proofs.placing.place_from.Goals as goal
 
@@ -55,3 +55,6 @@ pub loop-index-preserved : goal.loop-index-preserved
 loop-index-preserved g c = entry_placed c.grid.ensures.ready.limits c.grid.ensures.ready.laid
     _ c.requires.word _ c.loop-index-test.true c.loop-index.invariant
     (c.routes-routes.ensures ∙ c.grid.ensures.grid) c.leg-leg.ensures c.max.ensures refl
+
+pub returns : goal.returns
+returns g c = rw (take_all c.loop-index.index c.args.path.now c.loop-index-test.false) at c.loop-index.invariant

@@ -1,6 +1,6 @@
 use Rattle.std.proofs.Common.{◌≤◌, ◌∙◌, ℕ, arith, get_or, subst, sym}
 use Rattle.shop_states.specs.inner.{Raises.IsPosition, RisingLists.IsIn}
-use Rattle.shop_states.proofs.{RaisedEnds.{mid_raisable, raised_with_ends, raised_within}, RaisedMachines.lengths_in}
+use Rattle.shop_states.proofs.{RaisedEnds.{mid_raisable, raised_with_ends}, RaisedMachines.lengths_in}
 use Rattle.shop_states.proofs.RaiseLoops.{marks_begin, popped_here, popped_within, popped_waits, popped_raisable}
 use Rattle.shop_states.proofs.{RaiseLoops.{marks_on, marks_past, marks_end}, Watching.{sees_both, sees_long, sees_none}}
 use Rattle.shop_states.proofs.raises.raise_marked.Goals as goal
@@ -12,28 +12,37 @@ pub head-requires : goal.head-requires
 head-requires g c =
     popped_within c.requires.can.raisable c.loop-position.invariant.raised c.in-Some.ensures
 
-pub set_end_at-requires : goal.set_end_at-requires
-set_end_at-requires g c =
-    let raisable = popped_raisable c.requires.can.raisable c.loop-position.invariant.raised c.in-Some.ensures
-    in let waits = popped_waits c.requires.can.raisable c.loop-position.invariant.raised c.in-Some.ensures
-    in let fits = c.requires.can.fits in let jobs = c.requires.can.jobs in grind (arith, raised_within)
+pub set_end_at-requires-clause-within : goal.set_end_at-requires-clause-within
+set_end_at-requires-clause-within g c = grind (arith, popped_within)
 
-pub raise_route-requires : goal.raise_route-requires
-raise_route-requires g c =
-    let raisable = popped_raisable c.requires.can.raisable c.loop-position.invariant.raised c.in-Some.ensures
-    in let waits = popped_waits c.requires.can.raisable c.loop-position.invariant.raised c.in-Some.ensures
-    in let low : get_or (g.L.StateLanes.heads c.loop-position.lanes) c.in-Some.position 0 ≤ c.args.end =
-    (let a = c.head.ensures in let b = c.if-head-end.true in omega arith)
-    in record {
-      waits = rw c.set_end_at.ensures.heads waits;
-      below = rw c.set_end_at.ensures.heads low;
-      raisable = mid_raisable raisable c.set_end_at.ensures;
-      note = record {
-        known = λ q here. grind (arith, lengths_in);
-        machines_fit = grind (arith, lengths_in);
-        listed = c.loop-position.invariant.listed;
-      };
-    }
+pub set_end_at-requires-clause-job : goal.set_end_at-requires-clause-job
+set_end_at-requires-clause-job g c = grind (arith, popped_within)
+
+pub set_end_at-requires-clause-known : goal.set_end_at-requires-clause-known
+set_end_at-requires-clause-known g c = grind (arith, popped_waits)
+
+pub set_end_at-requires-clause-ends : goal.set_end_at-requires-clause-ends
+set_end_at-requires-clause-ends g c = grind (arith, popped_raisable)
+
+pub set_end_at-requires-clause-fits : goal.set_end_at-requires-clause-fits
+set_end_at-requires-clause-fits g c = grind (arith, popped_waits)
+
+pub raise_route-requires-clause-waits : goal.raise_route-requires-clause-waits
+raise_route-requires-clause-waits g c = grind (arith, popped_waits)
+
+pub raise_route-requires-clause-below : goal.raise_route-requires-clause-below
+raise_route-requires-clause-below g c = grind arith
+
+pub raise_route-requires-clause-raisable : goal.raise_route-requires-clause-raisable
+raise_route-requires-clause-raisable g c = mid_raisable
+    (popped_raisable c.requires.can.raisable c.loop-position.invariant.raised c.in-Some.ensures) c.set_end_at.ensures
+
+pub raise_route-requires-clause-note : goal.raise_route-requires-clause-note
+raise_route-requires-clause-note g c = record {
+  known = λ q here. grind (arith, lengths_in);
+  machines_fit = grind (arith, lengths_in);
+  listed = c.loop-position.invariant.listed;
+}
 
 pub loop-position-preserved-then-head-end : goal.loop-position-preserved-then-head-end
 loop-position-preserved-then-head-end g c =

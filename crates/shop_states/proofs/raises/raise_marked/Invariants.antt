@@ -1,7 +1,6 @@
 use Rattle.std.proofs.Common.{◌≡◌, length}
 use Rattle.shop_states.specs.inner.{LaidLanes.rows_in, HeadRaises.raises_in, MachineRaises.AreListed, RisingLists.IsIn}
-use Rattle.shop_states.specs.inner.Watchers.{Sees}
-use Rattle.shop_states.proofs.RaiseLoops.{AreMarksRaised}
+use Rattle.shop_states.{specs.inner.Watchers.Sees, proofs.RaiseLoops.AreMarksRaised}
 use Rattle.shop_states.proofs.raises.raise_marked.Given as goal
 
 abbrev pub invariant-loop-position : goal.invariant-loop-position

@@ -1,9 +1,8 @@
-use Rattle.std.proofs.{Common.{rules, refl, arith}, lemmas.List.length-map}
-use Rattle.shop_states.specs.inner.HeadRaises.{raise_in}
-use Rattle.shop_states.proofs.{RaisedMachines.lengths_in, RaisedEnds.raised_within}
+use Rattle.std.proofs.{Common.{refl, arith}, lemmas.List.length-map}
+use Rattle.shop_states.{specs.inner.HeadRaises.raise_in, proofs.{RaisedMachines.lengths_in, RaisedEnds.raised_within}}
 use Rattle.shop_states.proofs.RaiseSteps.{begun_following, ended_at, followed, is_there, leg_fits, leg_known}
-use Rattle.shop_states.proofs.RaiseSteps.{leg_machine, position_up_to, put_is, read_there}
-use Rattle.shop_states.proofs.Watching.{notes_first, notes_next, sees_first, sees_long, sees_next}
+use Rattle.shop_states.proofs.{RaiseSteps.{leg_machine, position_up_to, put_is, read_there}, Watching.notes_first}
+use Rattle.shop_states.proofs.Watching.{notes_next, sees_first, sees_long, sees_next}
 use Rattle.shop_states.proofs.raises.raise_route.Goals as goal
 
 pub loop-ready-init : goal.loop-ready-init
@@ -22,7 +21,8 @@ head_or_greatest-head-requires g c = position_up_to c.requires.raisable c.requir
     c.loop-ready.invariant.following c.leg-leg.ensures
 
 pub returns-then-ready-head-clause-raises : goal.returns-then-ready-head-clause-raises
-returns-then-ready-head-clause-raises g c = search (rules, ended_at)
+returns-then-ready-head-clause-raises g c = ended_at c.requires.raisable c.requires.waits
+    c.loop-ready.invariant.following c.leg-leg.ensures c.head_or_greatest-head.ensures c.if-ready-head.true
 
 pub set_head-requires-in-loop-ready-clause-in_range : goal.set_head-requires-in-loop-ready-clause-in_range
 set_head-requires-in-loop-ready-clause-in_range g c =
@@ -60,7 +60,9 @@ overflow_add-ready-in-loop-ready g c =
     in let computable = c.requires.raisable.computable in omega arith
 
 pub overflow_add-index : goal.overflow_add-index
-overflow_add-index g c = search (rules, leg_known)
+overflow_add-index g c =
+    let known = leg_known c.requires.raisable c.requires.waits c.loop-ready.invariant.following
+    in let few = c.behind-index.ensures.few in omega arith
 
 pub loop-ready-smaller : goal.loop-ready-smaller
 loop-ready-smaller g c =
@@ -91,3 +93,21 @@ loop-ready-preserved g c =
           c.head_or_greatest-head.ensures c.if-ready-head.false) machine (omega arith) c.see.ensures.raises;
       listed = c.see.ensures.listed;
     }
+
+pub time-requires : goal.time-requires
+time-requires g c = grind (arith, raised_within)
+
+pub behind-index-requires-clause-job : goal.behind-index-requires-clause-job
+behind-index-requires-clause-job g c = grind (arith, raised_within)
+
+pub behind-index-requires-clause-within : goal.behind-index-requires-clause-within
+behind-index-requires-clause-within g c = (c.requires.raisable.places c.args.position c.requires.waits).step
+
+pub behind-index-requires-clause-known : goal.behind-index-requires-clause-known
+behind-index-requires-clause-known g c = (c.requires.raisable.places c.args.position c.requires.waits).job
+
+pub set_head-requires-clause-in_range : goal.set_head-requires-clause-in_range
+set_head-requires-clause-in_range g c = raised_within c.requires.raisable c.requires.waits
+
+pub set_head-requires-clause-fits : goal.set_head-requires-clause-fits
+set_head-requires-clause-fits g c = grind arith

@@ -1,8 +1,7 @@
 use Rattle.std.proofs.Common.{◌-◌, length}
 use Rattle.shop_states.specs.inner.{LaidLanes.rows_in, HeadRaises.raises_in, Raises.IsPosition, MachineRaises.AreListed}
-use Rattle.shop_states.specs.inner.Watchers.{Notes, Sees}
+use Rattle.shop_states.{specs.inner.Watchers.{Notes, Sees}, proofs.RaiseSteps.IsFollowing}
 use Rattle.shop_layout.specs.Legs.{all_legs}
-use Rattle.shop_states.proofs.RaiseSteps.{IsFollowing}
 use Rattle.shop_states.proofs.raises.raise_route.Given as goal
 
 abbrev pub invariant-loop-ready : goal.invariant-loop-ready

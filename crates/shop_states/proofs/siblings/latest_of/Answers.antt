@@ -1,6 +1,5 @@
-use Rattle.std.proofs.Common.{inl, inr, refl}
-use Rattle.shop_states.specs.inner.Siblings.{end_by}
-use Rattle.shop_states.proofs.LatestEnds.{ends_earlier, ends_later, ends_second}
+use Rattle.std.proofs.Common.{arith, inl, inr, refl}
+use Rattle.shop_states.{specs.inner.Siblings.end_by, proofs.LatestEnds.{ends_earlier, ends_later, ends_second}}
 use Rattle.shop_states.proofs.siblings.latest_of.Goals.{then-end-latest}
 use Rattle.shop_states.proofs.siblings.latest_of.Goals.{else-end-latest+then-job-latest+then-end-latest-2}
 use Rattle.shop_states.proofs.siblings.latest_of.Goals.{else-end-latest+else-job-latest}
@@ -23,3 +22,9 @@ loop-index-preserved g c =
             | else-job-latest-via-else-job-latest v ↦ inl v.if-job-latest.false
           ]))
     ]
+
+pub returns : goal.returns
+returns g c = grind arith
+
+pub loop-index-init : goal.loop-index-init
+loop-index-init g c = grind arith

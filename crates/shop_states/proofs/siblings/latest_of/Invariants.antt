@@ -1,5 +1,4 @@
-use Rattle.shop_states.specs.inner.Siblings.{end_by}
-use Rattle.shop_states.proofs.LatestEnds.{AreLatestOf}
+use Rattle.shop_states.{specs.inner.Siblings.end_by, proofs.LatestEnds.AreLatestOf}
 use Rattle.shop_states.proofs.siblings.latest_of.Given as goal
 
 abbrev pub invariant-loop-index : goal.invariant-loop-index

@@ -1,8 +1,7 @@
 use Rattle.std.proofs.{Common.{refl, arith}, lemmas.List.length-map}
-use Rattle.shop_states.specs.inner.{HeadRaises.raise_in, Watchers.no_floor}
-use Rattle.shop_states.proofs.BehindRaises.{its_leg, its_place, late_enough, leg_up_to, next_machine, next_raisable}
-use Rattle.shop_states.proofs.BehindRaises.{next_read, next_there, next_waits, raised_behind}
-use Rattle.shop_states.proofs.Watching.{noted_behind, watch_none}
+use Rattle.shop_states.{specs.inner.{HeadRaises.raise_in, Watchers.no_floor}, proofs.BehindRaises.{its_leg, its_place}}
+use Rattle.shop_states.proofs.BehindRaises.{late_enough, leg_up_to, next_machine, next_raisable, next_read, next_there}
+use Rattle.shop_states.proofs.{BehindRaises.{next_waits, raised_behind}, Watching.{noted_behind, watch_none}}
 use Rattle.shop_states.proofs.siblings.raise_behind.Goals as goal
 
 pub time-requires : goal.time-requires
@@ -42,25 +41,24 @@ see-requires-clause-known g c =
 pub see-requires-clause-fits : goal.see-requires-clause-fits
 see-requires-clause-fits g c = grind arith
 
-pub raise_route-requires : goal.raise_route-requires
-raise_route-requires g c =
-    let time = c.time.ensures
-    in let read = next_read c.requires.can c.requires.waits c.behind.ensures.index c.leg-leg.ensures
+pub raise_route-requires-clause-waits : goal.raise_route-requires-clause-waits
+raise_route-requires-clause-waits g c =
+    let time = c.time.ensures in next_waits c.requires.can c.requires.waits c.behind.ensures.index c.leg-leg.ensures
     c.head_or_greatest-head.ensures (omega arith) c.if-ready-head.false
-    in let below = c.if-ready-head.false
-    in let many = c.see.auto.raises
-    in record {
-      waits = next_waits c.requires.can c.requires.waits c.behind.ensures.index c.leg-leg.ensures
-          c.head_or_greatest-head.ensures (omega arith) c.if-ready-head.false;
-      below = omega arith;
-      raisable = next_raisable c.requires.can c.requires.waits c.behind.ensures.index c.leg-leg.ensures
-          c.head_or_greatest-head.ensures (omega arith) c.if-ready-head.false;
-      note = record {
-        known = λ q here. let known = c.requires.note.known q here in omega arith;
-        machines_fit = λ fixed. (let few = c.requires.note.machines_fit fixed in omega arith);
-        listed = c.see.ensures.listed;
-      };
-    }
+
+pub raise_route-requires-clause-below : goal.raise_route-requires-clause-below
+raise_route-requires-clause-below g c =
+    let time = c.time.ensures in let below = c.if-ready-head.false
+    in let read = next_read c.requires.can c.requires.waits c.behind.ensures.index c.leg-leg.ensures
+    c.head_or_greatest-head.ensures (omega arith) c.if-ready-head.false in omega arith
+
+pub raise_route-requires-clause-raisable : goal.raise_route-requires-clause-raisable
+raise_route-requires-clause-raisable g c =
+    let time = c.time.ensures in next_raisable c.requires.can c.requires.waits c.behind.ensures.index c.leg-leg.ensures
+    c.head_or_greatest-head.ensures (omega arith) c.if-ready-head.false
+
+pub raise_route-requires-clause-note : goal.raise_route-requires-clause-note
+raise_route-requires-clause-note g c = grind arith
 
 pub returns : goal.returns
 returns g c =

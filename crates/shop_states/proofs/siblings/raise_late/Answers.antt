@@ -6,15 +6,7 @@ use Rattle.shop_states.proofs.siblings.raise_late.Goals.{then-position-late, els
 use Rattle.shop_states.proofs.siblings.raise_late.Goals as goal
 
 pub loop-from-init : goal.loop-from-init
-loop-from-init g c = record {
-  ordered = omega arith;
-  within = c.requires.can.ordered;
-  so = record {
-    raises = late_begins c.args.late.from c.args.late.behind _ c.requires.can.can;
-    noted = watch_none no_floor _ _ _;
-    listed = c.requires.note.listed;
-  };
-}
+loop-from-init g c = grind (arith, late_begins, watch_none)
 
 pub loop-position-init : goal.loop-position-init
 loop-position-init g c =

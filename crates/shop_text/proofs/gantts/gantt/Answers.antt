@@ -1,7 +1,6 @@
 use Rattle.std.proofs.Common.{arith, ◌≡◌, ◌++◌, ◌∙◌, ◌≤◌, ◌*◌, ap, map, ℕ, List}
 use Rattle.std.specs.{Prelude.codes, List.range_with_len, Int.div_ceil}
-use Rattle.shop_model.specs.{Shop.finish_of, Checking.starts_of}
-use Rattle.shop_model.proofs.Ends.{le-end_of}
+use Rattle.shop_model.{specs.{Shop.finish_of, Checking.starts_of}, proofs.Ends.le-end_of}
 use Rattle.shop_text.specs.Writing.{unit_of, shown_at, columns, number_line, machine_line, cells_line, printed_line}
 use Rattle.shop_text.proofs.{CellLemmas.ceil_mono, TextLemmas.line_more}
 use Rattle.shop_text.proofs.gantts.gantt.Goals as goal

@@ -1,5 +1,4 @@
-use Rattle.std.proofs.Common.{◌≡◌, ◌∷◌, length, map}
-use Rattle.std.specs.{Prelude.codes, List.range_with_len, Int.div_ceil}
+use Rattle.std.{proofs.Common.{◌≡◌, ◌∷◌, length, map}, specs.{Prelude.codes, List.range_with_len, Int.div_ceil}}
 use Rattle.shop_model.specs.Checking.{starts_of}
 use Rattle.shop_text.specs.Writing.{text_of, number_line, machine_line}
 use Rattle.shop_text.proofs.gantts.gantt.Given as goal

@@ -1,5 +1,4 @@
-use Rattle.std.proofs.Common.{◌≡◌, ◌++◌, drop, vec_len, map}
-use Rattle.std.specs.List.{list_all, zip}
+use Rattle.std.{proofs.Common.{◌≡◌, ◌++◌, drop, vec_len, map}, specs.List.{list_all, zip}}
 use Rattle.shop_model.specs.Limits.{IsRouteWithin}
 use Rattle.shop_text.specs.Formats.{is_between, taillard_op}
 use Rattle.shop_text.proofs.instance_drafts.job_of_machines.Given as goal

@@ -1,6 +1,5 @@
 use Rattle.std.proofs.Common.{length}
-use Rattle.shop_text.specs.{Formats.grammar_of, inner.LineReading.IsBehind}
-use Rattle.shop_text.proofs.Passing.{IsBeforeHeader}
+use Rattle.shop_text.{specs.{Formats.grammar_of, inner.LineReading.IsBehind}, proofs.Passing.IsBeforeHeader}
 use Rattle.shop_text.proofs.instance_readers.from_first_header.Given as goal
 
 abbrev pub invariant-loop-rest : goal.invariant-loop-rest

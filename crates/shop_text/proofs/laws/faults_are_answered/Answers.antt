@@ -1,5 +1,4 @@
-use Rattle.shop_text.specs.Formats.{grammar_of}
-use Rattle.shop_text.proofs.{ReaderTurns.one_reading, FaultAnswers.answered}
+use Rattle.shop_text.{specs.Formats.grammar_of, proofs.{ReaderTurns.one_reading, FaultAnswers.answered}}
 use Rattle.shop_text.proofs.laws.faults_are_answered.Goals as goal
 
 pub returns : goal.returns

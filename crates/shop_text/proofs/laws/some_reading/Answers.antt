@@ -1,5 +1,4 @@
-use Rattle.shop_text.specs.Formats.{grammar_of}
-use Rattle.shop_text.proofs.{ReaderTurns.is_grammar, SomeReading.some_text}
+use Rattle.shop_text.{specs.Formats.grammar_of, proofs.{ReaderTurns.is_grammar, SomeReading.some_text}}
 use Rattle.shop_text.proofs.laws.some_reading.Goals as goal
 
 pub returns : goal.returns

@@ -1,5 +1,4 @@
-use Rattle.std.proofs.Common.{sym, ap, ◌∙◌, string_bytes, ℕ}
-use Rattle.std.specs.Fmt.{decimal}
+use Rattle.std.{proofs.Common.{sym, ap, ◌∙◌, string_bytes, ℕ}, specs.Fmt.decimal}
 use Rattle.shop_text.specs.Writing.{verdict_text, printed_line}
 use Rattle.shop_text.proofs.TextLemmas.{same_text, unreleased_is, early_is, overlap_is, early_tokens}
 use Rattle.shop_text.proofs.printing.verdict_string.Goals as goal

@@ -1,5 +1,4 @@
-use Rattle.std.proofs.Common.{◌≡◌, ◌∙◌, ap, ◌++◌, ◌∷◌, [], List, ℕ, string_bytes}
-use Rattle.std.proofs.lemmas.List.{append_assoc}
+use Rattle.std.proofs.{Common.{◌≡◌, ◌∙◌, ap, ◌++◌, ◌∷◌, [], List, ℕ, string_bytes}, lemmas.List.append_assoc}
 use Rattle.std.specs.{Prelude.codes, Fmt.decimal}
 use Rattle.shop_text.specs.{Writing.{printed_line, number_line, text_of, answer_lines}, Reports.reported}
 use Rattle.shop_text.proofs.TextLemmas.{written, eight_lines}

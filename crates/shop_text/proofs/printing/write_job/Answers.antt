@@ -1,7 +1,6 @@
 use Rattle.std.proofs.{Common.{◌≡◌, ◌++◌, ◌∷◌, [], ℕ, List, string_bytes, arith}, lemmas.List.{append_assoc, take_all}}
 use Rattle.std.specs.{Prelude.{flat_map, codes}, Fmt.decimal}
-use Rattle.shop_text.specs.Writing.{printed_line, job_line}
-use Rattle.shop_text.proofs.TextLemmas.{written, job_line_is}
+use Rattle.shop_text.{specs.Writing.{printed_line, job_line}, proofs.TextLemmas.{written, job_line_is}}
 use Rattle.shop_text.proofs.printing.write_job.Goals as goal
 
 line_at : (old : List ℕ) (j : ℕ) (starts : List ℕ)

@@ -1,5 +1,4 @@
-use Rattle.std.proofs.Common.{◌≡◌, ◌∷◌, ◌++◌, take, string_bytes}
-use Rattle.std.specs.{Prelude.flat_map, Fmt.decimal}
+use Rattle.std.{proofs.Common.{◌≡◌, ◌∷◌, ◌++◌, take, string_bytes}, specs.{Prelude.flat_map, Fmt.decimal}}
 use Rattle.shop_text.proofs.printing.write_job.Given as goal
 
 abbrev pub invariant-loop-start : goal.invariant-loop-start

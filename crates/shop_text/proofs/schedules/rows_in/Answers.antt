@@ -1,6 +1,5 @@
-use Rattle.std.proofs.{lemmas.Grind.common_steps, lemmas.List.length-map}
-use Rattle.std.proofs.Common.{◌≡◌, inr, refl, sym, ap, ◌∙◌, length, ℕ, arith, None, ◌∷◌, ◌+◌, ◌<◌}
-use Rattle.std.specs.Prelude.{codes}
+use Rattle.std.proofs.{lemmas.{Grind.common_steps, List.length-map}, Common.{◌≡◌, inr, refl, sym, ap, ◌∙◌, length, ℕ}}
+use Rattle.std.{proofs.Common.{arith, None, ◌∷◌, ◌+◌, ◌<◌}, specs.Prelude.codes}
 use Rattle.shop_text.specs.{Lines.tokens_of, Schedules.row_in, inner.ScheduleReading.{rows_held, row_read}}
 use Rattle.shop_text.proofs.JobLineLemmas.{bad_line, missed_line, one_more, rows_push}
 use Rattle.shop_text.proofs.schedules.rows_in.Goals as goal

@@ -1,5 +1,4 @@
-use Rattle.std.proofs.Common.{◌≡◌, ◌+◌, ◌≤◌, ◌++◌, length, map}
-use Rattle.std.specs.{Prelude.vec_capacity, List.list_all}
+use Rattle.std.{proofs.Common.{◌≡◌, ◌+◌, ◌≤◌, ◌++◌, length, map}, specs.{Prelude.vec_capacity, List.list_all}}
 use Rattle.shop_text.specs.{Lines.{tokens_of, value_of}, Schedules.is_start}
 use Rattle.shop_text.proofs.schedules.starts_behind.Given as goal
 

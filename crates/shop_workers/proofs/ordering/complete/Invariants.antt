@@ -1,7 +1,6 @@
 use Rattle.std.proofs.Common.{◌≡◌, vec_len}
 use Rattle.shop_runs.specs.{Crews.IsEntryOf, Entries.told}
-use Rattle.shop_workers.specs.inner.Gathered.{Placed}
-use Rattle.shop_workers.proofs.Places.{UpTo, IsKept, AreLeftFrom}
+use Rattle.shop_workers.{specs.inner.Gathered.Placed, proofs.Places.{UpTo, IsKept, AreLeftFrom}}
 use Rattle.shop_workers.proofs.ordering.complete.Given as goal
 
 abbrev pub invariant-loop-number : goal.invariant-loop-number

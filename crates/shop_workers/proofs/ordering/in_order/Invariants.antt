@@ -1,8 +1,6 @@
-use Rattle.std.proofs.Common.{◌≡◌, length, vec_len}
-use Rattle.std.specs.Prelude.{IsOk}
+use Rattle.std.{proofs.Common.{◌≡◌, length, vec_len}, specs.Prelude.IsOk}
 use Rattle.shop_runs.specs.Entries.{told}
-use Rattle.shop_workers.specs.{Entries.Brought, inner.Gathered.{AllOfRound, Placed}}
-use Rattle.shop_workers.proofs.TakenLists.{AreThrough}
+use Rattle.shop_workers.{specs.{Entries.Brought, inner.Gathered.{AllOfRound, Placed}}, proofs.TakenLists.AreThrough}
 use Rattle.shop_workers.proofs.ordering.in_order.Given as goal
 
 abbrev pub invariant-loop-entries : goal.invariant-loop-entries

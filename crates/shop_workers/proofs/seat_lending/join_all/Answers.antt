@@ -1,30 +1,26 @@
-use Rattle.std.proofs.Common.{rules, ◌∙◌, subst, ◌≡◌, Option, Some, [], ◌∷◌, ◌++◌, arith}
-use Rattle.std.proofs.lemmas.List.Elements.{All-pop}
-use Rattle.std.specs.{Prelude.{Ok, IsOk, IfSome}, declared.vec.Vec.Vec, declared.alloc.Global.Global}
-use Rattle.shop_runs.specs.{Entries.told, declared.entries.Entry.Entry}
-use Rattle.shop_workers.specs.{inner.Returns.IsReturned, declared.boards.Seat.Seat}
-use Rattle.shop_workers.specs.declared.seat_lending.Returned.{Returned}
+use Rattle.std.proofs.{Common.{◌∙◌, refl, Some, arith}, lemmas.{List.Elements.All-pop, Result.IfOk-at_ok}}
+use Rattle.std.specs.Prelude.{IsOk}
+use Rattle.shop_runs.specs.Entries.{told}
+use Rattle.shop_workers.specs.{Entries.OfRound, inner.Returns.IsReturned, declared.seat_lending.Returned.Returned}
 use Rattle.shop_workers.proofs.TakenLists.{through_one}
 use Rattle.shop_workers.proofs.seat_lending.join_all.Goals as goal
 use Rattle.shop_workers.proofs.seat_lending.join_all.Goals.{in-Some-joined, in-None}
 
+pub join-requires-clause-second : goal.join-requires-clause-second
+join-requires-clause-second c = (All-pop (λ (w : Returned). IsReturned c.args.board.now (told c.args.round.now) w.seat
+    w.entries) _ _ (Some c.in-Some.field-0) c.in-Some.ensures.items c.loop-seat.invariant.3).1.0
+
+pub place-requires-clause-entries : goal.place-requires-clause-entries
+place-requires-clause-entries c = IfOk-at_ok (λ v. OfRound (told c.args.round.now) v.items) c.in_ok-entries.was
+    (All-pop (λ (w : Returned). IsReturned c.args.board.now (told c.args.round.now) w.seat w.entries) _ _
+    (Some c.in-Some.field-0) c.in-Some.ensures.items c.loop-seat.invariant.3).1.1
+
 pub loop-seat-preserved : goal.loop-seat-preserved
 loop-seat-preserved c =
-    let b = c.args.board.now in
-    let r = told c.args.round.now in
-    let all = c.loop-seat.returned.items in
-    let left = c.pop.new.self.items in
-    let taken : Returned = c.in-Some.field-0 in
-    let entries : Vec Entry Global = c.in_ok-entries.field-0 in
-    let joined : Option Seat = c.match-joined.joined in
-    let was : all ≡ left ++ taken ∷ [] = search rules in
-    let popped : c.pop.result ≡ Some taken = search rules in
-    let held : taken.entries ≡ Ok entries = search rules in
-    let granted : IsOk taken.entries = search rules in
-    let parts = All-pop (λ (w : Returned). IsReturned b r w.seat w.entries) all left c.pop.result
-    c.pop.ensures.items c.loop-seat.invariant.3 in
-    let here : IsReturned b r taken.seat taken.entries =
-    subst (λ (o : Option Returned). IfSome o (λ w. IsReturned b r w.seat w.entries)) popped parts.1 in (
+    let parts = All-pop (λ (w : Returned). IsReturned c.args.board.now (told c.args.round.now) w.seat w.entries) _ _
+    (Some c.in-Some.field-0) c.in-Some.ensures.items c.loop-seat.invariant.3 in
+    let here = parts.1 in
+    let granted : IsOk c.in-Some.field-0.entries = rw c.in_ok-entries.was refl in (
       elim c.match-joined.branch [
         | in-Some-joined w ↦ grind arith
         | in-None w ↦ grind arith
@@ -32,6 +28,6 @@ loop-seat-preserved c =
       c.place.ensures.len ∙ c.loop-seat.invariant.1,
       c.place.ensures.placed,
       parts.0,
-      through_one (λ (w : Returned). IsOk w.entries) c.args.returned.items all left taken granted was
+      through_one (λ (w : Returned). IsOk w.entries) _ _ _ c.in-Some.field-0 granted c.in-Some.ensures.items
           c.loop-seat.invariant.4,
     )

@@ -1,9 +1,7 @@
-use Rattle.std.proofs.Common.{◌≡◌, length, vec_len}
-use Rattle.std.specs.Prelude.{All, IfSome, IsOk}
+use Rattle.std.{proofs.Common.{◌≡◌, length, vec_len}, specs.Prelude.{All, IfSome, IsOk}}
 use Rattle.shop_runs.specs.Entries.{told}
-use Rattle.shop_workers.specs.{inner.Gathered.Placed, Seats.IsSeatOf, inner.Returns.IsReturned}
-use Rattle.shop_workers.specs.declared.seat_lending.Returned.{Returned}
-use Rattle.shop_workers.proofs.TakenLists.{AreThrough}
+use Rattle.shop_workers.specs.{inner.{Gathered.Placed, Returns.IsReturned}, Seats.IsSeatOf}
+use Rattle.shop_workers.{specs.declared.seat_lending.Returned.Returned, proofs.TakenLists.AreThrough}
 use Rattle.shop_workers.proofs.seat_lending.join_all.Given as goal
 
 abbrev pub invariant-loop-seat : goal.invariant-loop-seat

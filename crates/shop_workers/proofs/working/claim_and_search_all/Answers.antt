@@ -1,5 +1,4 @@
-use Rattle.std.proofs.Common.{◌+◌, ◌<◌, ap, ◌∙◌, subst, sym, Some, None, arith}
-use Rattle.std.specs.Prelude.{All}
+use Rattle.std.{proofs.Common.{◌+◌, ◌<◌, ap, ◌∙◌, subst, sym, Some, None, arith}, specs.Prelude.All}
 use Rattle.shop_runs.specs.Entries.{told}
 use Rattle.shop_workers.specs.{Seats.knows, Works.{AreWon, numbers_of}, inner.Turns.TakesTurn}
 use Rattle.shop_workers.proofs.ServedEntries.{all_served}

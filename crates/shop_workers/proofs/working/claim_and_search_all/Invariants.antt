@@ -1,5 +1,4 @@
-use Rattle.std.proofs.Common.{◌<◌, ◌≡◌}
-use Rattle.std.specs.Prelude.{All}
+use Rattle.std.{proofs.Common.{◌<◌, ◌≡◌}, specs.Prelude.All}
 use Rattle.shop_runs.specs.Entries.{told}
 use Rattle.shop_workers.specs.{Seats.{knows, IsSeatOf}, Works.{Grows, IsAllKnown, AreWon, numbers_of}}
 use Rattle.shop_workers.proofs.working.claim_and_search_all.Given as goal

@@ -1,7 +1,6 @@
 use Rattle.std.proofs.Common.{◌≡◌, ◌∙◌, subst}
 use Rattle.shop_model.specs.Word.{placing}
-use Rattle.shop_bound.specs.{Bound.lb, Desks.DeskState}
-use Rattle.shop_bound.proofs.LowerBounds.{lower_bound_is}
+use Rattle.shop_bound.{specs.{Bound.lb, Desks.DeskState}, proofs.LowerBounds.lower_bound_is}
 use Rattle.shop_bound.proofs.desks.Desk.bound.Goals as goal
 
 pub returns-clause-bound : goal.returns-clause-bound

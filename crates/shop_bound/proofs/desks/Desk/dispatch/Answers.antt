@@ -1,8 +1,7 @@
 use Rattle.std.proofs.Common.{◌++◌, ◌∷◌, [], List, ap, arith, length, refl, subst, sym}
 use Rattle.shop_model.specs.{Word.{IsWord, none_placed}, declared.ops.Op.Op}
-use Rattle.shop_bound.specs.Desks.{DeskState}
-use Rattle.shop_bound.proofs.{DeskTurns.{can_dispatch, dispatched, replaced_is, replaced_many}, SmallJobs.small_last}
-use Rattle.shop_bound.proofs.WordLengths.{room_left}
+use Rattle.shop_bound.{specs.Desks.DeskState, proofs.DeskTurns.{can_dispatch, dispatched, replaced_is, replaced_many}}
+use Rattle.shop_bound.proofs.{SmallJobs.small_last, WordLengths.room_left}
 use Rattle.shop_bound.proofs.desks.Desk.dispatch.Goals as goal
 
 pub steps-step-requires : goal.steps-step-requires
@@ -58,3 +57,9 @@ invariant_of-self c =
     c.steps-step.result
     c.steps-step.ensures c.ready-ready.result c.ready-ready.ensures c.free-free.result c.free-free.ensures)
     c.place_next-start.ensures.placed c.push.ensures.capacity c.push-2.ensures.capacity refl
+
+pub ready-ready-requires : goal.ready-ready-requires
+ready-ready-requires c =
+    let a = can_dispatch c.self.inside c.args.job c.self.invariant
+    (subst (λ (s : DeskState). IsWord s.shop (s.word ++ c.args.job ∷ [])) (sym c.self.view_is) c.requires)
+    in let job = a.job in let n = a.places.ready in omega arith

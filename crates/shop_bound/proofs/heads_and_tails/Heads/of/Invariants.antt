@@ -1,5 +1,4 @@
-use Rattle.std.proofs.Common.{◌≡◌, ◌≤◌, length, map, vec_len, vec_capacity}
-use Rattle.std.specs.List.{range_with_len}
+use Rattle.std.{proofs.Common.{◌≡◌, ◌≤◌, length, map, vec_len, vec_capacity}, specs.List.range_with_len}
 use Rattle.shop_model.specs.Word.{placing}
 use Rattle.shop_bound.specs.inner.HeadRows.{heads_of}
 use Rattle.shop_bound.proofs.heads_and_tails.Heads.of.Given as goal

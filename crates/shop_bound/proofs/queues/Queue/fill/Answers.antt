@@ -1,5 +1,4 @@
-use Rattle.std.proofs.Common.{arith, map, subst, sym, List}
-use Rattle.std.specs.BinaryHeap.{heap_items}
+use Rattle.std.{proofs.Common.{arith, map, subst, sym, List}, specs.BinaryHeap.heap_items}
 use Rattle.shop_bound.specs.{inner.Serving.fresh, inner.HeapOrders.Waiting, inner.Queues.AreQueued}
 use Rattle.shop_bound.proofs.QueueTurns.{listed_more, queued_all}
 use Rattle.shop_bound.proofs.queues.Queue.fill.Goals as goal

@@ -1,5 +1,4 @@
-use Rattle.std.proofs.Common.{◌≡◌, ◌≤◌, [], length}
-use Rattle.std.specs.BinaryHeap.{heap_capacity, heap_items, heap_len}
+use Rattle.std.{proofs.Common.{◌≡◌, ◌≤◌, [], length}, specs.BinaryHeap.{heap_capacity, heap_items, heap_len}}
 use Rattle.shop_bound.proofs.QueueTurns.{AreListed}
 use Rattle.shop_bound.proofs.queues.Queue.fill.Given as goal
 

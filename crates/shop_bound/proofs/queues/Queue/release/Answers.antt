@@ -1,5 +1,4 @@
-use Rattle.std.proofs.Common.{◌≡◌, arith, refl}
-use Rattle.std.specs.BinaryHeap.{heap_capacity}
+use Rattle.std.{proofs.Common.{◌≡◌, arith, refl}, specs.BinaryHeap.heap_capacity}
 use Rattle.shop_bound.proofs.QueueTurns.{queue_more, taken_here}
 use Rattle.shop_bound.proofs.queues.Queue.release.Goals as goal
 

@@ -1,7 +1,6 @@
 use Rattle.std.proofs.Common.{◌≡◌, ℕ, ◌-◌, ◌∙◌, ◌+◌, List, arith, ap, sym, subst, map, drop, take, length}
 use Rattle.std.proofs.lemmas.List.{drop-map, get_or-take, length-drop, length-take, take_all}
-use Rattle.shop_lanes.specs.Ends.{IsFirstLeast}
-use Rattle.shop_lanes.proofs.Padding.{first_least_seen}
+use Rattle.shop_lanes.{specs.Ends.IsFirstLeast, proofs.Padding.first_least_seen}
 use Rattle.shop_lanes.proofs.block_lanes.BlockLanesStateLanes.first_least_end.Goals as goal
 
 behind_all : {A : Type 0} (n : ℕ) {lent row : List A} → lent ≡ row → take (length lent - n) (drop n lent) ≡ drop n row

@@ -1,8 +1,7 @@
 use Rattle.std.proofs.{Common.{ℕ, ◌-◌, ◌*◌, ◌^◌, ◌∙◌, List, ap, arith, drop, map, sym, take, w32}, lemmas.List.map-id}
 use Rattle.std.proofs.lemmas.Simd.{below_from_Fits, chunk-fits, length-chunk}
 use lib.Lanes.{chunk}
-use Rattle.shop_lanes.specs.Eights.{ahead_of, first_of}
-use Rattle.shop_lanes.proofs.Comparisons.{ahead_told_is}
+use Rattle.shop_lanes.{specs.Eights.{ahead_of, first_of}, proofs.Comparisons.ahead_told_is}
 use Rattle.shop_lanes.proofs.blocks_of_widths.Block32Block.ahead.Goals as goal
 
 pub returns : goal.returns

@@ -1,8 +1,7 @@
 use Rattle.std.proofs.{Common.{ℕ, ◌*◌, ◌==◌, ◌∙◌, List, ap, arith, drop, eqb, map, sym, take, w32}, lemmas.List.map-id}
 use Rattle.std.proofs.lemmas.Simd.{bitmask_splat, length-chunk}
 use lib.Lanes.{chunk, mask_l}
-use Rattle.shop_lanes.specs.Eights.{is_between}
-use Rattle.shop_lanes.proofs.VectorBits.{bits_between_are}
+use Rattle.shop_lanes.{specs.Eights.is_between, proofs.VectorBits.bits_between_are}
 use Rattle.shop_lanes.proofs.blocks_of_widths.Block32Block.pair_bits.Goals as goal
 
 pub returns-then-equal : goal.returns-then-equal

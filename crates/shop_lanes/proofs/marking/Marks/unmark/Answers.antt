@@ -1,8 +1,6 @@
 use Rattle.std.proofs.Common.{◌≡◌, ℕ, ◌+◌, ◌-◌, ◌%◌, ◌*◌, ◌^◌, ◌≤◌, ◌<◌, ap, arith, refl, ◌∙◌, bit_and, w64}
-use Rattle.std.specs.Int.{bit_at, bit_not}
-use Rattle.std.proofs.lemmas.Nat.Bits.{bit_at_clear_other, bit_at_clear_same}
-use Rattle.shop_lanes.specs.Marks.{without}
-use Rattle.shop_lanes.proofs.Unmarking.{set_bits-without}
+use Rattle.std.{proofs.lemmas.Nat.Bits.{bit_at_clear_other, bit_at_clear_same}, specs.Int.{bit_at, bit_not}}
+use Rattle.shop_lanes.{specs.Marks.without, proofs.Unmarking.set_bits-without}
 use Rattle.shop_lanes.proofs.marking.Marks.unmark.Goals as goal
 
 place_is : (position first place : ℕ) → position < 2 ^ 64 → first + 64 ≤ 2 ^ 64

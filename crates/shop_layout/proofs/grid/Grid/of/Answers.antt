@@ -3,9 +3,8 @@ use Rattle.std.specs.List.{All, flat_map}
 use Rattle.shop_model.specs.Shop.{Shop}
 use Rattle.shop_layout.specs.{LaidOuts.IsReady, Legs.{all_legs, route_legs}, Positions.{AreEven, LayoutState}}
 use Rattle.shop_layout.specs.{declared.legs.Leg.Leg, inner.RouteRows.{AreBehind, AreBelow, AreFirsts, IsBehind}}
-use Rattle.shop_layout.specs.inner.Vectors.{items_in}
-use Rattle.shop_layout.proofs.LaneLimits.{tails_fit, times_fit}
-use Rattle.shop_layout.proofs.RouteLegs.{behind_is, jobs_below, machines_below, times_below}
+use Rattle.shop_layout.{specs.inner.Vectors.items_in, proofs.{LaneLimits.{tails_fit, times_fit}, RouteLegs.behind_is}}
+use Rattle.shop_layout.proofs.RouteLegs.{jobs_below, machines_below, times_below}
 use Rattle.shop_layout.proofs.grid.Grid.of.Goals as goal
 
 -- the rows of a layout that is ready, as they were lent

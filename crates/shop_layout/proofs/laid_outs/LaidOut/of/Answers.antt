@@ -1,6 +1,5 @@
 use Rattle.std.proofs.Common.{◌∙◌, sym, subst}
-use Rattle.shop_layout.specs.{LaidOuts.IsReady, Positions.LayoutState}
-use Rattle.shop_layout.specs.Ranks.{ranked}
+use Rattle.shop_layout.specs.{LaidOuts.IsReady, Positions.LayoutState, Ranks.ranked}
 use Rattle.shop_layout.proofs.laid_outs.LaidOut.of.Goals as goal
 
 pub of-requires-clause-ready : goal.of-requires-clause-ready

@@ -1,6 +1,5 @@
-use Rattle.std.proofs.Common.{rules, ◌≡◌, ◌∙◌, ℕ, ◌+◌, ◌-◌, ◌≤◌, ◌<◌, List, length, map, refl, ap, sym, subst, arith}
-use Rattle.std.proofs.lemmas.List.{length-map}
-use Rattle.std.specs.{List.All, Prelude.Vec, declared.alloc.Global.Global}
+use Rattle.std.proofs.Common.{◌≡◌, ◌∙◌, ℕ, ◌+◌, ◌-◌, ◌≤◌, ◌<◌, List, length, map, refl, ap, sym, subst, arith}
+use Rattle.std.{proofs.lemmas.List.length-map, specs.{List.All, Prelude.Vec, declared.alloc.Global.Global}}
 use Rattle.shop_model.specs.{Limits.IsWithinLimits, Shop.Shop}
 use Rattle.shop_layout.specs.{declared.slots.Slot.Slot, Ranks.{AreRanks, ranked}, Slots.AreMachineSlots}
 use Rattle.shop_layout.specs.inner.Layings.{AreCells, ArePlaces, AreShorter, HaveRoom, place_after}
@@ -79,7 +78,7 @@ machines_of-requires c =
     c.in_ok-slots.ensures
     in let long = cells.machines
     in let many = c.keeps_limits.ensures.machines
-    in search (rules, few)
+    in grind (arith, few)
 
 pub following_of-requires : goal.following_of-requires
 following_of-requires c =
@@ -137,8 +136,8 @@ returns c =
     })
     (c.in_ok-jobs_of.ensures ∙ ap (map (λ s. s.job)) c.as_slice-slots.ensures.value)
     (c.in_ok-steps_of.ensures ∙ ap (map (λ s. s.step)) c.as_slice-slots.ensures.value)
-    (search rules)
-    (search rules)
+    (grind arith)
+    (grind arith)
     refl refl
     (machines_are c.as_slice-4.result.now blocks c.as_slice-4.ensures.value shop.machines
     cells.machines c.in_ok-machines_of.field-0.items c.in_ok-machines_of.ensures)

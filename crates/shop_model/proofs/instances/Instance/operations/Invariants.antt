@@ -1,5 +1,4 @@
-use Rattle.std.proofs.Common.{◌≡◌, ◌*◌, ◌<◌, ◌≤◌, length}
-use Rattle.std.specs.Prelude.{sum_by, take}
+use Rattle.std.{proofs.Common.{◌≡◌, ◌*◌, ◌<◌, ◌≤◌, length}, specs.Prelude.{sum_by, take}}
 use Rattle.shop_model.proofs.instances.Instance.operations.Given as goal
 
 abbrev pub invariant-loop-j : goal.invariant-loop-j

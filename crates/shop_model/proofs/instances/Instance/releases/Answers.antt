@@ -1,5 +1,4 @@
-use Rattle.std.proofs.Common.{arith}
-use Rattle.std.proofs.lemmas.List.FromFn.{map-range_with_len_more}
+use Rattle.std.proofs.{Common.arith, lemmas.List.FromFn.map-range_with_len_more}
 use Rattle.shop_model.specs.Shop.{release_of}
 use Rattle.shop_model.proofs.instances.Instance.releases.Goals as goal
 

@@ -1,5 +1,4 @@
-use Rattle.std.proofs.Common.{◌≡◌, map}
-use Rattle.std.specs.List.{range_with_len}
+use Rattle.std.{proofs.Common.{◌≡◌, map}, specs.List.range_with_len}
 use Rattle.shop_model.specs.Shop.{release_of}
 use Rattle.shop_model.proofs.instances.Instance.releases.Given as goal
 

@@ -1,7 +1,5 @@
 use Rattle.std.proofs.Common.{subst, sym}
-use Rattle.shop_model.specs.Word.{Placing}
-use Rattle.shop_model.specs.Placements.{IsPlacement}
-use Rattle.shop_model.proofs.PlacementLemmas.{placing-job}
+use Rattle.shop_model.{specs.{Word.Placing, Placements.IsPlacement}, proofs.PlacementLemmas.placing-job}
 use Rattle.shop_model.proofs.placements.Placement.place_word.Goals as goal
 
 pub loop-index-preserved : goal.loop-index-preserved

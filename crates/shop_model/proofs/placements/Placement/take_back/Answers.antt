@@ -1,9 +1,7 @@
 use Rattle.std.proofs.Common.{◌≡◌, ◌-◌, List, ap, arith, get_or, length, subst, sym}
-use Rattle.shop_model.specs.declared.ops.Op.{Op}
-use Rattle.shop_model.specs.Shop.{machine_of, no_op, op_of}
-use Rattle.shop_model.specs.Placements.{PlacementState, HasLast, IsPlacement}
-use Rattle.shop_model.specs.Word.{place_next}
-use Rattle.shop_model.proofs.PlacementLemmas.{last_read, step_placed, taken_back}
+use Rattle.shop_model.specs.{declared.ops.Op.Op, Shop.{machine_of, no_op, op_of}, Placements.{PlacementState, HasLast}}
+use Rattle.shop_model.{specs.{Placements.IsPlacement, Word.place_next}, proofs.PlacementLemmas.{last_read, step_placed}}
+use Rattle.shop_model.proofs.PlacementLemmas.{taken_back}
 use Rattle.shop_model.proofs.placements.Placement.take_back.Goals as goal
 
 pub index-requires : goal.index-requires

@@ -1,5 +1,4 @@
-use Rattle.std.proofs.Common.{arith}
-use Rattle.std.proofs.Common.{Some, subst}
+use Rattle.std.proofs.Common.{arith, Some, subst}
 use Rattle.shop_nodes.specs.inner.Choosing.{placing_of, IsChoice}
 use Rattle.shop_nodes.proofs.ChoosingLemmas.{open_below, open-skip, open-more, choice-first, choice-sooner, choice-kept}
 use Rattle.shop_nodes.proofs.conflicts.Placed.choose.Goals.{in-Some-chosen+else-best-next, in_default-chosen}

@@ -1,5 +1,4 @@
-use Rattle.shop_nodes.specs.inner.Choosing.{placing_of, IsChoice}
-use Rattle.shop_nodes.proofs.ChoosingLemmas.{open_below}
+use Rattle.shop_nodes.{specs.inner.Choosing.{placing_of, IsChoice}, proofs.ChoosingLemmas.open_below}
 use Rattle.shop_nodes.proofs.conflicts.Placed.choose.Given as goal
 
 abbrev pub invariant-loop-job : goal.invariant-loop-job

@@ -1,8 +1,6 @@
-use Rattle.std.proofs.Common.{arith}
-use Rattle.std.proofs.Common.{◌≡◌, ◌++◌, ◌∷◌, ◌∙◌, [], true, false, sym, ap, append-nil}
-use Rattle.shop_nodes.specs.Branching.{conflicts_with}
-use Rattle.shop_nodes.specs.inner.Choosing.{placing_of}
-use Rattle.shop_nodes.proofs.ChoosingLemmas.{open-skip, conflicts-is, conflict-step}
+use Rattle.std.proofs.Common.{arith, ◌≡◌, ◌++◌, ◌∷◌, ◌∙◌, [], true, false, sym, ap, append-nil}
+use Rattle.shop_nodes.{specs.{Branching.conflicts_with, inner.Choosing.placing_of}, proofs.ChoosingLemmas.open-skip}
+use Rattle.shop_nodes.proofs.ChoosingLemmas.{conflicts-is, conflict-step}
 use Rattle.shop_nodes.proofs.conflicts.Placed.conflicting.Goals as goal
 
 pub loop-job-preserved-in_default : goal.loop-job-preserved-in_default

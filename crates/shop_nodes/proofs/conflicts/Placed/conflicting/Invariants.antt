@@ -1,8 +1,5 @@
-use Rattle.std.proofs.Common.{◌≡◌}
-use Rattle.std.specs.List.{filter}
-use Rattle.shop_nodes.specs.Branching.{conflicts_with}
-use Rattle.shop_nodes.specs.inner.Choosing.{placing_of}
-use Rattle.shop_nodes.proofs.ChoosingLemmas.{open_below}
+use Rattle.std.{proofs.Common.◌≡◌, specs.List.filter}
+use Rattle.shop_nodes.{specs.{Branching.conflicts_with, inner.Choosing.placing_of}, proofs.ChoosingLemmas.open_below}
 use Rattle.shop_nodes.proofs.conflicts.Placed.conflicting.Given as goal
 
 abbrev pub invariant-loop-job : goal.invariant-loop-job

@@ -1,7 +1,6 @@
 use Rattle.std.proofs.Common.{◌≡◌}
 use Rattle.shop_runs.specs.Entries.{told}
-use Rattle.shop_round.specs.inner.Hits.{IsFirstHitBelow}
-use Rattle.shop_round.proofs.EntriesUpToHit.{AreEntriesUpTo}
+use Rattle.shop_round.{specs.inner.Hits.IsFirstHitBelow, proofs.EntriesUpToHit.AreEntriesUpTo}
 use Rattle.shop_round.proofs.alone.Alone.search_round.Given as goal
 
 abbrev pub invariant-loop-number : goal.invariant-loop-number

@@ -1,8 +1,6 @@
-use Rattle.std.proofs.{Common.{◌≡◌, ◌<◌, length, sym, subst}, lemmas.Result.IfOk-weaker}
-use Rattle.std.specs.Prelude.{IfOk}
+use Rattle.std.{proofs.{Common.{◌≡◌, ◌<◌, length, sym, subst}, lemmas.Result.IfOk-weaker}, specs.Prelude.IfOk}
 use Rattle.shop_nodes.specs.Sheets.{IsSheetOf}
-use Rattle.shop_runs.specs.Entries.{told, IsOf}
-use Rattle.shop_runs.proofs.EntryLemmas.{sheets_at, sheets_of_piece}
+use Rattle.shop_runs.{specs.Entries.{told, IsOf}, proofs.EntryLemmas.{sheets_at, sheets_of_piece}}
 use Rattle.shop_tree.specs.Searches.{Searches}
 use Rattle.shop_round.proofs.piece_searchers.PieceSearcherPieceSearch.search.Goals as goal
 

@@ -1,6 +1,5 @@
 use Rattle.std.proofs.Common.{rules, ◌∷◌, ◌∙◌, Some, None, refl, subst, sym}
-use Rattle.shop_runs.specs.inner.Stacks.{words_on, IsTopIfMore}
-use Rattle.shop_runs.proofs.StackLemmas.{next_is}
+use Rattle.shop_runs.{specs.inner.Stacks.{words_on, IsTopIfMore}, proofs.StackLemmas.next_is}
 use Rattle.shop_runs.proofs.bound_maps.BoundMap.pop.Goals as goal
 use Rattle.shop_runs.proofs.bound_maps.BoundMap.pop.Goals.{in-Some-pop_if_more+in_ok-insert-in-Some-pop_if_more}
 use Rattle.shop_runs.proofs.bound_maps.BoundMap.pop.Goals.{in-None}

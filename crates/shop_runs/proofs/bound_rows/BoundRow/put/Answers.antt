@@ -1,8 +1,6 @@
-use Rattle.std.proofs.Common.{rules, arith, ◌+◌, ◌≡◌, ◌∷◌, ◌∙◌, ap, sym}
+use Rattle.std.proofs.{Common.{rules, arith, ◌+◌, ◌≡◌, ◌∷◌, ◌∙◌, ap, sym}, lemmas.Result.on_ok_weaker}
 use Rattle.std.specs.Prelude.{slice_index_or}
-use Rattle.std.proofs.lemmas.Result.{on_ok_weaker}
-use Rattle.shop_nodes.specs.Branching.{insert_by}
-use Rattle.shop_nodes.specs.declared.nodes.Node.{Node}
+use Rattle.shop_nodes.specs.{Branching.insert_by, declared.nodes.Node.Node}
 use Rattle.shop_runs.specs.inner.Stacks.{words_at, nodes_in_row}
 use Rattle.shop_runs.proofs.BoundRowLemmas.{lower_empty, still_empty, put_at}
 use Rattle.shop_runs.proofs.bound_rows.BoundRow.put.Goals as goal

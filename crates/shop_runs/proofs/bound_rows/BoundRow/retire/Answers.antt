@@ -1,5 +1,4 @@
-use Rattle.std.proofs.Common.{take, drop, min, sym, ◌∙◌, ap, subst, arith}
-use Rattle.std.specs.Prelude.{IfSome}
+use Rattle.std.{proofs.Common.{take, drop, min, sym, ◌∙◌, ap, subst, arith}, specs.Prelude.IfSome}
 use Rattle.shop_runs.specs.declared.distant_nodes.DistantNodes.{DistantNodes}
 use Rattle.shop_runs.specs.inner.{BoundRows.IsBehind, Distant.AreAdded, Distant.IsRetired, Stacks.nodes_in_row}
 use Rattle.shop_runs.proofs.BoundRowLemmas.{cut_empty, retired_row}
@@ -31,3 +30,6 @@ invariant_of-self-in_err-set_aside c =
     let behind = subst (λ o. IfSome o (IsBehind c.self.inside.first c.args.most c.as_slice.result.now)) c.in-Some.is
     c.in_ok-place.ensures.place
     in grind (arith, cut_empty)
+
+pub set_aside-requires : goal.set_aside-requires
+set_aside-requires c = grind arith

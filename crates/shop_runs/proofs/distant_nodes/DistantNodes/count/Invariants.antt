@@ -1,5 +1,4 @@
-use Rattle.std.proofs.Common.{◌≡◌, length}
-use Rattle.std.specs.Prelude.{List}
+use Rattle.std.{proofs.Common.{◌≡◌, length}, specs.Prelude.List}
 use Rattle.shop_nodes.specs.{declared.nodes.Node.Node, inner.HeldNodes.nodes_below}
 use Rattle.shop_runs.specs.inner.Distant.{HaveCounts}
 use Rattle.shop_runs.proofs.distant_nodes.DistantNodes.count.Given as goal

@@ -1,7 +1,5 @@
-use Rattle.std.proofs.Common.{◌≡◌, ◌++◌, [], sym, ◌∙◌, ap, subst}
-use Rattle.std.proofs.lemmas.List.{flat_map_more}
-use Rattle.shop_runs.specs.inner.Outcomes.{open_of, left_open}
-use Rattle.shop_runs.proofs.PutLemmas.{IsLeftToPut, part_put}
+use Rattle.std.proofs.{Common.{◌≡◌, ◌++◌, [], sym, ◌∙◌, ap, subst}, lemmas.List.flat_map_more}
+use Rattle.shop_runs.{specs.inner.Outcomes.{open_of, left_open}, proofs.PutLemmas.{IsLeftToPut, part_put}}
 use Rattle.shop_runs.proofs.open_nodes.OpenNodes.put_left.Goals as goal
 
 pub loop-of_sheet-preserved : goal.loop-of_sheet-preserved

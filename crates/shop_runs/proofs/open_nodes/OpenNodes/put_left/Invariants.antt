@@ -1,5 +1,4 @@
-use Rattle.shop_runs.specs.inner.Outcomes.{left_open}
-use Rattle.shop_runs.proofs.PutLemmas.{IsLeftToPut}
+use Rattle.shop_runs.{specs.inner.Outcomes.left_open, proofs.PutLemmas.IsLeftToPut}
 use Rattle.shop_runs.proofs.open_nodes.OpenNodes.put_left.Given as goal
 
 abbrev pub invariant-loop-of_sheet : goal.invariant-loop-of_sheet

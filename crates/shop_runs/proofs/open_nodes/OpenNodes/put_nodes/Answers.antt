@@ -1,5 +1,4 @@
-use Rattle.std.proofs.Common.{arith, ◌≡◌, ◌+◌, ◌-◌, ◌∷◌, ◌++◌, [], take, sym, ◌∙◌, ap, subst}
-use Rattle.std.proofs.lemmas.List.{take_more}
+use Rattle.std.proofs.{Common.{arith, ◌≡◌, ◌+◌, ◌-◌, ◌∷◌, ◌++◌, [], take, sym, ◌∙◌, ap, subst}, lemmas.List.take_more}
 use Rattle.shop_runs.proofs.PutLemmas.{IsLeftToPut, part_put}
 use Rattle.shop_runs.proofs.open_nodes.OpenNodes.put_nodes.Goals as goal
 

@@ -1,9 +1,7 @@
-use Rattle.std.proofs.Common.{◌≡◌, ◌++◌, [], Some, sym, ◌∙◌, ap, subst}
-use Rattle.std.proofs.lemmas.Result.{on_ok_weaker}
+use Rattle.std.proofs.{Common.{◌≡◌, ◌++◌, [], Some, sym, ◌∙◌, ap, subst}, lemmas.Result.on_ok_weaker}
 use Rattle.shop_nodes.specs.inner.HeldNodes.{nodes_below, halted_nodes}
-use Rattle.shop_runs.specs.inner.Distant.{ArePutOrCounted}
-use Rattle.shop_runs.specs.inner.Outcomes.{open_of}
-use Rattle.shop_runs.proofs.PutLemmas.{all_left, part_put, all_put, own_put}
+use Rattle.shop_runs.{specs.inner.{Distant.ArePutOrCounted, Outcomes.open_of}, proofs.PutLemmas.{all_left, part_put}}
+use Rattle.shop_runs.proofs.PutLemmas.{all_put, own_put}
 use Rattle.shop_runs.proofs.open_nodes.OpenNodes.put_open.Goals as goal
 
 pub returns-in-Some : goal.returns-in-Some

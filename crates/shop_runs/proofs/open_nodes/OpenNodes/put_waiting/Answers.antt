@@ -1,11 +1,8 @@
-use Rattle.std.proofs.Common.{rules, ◌+◌, ◌<◌, drop, length, get_or, subst}
-use Rattle.std.proofs.lemmas.List.{at_drop_more}
+use Rattle.std.proofs.{Common.{rules, ◌+◌, ◌<◌, drop, length, get_or, subst}, lemmas.List.at_drop_more}
 use Rattle.std.specs.Arc.{arc_slice_items}
-use Rattle.shop_nodes.specs.declared.halts.Waiting.TheVariants.{Child}
-use Rattle.shop_nodes.specs.declared.halts.Waiting.{Waiting}
-use Rattle.shop_nodes.specs.inner.HeldNodes.{child_nodes, stack_nodes}
-use Rattle.shop_runs.specs.inner.Distant.{ArePutOrCounted}
-use Rattle.shop_runs.proofs.PutLemmas.{IsLeftToPut, part_put}
+use Rattle.shop_nodes.specs.{declared.halts.Waiting.{TheVariants.Child, Waiting}, inner.HeldNodes.child_nodes}
+use Rattle.shop_nodes.specs.inner.HeldNodes.{stack_nodes}
+use Rattle.shop_runs.{specs.inner.Distant.ArePutOrCounted, proofs.PutLemmas.{IsLeftToPut, part_put}}
 use Rattle.shop_runs.proofs.open_nodes.OpenNodes.put_waiting.Goals as goal
 
 pub loop-waiting-preserved : goal.loop-waiting-preserved

@@ -1,5 +1,4 @@
-use Rattle.std.proofs.Common.{drop}
-use Rattle.std.specs.Arc.{arc_slice_items}
+use Rattle.std.{proofs.Common.drop, specs.Arc.arc_slice_items}
 use Rattle.shop_nodes.specs.inner.HeldNodes.{stack_nodes}
 use Rattle.shop_runs.proofs.PutLemmas.{IsLeftToPut}
 use Rattle.shop_runs.proofs.open_nodes.OpenNodes.put_waiting.Given as goal

@@ -1,5 +1,4 @@
-use Rattle.std.proofs.Common.{◌∙◌, arith}
-use Rattle.std.proofs.lemmas.List.{take_all, drop_all}
+use Rattle.std.proofs.{Common.{◌∙◌, arith}, lemmas.List.{take_all, drop_all}}
 use Rattle.shop_runs.specs.inner.Stores.{open_list}
 use Rattle.shop_runs.proofs.open_nodes.OpenNodes.take_all.Goals as goal
 

@@ -1,7 +1,5 @@
-use Rattle.std.proofs.Common.{◌≡◌, ℕ, ◌<◌, false, get_or}
-use Rattle.std.specs.Str.{bytes_eq}
-use Rattle.shop_runs.specs.Orders.{order_word}
-use Rattle.shop_runs.specs.declared.plans.Order.TheVariants.{Kept}
+use Rattle.std.{proofs.Common.{◌≡◌, ℕ, ◌<◌, false, get_or}, specs.Str.bytes_eq}
+use Rattle.shop_runs.specs.{Orders.order_word, declared.plans.Order.TheVariants.Kept}
 use Rattle.shop_runs.proofs.plans.Order.of_word.Given as goal
 
 -- the orders before this one have other words

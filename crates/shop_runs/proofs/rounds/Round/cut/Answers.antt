@@ -1,10 +1,6 @@
 use Rattle.std.proofs.Common.{arith, sym, subst}
-use Rattle.shop_runs.specs.Laws.{IsRound, CoversInRound}
-use Rattle.shop_runs.specs.Plans.{planned}
-use Rattle.shop_runs.specs.Standings.{stands}
-use Rattle.shop_runs.proofs.Answering.{with_rest}
-use Rattle.shop_runs.proofs.Covering.{cut_covers, cut_is_round}
-use Rattle.shop_runs.proofs.FrontLemmas.{search_of}
+use Rattle.shop_runs.specs.{Laws.{IsRound, CoversInRound}, Plans.planned, Standings.stands}
+use Rattle.shop_runs.proofs.{Answering.with_rest, Covering.{cut_covers, cut_is_round}, FrontLemmas.search_of}
 use Rattle.shop_runs.proofs.rounds.Round.cut.Goals as goal
 
 pub cut-requires-clause-search : goal.cut-requires-clause-search

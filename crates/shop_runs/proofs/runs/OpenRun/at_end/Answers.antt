@@ -1,8 +1,6 @@
 use Rattle.std.proofs.Common.{rules, length, arith, refl, sym, eqb-true}
-use Rattle.shop_runs.specs.Plans.{planned}
-use Rattle.shop_runs.proofs.PieceLemmas.{some_open}
-use Rattle.shop_runs.specs.inner.Stores.{open_list}
-use Rattle.shop_runs.proofs.Ways.{way_first, way_search, way_next, way_closed, way_last}
+use Rattle.shop_runs.{specs.{Plans.planned, inner.Stores.open_list}, proofs.{PieceLemmas.some_open, Ways.way_first}}
+use Rattle.shop_runs.proofs.Ways.{way_search, way_next, way_closed, way_last}
 use Rattle.shop_runs.proofs.runs.OpenRun.at_end.Goals as goal
 
 pub loop-done-init : goal.loop-done-init
@@ -28,3 +26,6 @@ loop-done-preserved g c = record {
 
 pub returns : goal.returns
 returns g c = grind (arith, way_last)
+
+pub next-requires-clause-rounds : goal.next-requires-clause-rounds
+next-requires-clause-rounds g c = grind arith

@@ -1,6 +1,5 @@
 use Rattle.std.specs.Prelude.{◌≡◌, IfSome}
-use Rattle.shop_runs.specs.Plans.{planned}
-use Rattle.shop_runs.proofs.Ways.{OnTheWay}
+use Rattle.shop_runs.{specs.Plans.planned, proofs.Ways.OnTheWay}
 use Rattle.shop_runs.proofs.runs.OpenRun.at_end.Given as goal
 
 abbrev pub invariant-loop-done : goal.invariant-loop-done

@@ -1,12 +1,7 @@
-use Rattle.std.proofs.Common.{◌*◌, ◌<◌, [], refl, sym, subst, arith}
-use Rattle.std.proofs.lemmas.List.Elements.{All-drop}
+use Rattle.std.proofs.{Common.{◌*◌, ◌<◌, [], refl, sym, subst, arith}, lemmas.List.Elements.All-drop}
 use Rattle.shop_nodes.specs.Nodes.{IsNode, AreNodes}
-use Rattle.shop_runs.specs.Nodes.{ArePieces}
-use Rattle.shop_runs.specs.Plans.{planned}
-use Rattle.shop_runs.specs.inner.NodeLists.{AreBelow}
-use Rattle.shop_runs.specs.inner.Stores.{open_list}
-use Rattle.shop_runs.proofs.FrontCuts.{made_told, made_round, made_pieces, made_few, others_are}
-use Rattle.shop_runs.proofs.KeptBelow.{all_below}
+use Rattle.shop_runs.specs.{Nodes.ArePieces, Plans.planned, inner.{NodeLists.AreBelow, Stores.open_list}}
+use Rattle.shop_runs.proofs.{FrontCuts.{made_told, made_round, made_pieces, made_few, others_are}, KeptBelow.all_below}
 use Rattle.shop_runs.proofs.runs.OpenRun.cut.Goals as goal
 
 pub layout_for-requires-clause-pieces : goal.layout_for-requires-clause-pieces

@@ -1,9 +1,6 @@
 use Rattle.std.proofs.Common.{◌≡◌, ◌+◌, ◌-◌, ◌*◌, ◌<◌, take, refl, ◌∙◌, ap, subst, arith}
-use Rattle.shop_runs.specs.Plans.{planned}
-use Rattle.shop_runs.specs.inner.Distant.{IsRetired}
-use Rattle.shop_runs.specs.inner.{Searches.most_left, Stores.open_list}
-use Rattle.shop_runs.proofs.DistantRuns.{near_search}
-use Rattle.shop_runs.proofs.DistantRounds.{run_next}
+use Rattle.shop_runs.specs.{Plans.planned, inner.{Distant.IsRetired, Searches.most_left, Stores.open_list}}
+use Rattle.shop_runs.proofs.{DistantRuns.near_search, DistantRounds.run_next}
 use Rattle.shop_runs.proofs.runs.OpenRun.next.Goals as goal
 
 pub cut-requires-clause-search : goal.cut-requires-clause-search
@@ -55,3 +52,15 @@ returns-clause-next g c = λ s run standing.
       rounds = refl;
       nodes = refl;
     })
+
+pub invariant_of-self-2 : goal.invariant_of-self-2
+invariant_of-self-2 g c = grind arith
+
+pub keep_below-requires : goal.keep_below-requires
+keep_below-requires g c = grind arith
+
+pub returns-clause-layout : goal.returns-clause-layout
+returns-clause-layout g c = grind arith
+
+pub invariant_of-self : goal.invariant_of-self
+invariant_of-self g c = grind arith

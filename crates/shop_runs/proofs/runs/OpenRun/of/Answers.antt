@@ -1,13 +1,8 @@
 use Rattle.std.proofs.Common.{◌≡◌, ◌++◌, min, get_or, sym, ◌∙◌, ap, subst, arith, append-nil}
-use Rattle.shop_nodes.specs.Nodes.{words_of, AreNodes}
-use Rattle.shop_nodes.proofs.LeftLemmas.{can_be_shared}
-use Rattle.shop_runs.specs.Round.{words_below}
-use Rattle.shop_runs.specs.Standings.{stands}
-use Rattle.shop_nodes.specs.inner.HeldNodes.{nodes_below}
-use Rattle.shop_runs.specs.inner.{Distant.count_of, Stacks.put_all_before, Stores.{open_list, order_of}}
-use Rattle.shop_runs.proofs.DistantLemmas.{none_within}
-use Rattle.shop_runs.proofs.FrontLemmas.{IsInOrder, joined_at, none_in_order}
-use Rattle.shop_runs.proofs.KeptBelow.{all_below, none_closed}
+use Rattle.shop_nodes.{specs.{Nodes.{words_of, AreNodes}, inner.HeldNodes.nodes_below}, proofs.LeftLemmas.can_be_shared}
+use Rattle.shop_runs.specs.{Round.words_below, Standings.stands, inner.{Distant.count_of, Stacks.put_all_before}}
+use Rattle.shop_runs.{specs.inner.Stores.{open_list, order_of}, proofs.DistantLemmas.none_within}
+use Rattle.shop_runs.proofs.{FrontLemmas.{IsInOrder, joined_at, none_in_order}, KeptBelow.{all_below, none_closed}}
 use Rattle.shop_runs.proofs.runs.OpenRun.of.Goals as goal
 
 pub put_nodes-requires : goal.put_nodes-requires

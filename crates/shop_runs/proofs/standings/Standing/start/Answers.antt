@@ -1,11 +1,9 @@
 use Rattle.std.proofs.Common.{◌≡◌, Global, Vec, [], ◌∷◌, ◌++◌, refl, sym, ◌∙◌, ap, subst, arith}
 use Rattle.shop_model.specs.Word.{start_jobs}
 use Rattle.shop_bound.specs.Bound.{lb}
-use Rattle.shop_nodes.specs.declared.nodes.Node.{Node}
-use Rattle.shop_nodes.specs.Nodes.{words_of, AreNodes}
-use Rattle.shop_runs.specs.Round.{words_below}
-use Rattle.shop_runs.proofs.Opening.{start_full}
-use Rattle.shop_runs.proofs.StartLemmas.{open_root, closed_root, start_covers, root_node, no_nodes}
+use Rattle.shop_nodes.specs.{declared.nodes.Node.Node, Nodes.{words_of, AreNodes}}
+use Rattle.shop_runs.{specs.Round.words_below, proofs.{Opening.start_full, StartLemmas.{open_root, closed_root}}}
+use Rattle.shop_runs.proofs.StartLemmas.{start_covers, root_node, no_nodes}
 use Rattle.shop_runs.proofs.standings.Standing.start.Goals as goal
 use Rattle.shop_runs.proofs.standings.Standing.start.Goals.{then-root-makespan+in_ok-push, else-root-makespan}
 
@@ -51,3 +49,6 @@ returns-clause-standing c =
     ]
     in let covers = returns-clause-covers c
     in (record { stands_at = refl; makespan = c.in_ok-makespan.ensures.bound; bounds = nodes }, covers.0)
+
+pub returns-clause-at : goal.returns-clause-at
+returns-clause-at c = grind arith

@@ -1,5 +1,7 @@
-use Rattle.std.proofs.{Common.{◌≡◌, ℕ, ◌∙◌, ap, length, take, arith, subst}, lemmas.List.{length-take, length-take-le}}
+use Rattle.std.proofs.Common.{◌≡◌, ℕ, ◌∙◌, ap, length, take, arith, subst}
+use Rattle.std.proofs.lemmas.List.{length-take, length-take-le, take-take}
 use Rattle.shop_bound.proofs.WordLengths.{word_within}
+use Rattle.shop_model.proofs.PlacementLemmas.{IsWord-take}
 use Rattle.shop_states.proofs.LongerBeginnings.{gone_on}
 use Rattle.shop_states.proofs.beginnings.Beginning.go_on.Goals as goal
 
@@ -17,3 +19,10 @@ returns-clause-is g c =
     in gone_on c.args.laid_out.now.shop c.args.laid_out.now.layout c.args.self.now c.requires.is c.args.path.now
     c.write_front.new.row to (omega arith) (c.write_front.ensures.long ∙ ap length c.as_mut_slice.ensures.value) same
     c.place_from.new.next_legs c.place_from.new.ready c.place_from.new.free c.place_from.ensures
+
+pub place_from-requires-clause-before : goal.place_from-requires-clause-before
+place_from-requires-clause-before g c = grind (arith, take-take)
+
+pub place_from-requires-clause-word : goal.place_from-requires-clause-word
+place_from-requires-clause-word g c =
+    IsWord-take c.args.laid_out.now.shop c.args.path.now c.saturating_sub-to.result c.requires.word

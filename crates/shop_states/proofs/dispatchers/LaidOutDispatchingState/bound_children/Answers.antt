@@ -1,13 +1,12 @@
 use Rattle.std.proofs.Common.{◌≡◌, ◌∙◌, ℕ, ◌++◌, ◌∷◌, [], List, ap, get_or, length, max, refl, sym, subst, arith}
 use Rattle.std.proofs.lemmas.List.{get_or_default}
 use Rattle.shop_bound.specs.Bound.{lb}
-use Rattle.shop_layout.specs.{Lanes.rows_of, Positions.LayoutState}
-use Rattle.shop_layout.proofs.Written.{written_vec}
+use Rattle.shop_layout.{specs.{Lanes.rows_of, Positions.LayoutState}, proofs.Written.written_vec}
 use Rattle.shop_states.specs.{declared.dispatching.Candidate.Candidate, inner.Advances.IsAdvancing}
 use Rattle.shop_states.specs.inner.Ceilings.{AreChildCeilings}
 use Rattle.shop_states.proofs.{AskedStates.{bound_behind, bound_there, listed_here}, OwnSpans.candidate_advancing}
 use Rattle.shop_states.proofs.{ListedCandidates.{are_siblings, listed_at}, ReadStates.{candidate_read, kept_copied}}
-use Rattle.shop_states.proofs.KeptRoom.{room_kept, scratch_kept}
+use Rattle.shop_states.proofs.KeptRoom.{long_kept, room_kept, scratch_kept}
 use Rattle.shop_states.proofs.dispatchers.LaidOutDispatchingState.bound_children.Goals as goal
 
 pub bound_children-requires-clause-can : goal.bound_children-requires-clause-can
@@ -61,22 +60,13 @@ returns-clause-known g c = λ w limit others of bound_is lists k d here.
     (subst (λ (j : ℕ). AreChildCeilings shop w c.grid-grid.result.now j c.bound_children.new.ceilings) same known))
 
 pub returns-clause-room : goal.returns-clause-room
-returns-clause-room g c = room_kept c.requires.can.is_word (g.L.StateLanes.heads c.bound_children.new.lanes)
-    (g.L.StateLanes.ends c.bound_children.new.lanes) c.args.room.now.next.items
-    (c.bound_children.ensures.positions ∙ ap length c.copy_from.ensures.heads)
-    (ap length (c.bound_children.ensures.ends ∙ c.copy_from.ensures.ends))
-    (c.requires.room.jobs_with_nexts ∙ sym c.requires.can.is_word.kept.are_next.jobs)
+returns-clause-room g c = grind (arith, room_kept)
 
 pub returns-then-candidates-lt-MANY-clause-room : goal.returns-then-candidates-lt-MANY-clause-room
 returns-then-candidates-lt-MANY-clause-room g c = c.requires.room
 
 pub returns-clause-scratch : goal.returns-clause-scratch
-returns-clause-scratch g c =
-    let read = c.as_mut_slice-ceilings.ensures.value in let long = c.bound_children.ensures.long
-    in let whole = written_vec c.args.scratch.now.ceilings c.as_mut_slice-ceilings.result.now
-    c.bound_children.new.ceilings read long
-    in scratch_kept c.requires.scratch c.bound_children.ensures.machines c.bound_children.ensures.rest
-    (ap length whole ∙ (long ∙ ap length read))
+returns-clause-scratch g c = grind (arith, scratch_kept, long_kept)
 
 pub bound_children-requires-clause-at_rest : goal.bound_children-requires-clause-at_rest
 bound_children-requires-clause-at_rest g c = c.requires.scratch.at_rest

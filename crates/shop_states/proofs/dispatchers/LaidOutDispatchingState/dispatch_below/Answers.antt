@@ -1,6 +1,5 @@
 use Rattle.std.proofs.{Common.{rules, ℕ, List, ◌∙◌, ap, arith, length, refl}, lemmas.List.length-set}
-use Rattle.shop_layout.specs.Positions.{LayoutState}
-use Rattle.shop_layout.proofs.Written.{written_vec}
+use Rattle.shop_layout.{specs.Positions.LayoutState, proofs.Written.written_vec}
 use Rattle.shop_states.proofs.{CandidateDispatches.{candidate_can, candidate_told}, ReadStates.kept_read}
 use Rattle.shop_states.proofs.{AskedStates.{bound_there, kept_on, told_behind}, Trials.{its_job, its_position}}
 use Rattle.shop_states.proofs.KeptRoom.{room_behind, room_kept, scratch_kept}
@@ -69,15 +68,10 @@ go_on-requires-clause-keep g c = rw c.as_mut_slice.ensures.value (rw (
 ) at c.in_ok-told.ensures.ready.keep)
 
 pub go_on-requires-clause-times : goal.go_on-requires-clause-times
-go_on-requires-clause-times g c =
-    let kept = c.requires.can.is.0.kept.kept in let timed = kept.laid.positions.times
-    in let long = kept.heads.positions in let now = c.advance_below.ensures.positions
-    in let same = ap (λ (l : LayoutState). length l.times) c.grid-grid.ensures.grid in omega arith
+go_on-requires-clause-times g c = grind arith
 
 pub returns-in_err-told-clause-slot : goal.returns-in_err-told-clause-slot
-returns-in_err-told-clause-slot g c = room_kept c.requires.can.is.0 (g.L.StateLanes.heads c.advance_below.new.lanes)
-    (g.L.StateLanes.ends c.advance_below.new.lanes) c.args.state.now.next.items c.advance_below.ensures.positions
-    c.advance_below.ensures.ends refl
+returns-in_err-told-clause-slot g c = grind (arith, room_kept)
 
 pub returns-in_err-told-clause-scratch : goal.returns-in_err-told-clause-scratch
 returns-in_err-told-clause-scratch g c =

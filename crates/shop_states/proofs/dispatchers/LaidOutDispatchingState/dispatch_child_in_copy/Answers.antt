@@ -1,7 +1,7 @@
 use Rattle.std.proofs.Common.{arith, ℕ, List, refl, subst, sym}
 use Rattle.shop_states.specs.inner.Ceilings.{AreChildCeilings}
 use Rattle.shop_states.proofs.CandidateDispatches.{candidate_can, candidate_kept, candidate_told}
-use Rattle.shop_states.proofs.AskedStates.{bound_there, kept_on_some, told_behind}
+use Rattle.shop_states.proofs.{AskedStates.{bound_there, kept_on_some, told_behind}, KeptRoom.scratch_kept}
 use Rattle.shop_states.proofs.dispatchers.LaidOutDispatchingState.dispatch_child_in_copy.Goals as goal
 
 pub dispatch_in_copy-requires-clause-can : goal.dispatch_in_copy-requires-clause-can
@@ -23,3 +23,7 @@ pub returns-clause-state : goal.returns-clause-state
 returns-clause-state g c = λ w of candidate. kept_on_some of _ _ _ c.dispatch_in_copy.result
     (candidate_kept c.grid-grid.ensures.grid refl of.kept candidate.fits c.dispatch_in_copy.result _ _ _
     c.dispatch_in_copy.ensures.state)
+
+pub returns-clause-scratch : goal.returns-clause-scratch
+returns-clause-scratch g c =
+    scratch_kept c.requires.scratch c.dispatch_in_copy.ensures.machines c.dispatch_in_copy.ensures.rest refl

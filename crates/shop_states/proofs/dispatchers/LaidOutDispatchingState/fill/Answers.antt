@@ -1,7 +1,7 @@
 use Rattle.std.proofs.Common.{arith, ◌∙◌, ap, length, refl, sym}
 use Rattle.shop_layout.proofs.Written.{written_vec}
 use Rattle.shop_bound.proofs.Renumbered.{numbers_alike}
-use Rattle.shop_states.proofs.{AskedStates.kept_for, ReadStates.kept_read}
+use Rattle.shop_states.proofs.{AskedStates.kept_for, KeptRoom.long_kept, ReadStates.kept_read}
 use Rattle.shop_states.proofs.dispatchers.LaidOutDispatchingState.fill.Goals as goal
 
 pub place_word-requires-clause-word : goal.place_word-requires-clause-word
@@ -17,3 +17,9 @@ returns-clause-state g c =
     c.as_mut_slice-next.ensures.value (kept.are_next.jobs
     ∙ (sym c.requires.slot.jobs_with_nexts ∙ sym (ap length c.as_mut_slice-next.ensures.value)))
     in kept_for alike (kept_read refl nexts kept) c.grid.ensures.limits
+
+pub returns-clause-scratch : goal.returns-clause-scratch
+returns-clause-scratch g c = grind (arith, long_kept)
+
+pub fill_state-requires-clause-of : goal.fill_state-requires-clause-of
+fill_state-requires-clause-of g c = grind (arith, numbers_alike)

@@ -1,6 +1,5 @@
 use Rattle.std.proofs.Common.{subst}
-use Rattle.shop_states.specs.inner.RisingLists.{Rises}
-use Rattle.shop_states.proofs.JobSets.{members_rise}
+use Rattle.shop_states.{specs.inner.RisingLists.Rises, proofs.JobSets.members_rise}
 use Rattle.shop_states.proofs.job_sets.JobSet.rises.Goals as goal
 
 pub returns : goal.returns

@@ -2,9 +2,8 @@ use Rattle.std.proofs.Common.{◌+◌, ◌<◌, ◌∙◌, ap, inl, inr, List, a
 use Rattle.std.proofs.lemmas.List.{length-map, length-set}
 use Rattle.shop_layout.specs.Lanes.{lanes_on}
 use Rattle.shop_states.specs.inner.HeadRaises.{Raise, nothing_raised, raise_in, raise_of, raises_in}
-use Rattle.shop_states.specs.inner.LaidLanes.{laid_rows}
-use Rattle.shop_states.proofs.{LookedUpRows.its_small, FittingSpans.spans_within}
-use Rattle.shop_states.proofs.LookedUpRows.{can_bound, cut_ordered, cut_span, cut_within, its_blocks, its_known}
+use Rattle.shop_states.{specs.inner.LaidLanes.laid_rows, proofs.LookedUpRows.{its_small, can_bound, cut_ordered}}
+use Rattle.shop_states.proofs.{LookedUpRows.{cut_span, cut_within, its_blocks, its_known}, FittingSpans.spans_within}
 use Rattle.shop_states.proofs.RaisedMachines.{IsFoundSo, first_known, found_all, found_begins, found_more}
 use Rattle.shop_states.proofs.WrittenRaises.{bounds_written, few_written, long_given}
 use Rattle.shop_states.proofs.machine_raises.MachineRaises.take_ceilings.Goals as goal

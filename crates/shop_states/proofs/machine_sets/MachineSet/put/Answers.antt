@@ -1,6 +1,5 @@
 use Rattle.std.proofs.{Common.{ℕ, ◌*◌, ◌-◌, ◌^◌, ◌%◌, ◌<◌, List, bit_or, subst, arith}, lemmas.Nat.one_shl}
-use Rattle.shop_states.specs.inner.JobSets.{HasPut}
-use Rattle.shop_states.proofs.MachineSets.{machines_of, put_high, put_low, put_small}
+use Rattle.shop_states.{specs.inner.JobSets.HasPut, proofs.MachineSets.{machines_of, put_high, put_low, put_small}}
 use Rattle.shop_states.proofs.machine_sets.MachineSet.put.Goals.{then-are_few-via-then-are_few}
 use Rattle.shop_states.proofs.machine_sets.MachineSet.put.Goals.{then-are_few-via-else-are_few+then-machine-lt64}
 use Rattle.shop_states.proofs.machine_sets.MachineSet.put.Goals as goal

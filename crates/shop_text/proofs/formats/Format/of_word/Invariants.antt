@@ -1,5 +1,4 @@
-use Rattle.std.proofs.Common.{◌≡◌, ℕ, ◌<◌, false, get_or}
-use Rattle.std.specs.Str.{bytes_eq}
+use Rattle.std.{proofs.Common.{◌≡◌, ℕ, ◌<◌, false, get_or}, specs.Str.bytes_eq}
 use Rattle.shop_text.specs.{Formats.word_of, declared.formats.Format.TheVariants.Orlib}
 use Rattle.shop_text.proofs.formats.Format.of_word.Given as goal
 

@@ -1,6 +1,5 @@
 use Rattle.std.proofs.{Common.{◌≡◌, ℕ, ◌≤◌, [], length, map, get_or, ap, ◌∙◌, arith, vec_len}, lemmas.Bool.ltb-false}
-use Rattle.shop_text.specs.inner.Drafts.{items_of}
-use Rattle.shop_text.proofs.DraftLemmas.{orlib_next, routes_next, taillard_next, held_at}
+use Rattle.shop_text.{specs.inner.Drafts.items_of, proofs.DraftLemmas.{orlib_next, routes_next, taillard_next, held_at}}
 use Rattle.shop_text.proofs.instance_drafts.Draft.job.Goals as goal
 
 pub returns-in-Orlib-clause-judged : goal.returns-in-Orlib-clause-judged

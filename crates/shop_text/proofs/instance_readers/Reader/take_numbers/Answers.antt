@@ -1,6 +1,5 @@
 use Rattle.std.proofs.Common.{◌≡◌, ◌+◌, String, Global, length, refl, string_bytes, arith}
-use Rattle.std.proofs.lemmas.Result.{err_from_is_err_and}
-use Rattle.std.specs.Fmt.{decimal}
+use Rattle.std.{proofs.lemmas.Result.err_from_is_err_and, specs.Fmt.decimal}
 use Rattle.shop_text.specs.{inner.InstanceReading.name_or, declared.instance_readers.Reader.Reader}
 use Rattle.shop_text.proofs.ReaderTurns.{row_read, part_read, row_refused}
 use Rattle.shop_text.proofs.instance_readers.Reader.take_numbers.Goals as goal

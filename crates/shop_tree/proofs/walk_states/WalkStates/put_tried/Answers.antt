@@ -1,7 +1,5 @@
-use Rattle.std.proofs.Common.{◌≡◌, inl, [], Option, None, refl, subst}
-use Rattle.std.specs.Global.{Box}
-use Rattle.shop_tree.specs.inner.{Held.IsHeldOf, Tried.{HasPutTried, HasStripped}}
-use Rattle.shop_tree.proofs.ListLemmas.{on_ok}
+use Rattle.std.{proofs.Common.{◌≡◌, inl, [], Option, None, refl, subst}, specs.Global.Box}
+use Rattle.shop_tree.{specs.inner.{Held.IsHeldOf, Tried.{HasPutTried, HasStripped}}, proofs.ListLemmas.on_ok}
 use Rattle.shop_tree.proofs.walk_states.WalkStates.put_tried.Goals.{then-free-eq0+in_ok-give_back, else-free-eq0}
 use Rattle.shop_tree.proofs.walk_states.WalkStates.put_tried.Goals as goal
 

@@ -1,14 +1,13 @@
-use Rattle.std.proofs.Common.{◌≡◌, ◌+◌, ◌<◌, ◌≤◌, ◌-◌, [], ◌∷◌, ◌++◌, None, get_or, sym, ◌∙◌, subst, append-nil, arith}
-use Rattle.std.proofs.Common.{length, refl}
-use Rattle.std.specs.List.{insert}
+use Rattle.std.proofs.Common.{◌≡◌, ◌<◌, ◌≤◌, ◌-◌, [], ◌∷◌, ◌++◌, None, get_or, sym, ◌∙◌, subst, append-nil, arith}
+use Rattle.std.{proofs.Common.{length, refl}, specs.List.insert}
 use Rattle.shop_model.proofs.WordLengths.{word_length}
 use Rattle.shop_bound.specs.Bound.{lb}
 use Rattle.shop_states.specs.declared.dispatching.Candidate.{Candidate}
-use Rattle.shop_tree.specs.inner.Tried.{AreSlotsFrom, HasPutChildren}
-use Rattle.shop_tree.proofs.{AddLemmas.conflict_few, StripLemmas.{are_slots, many, tried_kept}}
-use Rattle.shop_tree.proofs.SiblingLemmas.{bounded_stays, branching_stays, put_given, settled_bound, settled_child}
-use Rattle.shop_tree.proofs.TrialLemmas.{IsTrying, trying_begins, next_own, next_fits, turn_counted, turn_kept}
-use Rattle.shop_tree.proofs.TrialLemmas.{told_high, all_tried}
+use Rattle.shop_tree.{specs.inner.Tried.{AreSlotsFrom, HasPutChildren}, proofs.AddLemmas.conflict_few}
+use Rattle.shop_tree.proofs.{StripLemmas.{are_slots, many, tried_kept}, SiblingLemmas.{bounded_stays, branching_stays}}
+use Rattle.shop_tree.proofs.{SiblingLemmas.{kept_then, put_given, settled_bound, settled_child}, TrialLemmas.IsTrying}
+use Rattle.shop_tree.proofs.TrialLemmas.{trying_begins, next_own, next_fits, turn_counted, turn_kept, told_high}
+use Rattle.shop_tree.proofs.TrialLemmas.{all_tried}
 use Rattle.shop_tree.proofs.walk_states.WalkStates.settle_candidates.Goals as goal
 
 pub overflow_cast-depth : goal.overflow_cast-depth
@@ -28,31 +27,23 @@ loop-index-init g c = record {
 
 pub overflow_add-others : goal.overflow_add-others
 overflow_add-others g c =
-    let d = c.loop-index.self.dispatcher.now
-    in let now = c.loop-index.invariant
-    in let a = now.trying.few
+    let d = c.loop-index.self.dispatcher.now in let now = c.loop-index.invariant in let a = now.trying.few
     in let limits = g.met.D.Dispatching.state_is_within_limits d c.args.branching.now.word.now _ now.branching.state
     in let b = conflict_few (g.D.Dispatching.shop d) c.args.branching.now.word.now in let e = limits.jobs
     in let some = c.loop-index-test.true in omega arith
 
 pub overflow_add-others-in_default : goal.overflow_add-others-in_default
 overflow_add-others-in_default g c =
-    let d = c.loop-index.self.dispatcher.now
-    in let now = c.loop-index.invariant
-    in let a = now.trying.few
+    let d = c.loop-index.self.dispatcher.now in let now = c.loop-index.invariant in let a = now.trying.few
     in let limits = g.met.D.Dispatching.state_is_within_limits d c.args.branching.now.word.now _ now.branching.state
     in let b = conflict_few (g.D.Dispatching.shop d) c.args.branching.now.word.now in let e = limits.jobs
     in let some = c.loop-index-test.true in omega arith
 
 pub loop-index-preserved-in_ok-put : goal.loop-index-preserved-in_ok-put
 loop-index-preserved-in_ok-put g c =
-    let now = c.loop-index.invariant
-    in let d = c.loop-index.self.dispatcher.now
-    in let is = g.D.Dispatching.IsStateOf d
-    in let shop = g.D.Dispatching.shop d
-    in let at = c.args.branching.now
-    in let word = at.word.now
-    in let cs = at.candidates.now
+    let now = c.loop-index.invariant in let d = c.loop-index.self.dispatcher.now
+    in let is = g.D.Dispatching.IsStateOf d in let shop = g.D.Dispatching.shop d
+    in let at = c.args.branching.now in let word = at.word.now in let cs = at.candidates.now
     in let i = c.loop-index.index
     in let some : 0 < i = (let a = c.loop-index-test.true in omega arith)
     in let none : Candidate = record { job = 0; own = 0 }
@@ -80,13 +71,9 @@ loop-index-preserved-in_ok-put g c =
 
 pub loop-index-preserved-else-settled-limit : goal.loop-index-preserved-else-settled-limit
 loop-index-preserved-else-settled-limit g c =
-    let now = c.loop-index.invariant
-    in let d = c.loop-index.self.dispatcher.now
-    in let shop = g.D.Dispatching.shop d
-    in let at = c.args.branching.now
-    in let word = at.word.now
-    in let cs = at.candidates.now
-    in let i = c.loop-index.index
+    let now = c.loop-index.invariant in let d = c.loop-index.self.dispatcher.now
+    in let shop = g.D.Dispatching.shop d in let at = c.args.branching.now in let word = at.word.now
+    in let cs = at.candidates.now in let i = c.loop-index.index
     in let some : 0 < i = (let a = c.loop-index-test.true in omega arith)
     in let none : Candidate = record { job = 0; own = 0 }
     in let job = (get_or cs (i - 1) none).job
@@ -108,9 +95,7 @@ loop-index-preserved-else-settled-limit g c =
 
 pub try_child-requires-clause-can : goal.try_child-requires-clause-can
 try_child-requires-clause-can g c =
-    let now = c.loop-index.invariant
-    in let word = c.args.branching.now.word.now
-    in let i = c.loop-index.index
+    let now = c.loop-index.invariant in let word = c.args.branching.now.word.now in let i = c.loop-index.index
     in let some : 0 < i = (let a = c.loop-index-test.true in omega arith)
     in let none : Candidate = record { job = 0; own = 0 }
     in let within : i - 1 < length c.args.branching.now.candidates.now = (let a = now.trying.within in omega arith)
@@ -124,26 +109,20 @@ try_child-requires-clause-can g c =
 
 pub loop-index-preserved-in_default : goal.loop-index-preserved-in_default
 loop-index-preserved-in_default g c =
-    let now = c.loop-index.invariant
-    in let d = c.loop-index.self.dispatcher.now
-    in let at = c.args.branching.now
-    in let word = at.word.now
-    in let cs = at.candidates.now
+    let now = c.loop-index.invariant in let d = c.loop-index.self.dispatcher.now
+    in let at = c.args.branching.now in let word = at.word.now in let cs = at.candidates.now
     in let i = c.loop-index.index
     in let some : 0 < i = (let a = c.loop-index-test.true in omega arith)
     in let job = (get_or cs (i - 1) (record { job = 0; own = 0 })).job
     in let high = told_high at.limit (lb (g.D.Dispatching.shop d) (word ++ job ∷ [])) c.try_child.result
     c.in_default.is (c.try_child.ensures.taken.told word now.branching.state (next_own some now.trying)
     now.branching.bound)
-    in let left = c.try_child.new.self.current.value
-    in let same = c.try_child.ensures.sound.dispatcher
+    in let left = c.try_child.new.self.current.value in let same = c.try_child.ensures.sound.dispatcher
     in let state = subst (λ s. g.D.Dispatching.IsStateOf d word s) (sym c.try_child.ensures.current) now.branching.state
     in record {
       kids = now.kids;
       stack = now.stack;
-      trying = subst (λ x. IsTrying (g.D.Dispatching.IsStateOf x) (g.D.Dispatching.IsCandidate x word)
-          (g.D.Dispatching.shop x) at.limit word cs (i - 1) now.kids (c.loop-index.others + 1) left) (sym same)
-          (turn_counted some now.trying left high (λ more. state));
+      trying = rw same (turn_counted some now.trying left high (λ more. state));
       branching = branching_stays same c.try_child.ensures.current now.branching;
       bounded = bounded_stays same c.try_child.ensures.kept now.bounded;
       more = (let a = now.more in omega arith);
@@ -151,32 +130,28 @@ loop-index-preserved-in_default g c =
       same = same ∙ now.same;
     }
 
-pub put_tried-requires : goal.put_tried-requires
-put_tried-requires g c =
-    let now = c.loop-index.invariant
-    in let d = c.loop-index.self.dispatcher.now
-    in let old = c.args.stack.now.items
-    in let stack = c.loop-index.stack.items
-    in let e : c.len-from.result ≡ length old = (let a = c.len-from.ensures in let b = c.args.stack.now.ok.0
-    in omega arith)
-    in let long = many old now.kids c.len-from.result e stack now.stack
-    in record {
-      sound = c.try_child.ensures.sound.states;
-      slots = subst (λ x. AreSlotsFrom (g.D.Dispatching.IsSlot x) c.len-from.result stack)
-          (sym c.try_child.ensures.sound.dispatcher)
-          (are_slots old now.kids c.len-from.result e stack now.stack (g.D.Dispatching.IsStateOf d)
-          c.args.branching.now.word.now now.trying.states (g.D.Dispatching.IsSlot d)
-          (λ w s. g.met.D.Dispatching.state_is_slot d w s));
-      from = omega arith;
-    }
+pub put_tried-requires-clause-sound : goal.put_tried-requires-clause-sound
+put_tried-requires-clause-sound g c = c.try_child.ensures.sound.states
+
+pub put_tried-requires-clause-slots : goal.put_tried-requires-clause-slots
+put_tried-requires-clause-slots g c =
+    let now = c.loop-index.invariant in let d = c.loop-index.self.dispatcher.now in let slot = g.D.Dispatching.IsSlot
+    in let a = c.len-from.ensures in let b = c.args.stack.now.ok.0
+    in subst (λ x. AreSlotsFrom (slot x) c.len-from.result c.loop-index.stack.items)
+    (sym c.try_child.ensures.sound.dispatcher)
+    (are_slots c.args.stack.now.items now.kids c.len-from.result (omega arith) c.loop-index.stack.items now.stack
+    (g.D.Dispatching.IsStateOf d) _ now.trying.states (slot d) (g.met.D.Dispatching.state_is_slot d))
+
+pub put_tried-requires-clause-from : goal.put_tried-requires-clause-from
+put_tried-requires-clause-from g c =
+    let now = c.loop-index.invariant in let a = c.len-from.ensures in let b = c.args.stack.now.ok.0
+    in let long = many c.args.stack.now.items now.kids c.len-from.result (omega arith)
+    c.loop-index.stack.items now.stack in omega arith
 
 pub loop-index-preserved : goal.loop-index-preserved
 loop-index-preserved g c =
-    let now = c.loop-index.invariant
-    in let d = c.loop-index.self.dispatcher.now
-    in let at = c.args.branching.now
-    in let word = at.word.now
-    in let cs = at.candidates.now
+    let now = c.loop-index.invariant in let d = c.loop-index.self.dispatcher.now
+    in let at = c.args.branching.now in let word = at.word.now in let cs = at.candidates.now
     in let i = c.loop-index.index
     in let some : 0 < i = (let a = c.loop-index-test.true in omega arith)
     in let e : c.len-from.result ≡ length c.args.stack.now.items =
@@ -205,13 +180,9 @@ loop-index-preserved g c =
 
 pub returns-clause-children : goal.returns-clause-children
 returns-clause-children g c =
-    let at = c.args.branching.now
-    in let word = at.word.now
-    in let old = c.args.stack.now.items
-    in let mid = c.loop-index.stack.items
-    in let new = c.give_current.new.stack.items
-    in let now = c.loop-index.invariant
-    in let d = c.loop-index.self.dispatcher.now
+    let at = c.args.branching.now in let word = at.word.now in let old = c.args.stack.now.items
+    in let mid = c.loop-index.stack.items in let new = c.give_current.new.stack.items
+    in let now = c.loop-index.invariant in let d = c.loop-index.self.dispatcher.now
     in let is = g.D.Dispatching.IsStateOf d
     in let e : c.len-from.result ≡ length old =
     (let a = c.len-from.ensures in let b = c.args.stack.now.ok.0 in omega arith)
@@ -223,3 +194,22 @@ returns-clause-children g c =
           c.loop-index.others c.len-from.result e put c.in_ok-give_current.ensures.given);
       more = now.more;
     }
+
+pub put-requires : goal.put-requires
+put-requires g c = let now = c.loop-index.invariant in let a = c.len-from.ensures in let b = c.args.stack.now.ok.0
+    in let long = many c.args.stack.now.items now.kids c.len-from.result (omega arith)
+    c.loop-index.stack.items now.stack in omega arith
+
+pub returns-in_err-put_tried-clause-sound : goal.returns-in_err-put_tried-clause-sound
+returns-in_err-put_tried-clause-sound g c = kept_then c.put_tried.ensures.sound
+    (c.try_child.ensures.sound.dispatcher ∙ c.loop-index.invariant.same)
+
+pub returns-in_err-give_current-clause-sound : goal.returns-in_err-give_current-clause-sound
+returns-in_err-give_current-clause-sound g c = kept_then c.give_current.ensures.sound c.loop-index.invariant.same
+
+pub returns-clause-sound : goal.returns-clause-sound
+returns-clause-sound g c = kept_then c.give_current.ensures.sound c.loop-index.invariant.same
+
+pub returns-in_err-put-clause-sound : goal.returns-in_err-put-clause-sound
+returns-in_err-put-clause-sound g c =
+    record { states = c.loop-index.invariant.sound; dispatcher = c.loop-index.invariant.same }

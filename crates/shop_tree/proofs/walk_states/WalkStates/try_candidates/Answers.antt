@@ -1,10 +1,10 @@
-use Rattle.std.proofs.Common.{◌≡◌, ◌+◌, ◌<◌, ◌-◌, [], ◌∷◌, ◌++◌, get_or, sym, ◌∙◌, ap, subst, append-nil, arith, length}
+use Rattle.std.proofs.Common.{◌≡◌, ◌<◌, ◌-◌, [], ◌∷◌, ◌++◌, get_or, sym, ◌∙◌, ap, subst, append-nil, arith, length}
 use Rattle.shop_model.proofs.WordLengths.{word_length}
 use Rattle.shop_bound.specs.Bound.{lb}
-use Rattle.shop_tree.specs.inner.Tried.{AreSlotsFrom, HasPutChildren}
-use Rattle.shop_tree.proofs.{StripLemmas.{are_slots, many, tried_kept}, AddLemmas.conflict_few}
-use Rattle.shop_tree.proofs.TrialLemmas.{IsTrying, trying_begins, next_own, next_fits, turn_counted, told_high}
-use Rattle.shop_tree.proofs.TrialLemmas.{still_wanted, all_tried}
+use Rattle.shop_tree.{specs.inner.Tried.{AreSlotsFrom, HasPutChildren}, proofs.StripLemmas.{are_slots, many}}
+use Rattle.shop_tree.proofs.{StripLemmas.tried_kept, AddLemmas.conflict_few, SiblingLemmas.kept_then}
+use Rattle.shop_tree.proofs.TrialLemmas.{IsTrying, next_own, next_fits, turn_counted, told_high, still_wanted}
+use Rattle.shop_tree.proofs.TrialLemmas.{all_tried, trying_begins}
 use Rattle.shop_tree.proofs.walk_states.WalkStates.try_candidates.Goals as goal
 
 pub overflow_cast-depth : goal.overflow_cast-depth
@@ -28,9 +28,7 @@ loop-index-init g c =
 
 pub overflow_add-others : goal.overflow_add-others
 overflow_add-others g c =
-    let d = c.loop-index.self.dispatcher.now
-    in let now = c.loop-index.invariant
-    in let a = now.trying.few
+    let d = c.loop-index.self.dispatcher.now in let now = c.loop-index.invariant in let a = now.trying.few
     in let some : 0 < c.loop-index.index = (let a = c.loop-index-test.true in omega arith)
     in let word = c.args.branching.now.word.now
     in let limits = g.met.D.Dispatching.state_is_within_limits d word _ (now.trying.wanted some)
@@ -38,8 +36,7 @@ overflow_add-others g c =
 
 pub try_candidate-requires-clause-can : goal.try_candidate-requires-clause-can
 try_candidate-requires-clause-can g c =
-    let now = c.loop-index.invariant
-    in let word = c.args.branching.now.word.now
+    let now = c.loop-index.invariant in let word = c.args.branching.now.word.now
     in let some : 0 < c.loop-index.index = (let a = c.loop-index-test.true in omega arith)
     in let state = now.trying.wanted some
     in record {
@@ -52,25 +49,19 @@ try_candidate-requires-clause-can g c =
 
 pub loop-index-preserved-in_default-try_candidate : goal.loop-index-preserved-in_default-try_candidate
 loop-index-preserved-in_default-try_candidate g c =
-    let now = c.loop-index.invariant
-    in let d = c.loop-index.self.dispatcher.now
-    in let at = c.args.branching.now
-    in let word = at.word.now
-    in let cs = at.candidates.now
+    let now = c.loop-index.invariant in let d = c.loop-index.self.dispatcher.now
+    in let at = c.args.branching.now in let word = at.word.now in let cs = at.candidates.now
     in let i = c.loop-index.index
     in let some : 0 < i = (let a = c.loop-index-test.true in omega arith)
     in let job = (get_or cs (i - 1) (record { job = 0; own = 0 })).job
     in let state = now.trying.wanted some
     in let high = told_high at.limit (lb (g.D.Dispatching.shop d) (word ++ job ∷ [])) c.try_candidate.result
     c.in_default-try_candidate.is (c.try_candidate.ensures.taken.told word state (next_own some now.trying) now.bound)
-    in let left = c.try_candidate.new.self.current.value
-    in let same = c.try_candidate.ensures.sound.dispatcher
+    in let left = c.try_candidate.new.self.current.value in let same = c.try_candidate.ensures.sound.dispatcher
     in record {
       kids = now.kids;
       stack = now.stack;
-      trying = subst (λ x. IsTrying (g.D.Dispatching.IsStateOf x) (g.D.Dispatching.IsCandidate x word)
-          (g.D.Dispatching.shop x) at.limit word cs (i - 1) now.kids (c.loop-index.others + 1) left) (sym same)
-          (turn_counted some now.trying left high
+      trying = rw same (turn_counted some now.trying left high
           (still_wanted (g.D.Dispatching.IsStateOf d word) i c.try_candidate.ensures.current state));
       bound = now.bound ∙ ap (λ x. lb (g.D.Dispatching.shop x) word) (sym same);
       more = (let a = now.more in omega arith);
@@ -78,32 +69,28 @@ loop-index-preserved-in_default-try_candidate g c =
       same = same ∙ now.same;
     }
 
-pub put_tried-requires : goal.put_tried-requires
-put_tried-requires g c =
-    let now = c.loop-index.invariant
-    in let d = c.loop-index.self.dispatcher.now
-    in let old = c.args.stack.now.items
-    in let stack = c.loop-index.stack.items
-    in let e : c.len-from.result ≡ length old = (let a = c.len-from.ensures in let b = c.args.stack.now.ok.0
-    in omega arith)
-    in let long = many old now.kids c.len-from.result e stack now.stack
-    in record {
-      sound = c.try_candidate.ensures.sound.states;
-      slots = subst (λ x. AreSlotsFrom (g.D.Dispatching.IsSlot x) c.len-from.result stack)
-          (sym c.try_candidate.ensures.sound.dispatcher)
-          (are_slots old now.kids c.len-from.result e stack now.stack (g.D.Dispatching.IsStateOf d)
-          c.args.branching.now.word.now now.trying.states (g.D.Dispatching.IsSlot d)
-          (λ w s. g.met.D.Dispatching.state_is_slot d w s));
-      from = omega arith;
-    }
+pub put_tried-requires-clause-sound : goal.put_tried-requires-clause-sound
+put_tried-requires-clause-sound g c = c.try_candidate.ensures.sound.states
+
+pub put_tried-requires-clause-slots : goal.put_tried-requires-clause-slots
+put_tried-requires-clause-slots g c =
+    let now = c.loop-index.invariant in let d = c.loop-index.self.dispatcher.now in let slot = g.D.Dispatching.IsSlot
+    in let a = c.len-from.ensures in let b = c.args.stack.now.ok.0
+    in subst (λ x. AreSlotsFrom (slot x) c.len-from.result c.loop-index.stack.items)
+    (sym c.try_candidate.ensures.sound.dispatcher)
+    (are_slots c.args.stack.now.items now.kids c.len-from.result (omega arith) c.loop-index.stack.items now.stack
+    (g.D.Dispatching.IsStateOf d) _ now.trying.states (slot d) (g.met.D.Dispatching.state_is_slot d))
+
+pub put_tried-requires-clause-from : goal.put_tried-requires-clause-from
+put_tried-requires-clause-from g c =
+    let now = c.loop-index.invariant in let a = c.len-from.ensures in let b = c.args.stack.now.ok.0
+    in let long = many c.args.stack.now.items now.kids c.len-from.result (omega arith)
+    c.loop-index.stack.items now.stack in omega arith
 
 pub loop-index-preserved : goal.loop-index-preserved
 loop-index-preserved g c =
-    let now = c.loop-index.invariant
-    in let d = c.loop-index.self.dispatcher.now
-    in let is = g.D.Dispatching.IsStateOf d
-    in let at = c.args.branching.now
-    in let word = at.word.now
+    let now = c.loop-index.invariant in let d = c.loop-index.self.dispatcher.now
+    in let is = g.D.Dispatching.IsStateOf d in let at = c.args.branching.now in let word = at.word.now
     in let i = c.loop-index.index
     in let some : 0 < i = (let a = c.loop-index-test.true in omega arith)
     in let state = now.trying.wanted some
@@ -130,11 +117,8 @@ loop-index-preserved g c =
 
 pub returns-clause-children : goal.returns-clause-children
 returns-clause-children g c =
-    let at = c.args.branching.now
-    in let word = at.word.now
-    in let old = c.args.stack.now.items
-    in let new = c.loop-index.stack.items
-    in let now = c.loop-index.invariant
+    let at = c.args.branching.now in let word = at.word.now in let old = c.args.stack.now.items
+    in let new = c.loop-index.stack.items in let now = c.loop-index.invariant
     in record {
       put = subst (λ x. HasPutChildren (g.D.Dispatching.IsStateOf x) (g.D.Dispatching.shop x) at.limit word old new
           c.loop-index.others) now.same (all_tried c.loop-index.index now.kids c.loop-index.others
@@ -142,3 +126,7 @@ returns-clause-children g c =
           now.trying);
       more = now.more;
     }
+
+pub returns-in_err-put_tried-clause-sound : goal.returns-in_err-put_tried-clause-sound
+returns-in_err-put_tried-clause-sound g c = kept_then c.put_tried.ensures.sound
+    (c.try_candidate.ensures.sound.dispatcher ∙ c.loop-index.invariant.same)

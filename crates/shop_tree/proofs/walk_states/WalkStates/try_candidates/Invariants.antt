@@ -1,7 +1,6 @@
 use Rattle.std.proofs.Common.{◌≡◌, ◌≤◌, ◌++◌, List, map}
 use Rattle.shop_bound.specs.Bound.{lb}
-use Rattle.shop_tree.specs.{inner.Held.{Kept, held}, inner.Slots.HoldSlots}
-use Rattle.shop_tree.proofs.TrialLemmas.{IsTrying}
+use Rattle.shop_tree.{specs.inner.{Held.{Kept, held}, Slots.HoldSlots}, proofs.TrialLemmas.IsTrying}
 use Rattle.shop_tree.proofs.walk_states.WalkStates.try_candidates.Given as goal
 
 abbrev pub invariant-loop-index : goal.invariant-loop-index

@@ -13,8 +13,7 @@ close-requires-clause-limits g c = grind arith
 
 pub close-requires-clause-closed : goal.close-requires-clause-closed
 close-requires-clause-closed g c =
-    let self = c.args.self.now
-    in let word = self.path.items
+    let self = c.args.self.now in let word = self.path.items
     in let none : self.candidates.items ≡ [] = nil_from_length self.candidates.items (let a = c.is_empty.ensures
     in let b = self.candidates.ok.0 in search rules)
     in subst (λ (x : Shop). AreChildren x self.best word [] c.args.closed) self.same_shop
@@ -25,8 +24,7 @@ push_children-requires g c = record { listed = listed_stand c.in_ok-reclaim.ensu
 
 pub returns-clause-expanded : goal.returns-clause-expanded
 returns-clause-expanded g c =
-    let self = c.args.self.now
-    in let new = stage_of c.push_children.new.self
+    let self = c.args.self.now in let new = stage_of c.push_children.new.self
     in let short : length self.path.items < operation_count self.instance.now =
     (let a = c.requires.listed.short in let b = self.counted in omega arith)
     in on_ok _ (HasExpanded (stage_of self) new)

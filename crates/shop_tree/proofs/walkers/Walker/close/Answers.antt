@@ -1,6 +1,5 @@
 use Rattle.std.proofs.Common.{rules, ◌≡◌, ◌<◌, length, arith}
-use Rattle.shop_model.specs.Shop.{operation_count}
-use Rattle.shop_model.proofs.WordLengths.{word_length}
+use Rattle.shop_model.{specs.Shop.operation_count, proofs.WordLengths.word_length}
 use Rattle.shop_tree.specs.{inner.Held.waiting_in, inner.StateWalkers.stage_of, inner.Walkers.HasExpanded}
 use Rattle.shop_tree.proofs.{AddLemmas.few_open, ExpandLemmas.ends_closed, HeldLemmas.{rest_waits, states_rest}}
 use Rattle.shop_tree.proofs.{ListLemmas.on_ok, WalkerLemmas.ends_counted}
@@ -22,8 +21,7 @@ put_rest-requires-clause-count g c = search (rules, few_open)
 
 pub returns-clause-expanded : goal.returns-clause-expanded
 returns-clause-expanded g c =
-    let self = c.args.self.now
-    in let new = c.put_rest.new.stack.items
+    let self = c.args.self.now in let new = c.put_rest.new.stack.items
     in let short : length self.path.items < operation_count self.instance.now = (let a = c.requires.short
     in let b = self.counted in omega arith)
     in let depth : c.len.result ≡ length self.path.items = (let a = c.len.ensures in let b = self.path.ok.0

@@ -1,4 +1,4 @@
-use Rattle.std.proofs.Common.{◌<◌, length, refl, arith}
+use Rattle.std.proofs.Common.{refl, arith}
 use Rattle.shop_tree.specs.{inner.StateWalkers.stage_of, inner.Walkers.HasExpanded}
 use Rattle.shop_tree.proofs.{ListLemmas.on_ok, ExpandLemmas.{expands_followed, followed_same, followed_then}}
 use Rattle.shop_tree.proofs.StateSteps.{ended, gone, listed_at}
@@ -9,12 +9,12 @@ loop-self-init g c = grind (arith, followed_same)
 
 pub branch-self-requires : goal.branch-self-requires
 branch-self-requires g c =
-    let self = c.loop-self.self
-    in let at = c.loop-self.invariant.at
-    in let short : length self.path.items < self.operations = grind arith
+    let self = c.loop-self.self in let at = c.loop-self.invariant.at
+    in let a = c.len.ensures in let b = self.path.ok.0 in let t = c.loop-self-test.true
     in record {
-      listed = listed_at at refl refl c.list_candidates-closed.ensures.sound.dispatcher
-          c.list_candidates-closed.ensures.current c.list_candidates-closed.ensures.sound.states short
+      listed = listed_at at (refl {a = stage_of self}) (refl {a = self.stack.items})
+          c.list_candidates-closed.ensures.sound.dispatcher c.list_candidates-closed.ensures.current
+          c.list_candidates-closed.ensures.sound.states (omega arith)
           (c.list_candidates-closed.ensures.listed self.path.items at.state);
     }
 
@@ -25,11 +25,11 @@ returns-then-len-ne1-clause-expanded g c =
 
 pub go_on-requires-clause-listed : goal.go_on-requires-clause-listed
 go_on-requires-clause-listed g c =
-    let self = c.loop-self.self
-    in let at = c.loop-self.invariant.at
-    in let short : length self.path.items < self.operations = grind arith
-    in listed_at at refl refl c.list_candidates-closed.ensures.sound.dispatcher
-    c.list_candidates-closed.ensures.current c.list_candidates-closed.ensures.sound.states short
+    let self = c.loop-self.self in let at = c.loop-self.invariant.at
+    in let a = c.len.ensures in let b = self.path.ok.0 in let t = c.loop-self-test.true
+    in listed_at at (refl {a = stage_of self}) (refl {a = self.stack.items})
+    c.list_candidates-closed.ensures.sound.dispatcher c.list_candidates-closed.ensures.current
+    c.list_candidates-closed.ensures.sound.states (omega arith)
     (c.list_candidates-closed.ensures.listed self.path.items at.state)
 
 pub returns-in_default-clause-expanded : goal.returns-in_default-clause-expanded

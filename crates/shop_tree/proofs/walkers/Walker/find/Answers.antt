@@ -1,6 +1,5 @@
 use Rattle.std.proofs.Common.{◌≡◌, ◌≤◌, ◌<◌, length, sym, subst, arith, rules}
-use Rattle.shop_model.specs.Shop.{operation_count}
-use Rattle.shop_model.proofs.WordLengths.{word_length}
+use Rattle.shop_model.{specs.Shop.operation_count, proofs.WordLengths.word_length}
 use Rattle.shop_bound.specs.Bound.{lb}
 use Rattle.shop_tree.specs.{inner.StateWalkers.stage_of, inner.Walkers.HasExpanded}
 use Rattle.shop_tree.proofs.ExpandLemmas.{expands_found, found_at}

@@ -3,12 +3,11 @@ use Rattle.shop_model.specs.{Limits.IsWithinLimits, Shop.{Shop, operation_count}
 use Rattle.shop_model.proofs.WordLengths.{word_length}
 use Rattle.shop_bound.specs.{Bound.lb, Conflicts.SoleCandidateKeepsBound}
 use Rattle.shop_nodes.specs.{Branching.conflict, declared.halts.Open.Open}
-use Rattle.shop_tree.specs.{inner.Held.waiting_in, inner.Opens.AreChildren, inner.StateWalkers.{stage_of, AreHeld}}
-use Rattle.shop_tree.specs.inner.Walkers.{Stage, gone_on}
-use Rattle.shop_tree.proofs.{ExpandLemmas.{HasGone, follows_kept, follows_one}, HeldLemmas.{rest_waits, states_rest}}
-use Rattle.shop_tree.proofs.ListedLemmas.{alone_closed, alone_fits, alone_kept, alone_own, few_closed, one_listed}
-use Rattle.shop_tree.proofs.{ListedLemmas.sole_listed, StateLemmas.held_on, StateSteps.reached}
-use Rattle.shop_tree.proofs.TrialLemmas.{told_high, told_low, told_state}
+use Rattle.shop_tree.specs.inner.{Held.waiting_in, Opens.AreChildren, StateWalkers.{stage_of, AreHeld}, Walkers.Stage}
+use Rattle.shop_tree.{specs.inner.Walkers.gone_on, proofs.ExpandLemmas.{HasGone, follows_kept, follows_one}}
+use Rattle.shop_tree.proofs.{HeldLemmas.{rest_waits, states_rest}, ListedLemmas.{alone_closed, alone_fits, alone_kept}}
+use Rattle.shop_tree.proofs.{ListedLemmas.{alone_own, few_closed, one_listed, sole_listed}, StateLemmas.held_on}
+use Rattle.shop_tree.proofs.{StateSteps.reached, TrialLemmas.{told_high, told_low, told_state}}
 use Rattle.shop_tree.proofs.walkers.Walker.go_on.Goals as goal
 
 pub strike-requires-clause-sole : goal.strike-requires-clause-sole
@@ -21,8 +20,7 @@ strike-requires-clause-sole g c = record {
 
 pub take_job-requires-clause-held : goal.take_job-requires-clause-held
 take_job-requires-clause-held g c =
-    let self = c.args.self.now
-    in let e = c.strike.new.self.dispatcher.now
+    let self = c.args.self.now in let e = c.strike.new.self.dispatcher.now
     in held_on (g.D.Dispatching.IsStateOf e) self.instance.now self.best self.path.items
     c.index-candidate.result.now.job self.stack.items c.requires.listed.at.in_order
     (subst (λ x. AreHeld (g.D.Dispatching.IsStateOf x) self.path.items self.stack.items)
@@ -35,12 +33,8 @@ take_job-requires-clause-state g c = c.strike.ensures.state c.args.self.now.path
 
 pub returns-then-closed-eq0 : goal.returns-then-closed-eq0
 returns-then-closed-eq0 g c =
-    let self = c.args.self.now
-    in let d = self.states.dispatcher.now
-    in let shop = self.instance.now
-    in let word = self.path.items
-    in let job = c.index-candidate.result.now.job
-    in let at = c.requires.listed.at
+    let self = c.args.self.now in let d = self.states.dispatcher.now in let shop = self.instance.now
+    in let word = self.path.items in let job = c.index-candidate.result.now.job in let at = c.requires.listed.at
     in let alone = sole_listed self.candidates.items c.index-candidate.result.now _ c.requires.one
     c.index-candidate.ensures c.if-closed-eq0.true c.requires.listed.candidates
     in let short : length word < operation_count shop =
@@ -57,9 +51,7 @@ returns-then-closed-eq0 g c =
 
 pub advance-requires-clause-can : goal.advance-requires-clause-can
 advance-requires-clause-can g c =
-    let self = c.args.self.now
-    in let d = self.states.dispatcher.now
-    in let word = self.path.items
+    let self = c.args.self.now in let d = self.states.dispatcher.now in let word = self.path.items
     in let cand = c.index-candidate.result.now
     in let one = one_listed self.candidates.items cand _ c.requires.one c.index-candidate.ensures
     in let at = c.requires.listed.at
@@ -76,45 +68,45 @@ advance-requires-clause-can g c =
 
 pub overflow_add-closed : goal.overflow_add-closed
 overflow_add-closed g c =
-    let self = c.args.self.now
-    in let few = few_closed c.requires.listed.candidates
+    let self = c.args.self.now in let few = few_closed c.requires.listed.candidates
     in let limits = (g.met.D.Dispatching.state_is_within_limits self.states.dispatcher.now self.path.items _
     c.requires.listed.at.state).jobs
     in omega arith
 
-pub close-requires : goal.close-requires
-close-requires g c =
-    let self = c.args.self.now
-    in let d = self.states.dispatcher.now
-    in let shop = g.D.Dispatching.shop d
-    in let word = self.path.items
-    in let cand = c.index-candidate.result.now
+pub close-requires-clause-word : goal.close-requires-clause-word
+close-requires-clause-word g c = let self = c.args.self.now in subst (λ x. IsWord x self.path.items) self.same_shop
+    (g.met.D.Dispatching.state_is_of_word self.states.dispatcher.now self.path.items _ c.requires.listed.at.state)
+
+pub close-requires-clause-limits : goal.close-requires-clause-limits
+close-requires-clause-limits g c = let self = c.args.self.now in subst IsWithinLimits self.same_shop
+    (g.met.D.Dispatching.state_is_within_limits self.states.dispatcher.now self.path.items _ c.requires.listed.at.state)
+
+pub close-requires-clause-short : goal.close-requires-clause-short
+close-requires-clause-short g c = c.requires.listed.short
+
+pub close-requires-clause-closed : goal.close-requires-clause-closed
+close-requires-clause-closed g c =
+    let self = c.args.self.now in let shop = g.D.Dispatching.shop self.states.dispatcher.now
+    in let word = self.path.items in let cand = c.index-candidate.result.now in let at = c.requires.listed.at
     in let one = one_listed self.candidates.items cand _ c.requires.one c.index-candidate.ensures
-    in let at = c.requires.listed.at
     in let bound = at.bound ∙ ap (λ (x : Shop). lb x word) (sym self.same_shop)
     in let high = told_high self.best (lb shop (word ++ cand.job ∷ [])) c.advance.result c.in_default.is
     (c.advance.ensures.taken.told word at.state (alone_own one c.requires.listed.candidates) bound)
-    in record {
-      word = subst (λ (x : Shop). IsWord x word) self.same_shop
-          (g.met.D.Dispatching.state_is_of_word d word self.states.current.value at.state);
-      limits = subst IsWithinLimits self.same_shop
-          (g.met.D.Dispatching.state_is_within_limits d word self.states.current.value at.state);
-      short = c.requires.listed.short;
-      closed = subst (λ (x : Shop). AreChildren x self.best word [] (c.args.closed + 1)) self.same_shop
-          (alone_closed one c.requires.listed.candidates high);
-      in_order = at.in_order;
-      states = record {
-        held = subst (λ x. AreHeld (g.D.Dispatching.IsStateOf x) word self.stack.items)
-            (sym c.advance.ensures.sound.dispatcher) at.states.held;
-        states = c.advance.ensures.sound.states;
-      };
-    }
+    in subst (λ (x : Shop). AreChildren x self.best word [] (c.args.closed + 1)) self.same_shop
+    (alone_closed one c.requires.listed.candidates high)
+
+pub close-requires-clause-in_order : goal.close-requires-clause-in_order
+close-requires-clause-in_order g c = c.requires.listed.at.in_order
+
+pub close-requires-clause-states : goal.close-requires-clause-states
+close-requires-clause-states g c = let self = c.args.self.now
+    in let held = subst (λ x. AreHeld (g.D.Dispatching.IsStateOf x) self.path.items self.stack.items)
+    (sym c.advance.ensures.sound.dispatcher) c.requires.listed.at.states.held
+    in record { held = held; states = c.advance.ensures.sound.states }
 
 pub put_rest-requires : goal.put_rest-requires
 put_rest-requires g c =
-    let self = c.args.self.now
-    in let d = self.states.dispatcher.now
-    in let word = self.path.items
+    let self = c.args.self.now in let d = self.states.dispatcher.now in let word = self.path.items
     in let state = c.requires.listed.at.state
     in let limits = g.met.D.Dispatching.state_is_within_limits d word self.states.current.value state
     in let most = word_length (g.D.Dispatching.shop d) word limits
@@ -123,39 +115,39 @@ put_rest-requires g c =
     in let jobs = limits.jobs in let b = c.len.ensures in let e = self.path.ok.0
     in record { depth = omega arith; count = omega arith }
 
-pub take_job-requires-2 : goal.take_job-requires-2
-take_job-requires-2 g c =
-    let self = c.args.self.now
-    in let d = self.states.dispatcher.now
-    in let is = g.D.Dispatching.IsStateOf d
-    in let word = self.path.items
-    in let cand = c.index-candidate.result.now
+pub take_job-requires-2-clause-some : goal.take_job-requires-2-clause-some
+take_job-requires-2-clause-some g c = c.requires.some
+
+pub take_job-requires-2-clause-short : goal.take_job-requires-2-clause-short
+take_job-requires-2-clause-short g c = c.requires.listed.short
+
+pub take_job-requires-2-clause-held : goal.take_job-requires-2-clause-held
+take_job-requires-2-clause-held g c =
+    let self = c.args.self.now in let is = g.D.Dispatching.IsStateOf self.states.dispatcher.now
+    in let next = self.path.items ++ c.index-candidate.result.now.job ∷ [] in let at = c.requires.listed.at
+    in let longer = held_on is self.instance.now self.best self.path.items c.index-candidate.result.now.job
+    self.stack.items at.in_order at.states.held
+    in subst (λ x. AreHeld (g.D.Dispatching.IsStateOf x) next c.put_rest.new.stack.items)
+    (sym c.advance.ensures.sound.dispatcher) (subst (λ hs. AreHeld is next hs) (sym c.in_ok-put_rest.ensures)
+    (states_rest self.stack.items is next c.len.result c.args.closed longer))
+
+pub take_job-requires-2-clause-slots : goal.take_job-requires-2-clause-slots
+take_job-requires-2-clause-slots g c = c.advance.ensures.sound.states
+
+pub take_job-requires-2-clause-state : goal.take_job-requires-2-clause-state
+take_job-requires-2-clause-state g c =
+    let self = c.args.self.now in let word = self.path.items in let cand = c.index-candidate.result.now
     in let one = one_listed self.candidates.items cand _ c.requires.one c.index-candidate.ensures
-    in let at = c.requires.listed.at
-    in let longer = held_on is self.instance.now self.best word cand.job self.stack.items at.in_order
-    at.states.held
-    in let after = c.advance.new.self.current.value
-    in record {
-      some = c.requires.some;
-      short = c.requires.listed.short;
-      held = subst (λ x. AreHeld (g.D.Dispatching.IsStateOf x) (word ++ cand.job ∷ []) c.put_rest.new.stack.items)
-          (sym c.advance.ensures.sound.dispatcher)
-          (subst (λ hs. AreHeld is (word ++ cand.job ∷ []) hs) (sym c.in_ok-put_rest.ensures)
-          (states_rest self.stack.items is (word ++ cand.job ∷ []) c.len.result c.args.closed longer));
-      slots = c.advance.ensures.sound.states;
-      state = subst (λ x. g.D.Dispatching.IsStateOf x (word ++ cand.job ∷ []) after)
-          (sym c.advance.ensures.sound.dispatcher)
-          (told_state (is (word ++ cand.job ∷ []) after) c.in-Some.bound c.advance.result c.in-Some.is
-          (c.advance.ensures.taken.state word at.state (alone_own one c.requires.listed.candidates)));
-    }
+    in let is = g.D.Dispatching.IsStateOf in let after = c.advance.new.self.current.value
+    in subst (λ x. is x (word ++ cand.job ∷ []) after) (sym c.advance.ensures.sound.dispatcher)
+    (told_state (is self.states.dispatcher.now (word ++ cand.job ∷ []) after) c.in-Some.bound c.advance.result
+    c.in-Some.is (c.advance.ensures.taken.state word c.requires.listed.at.state
+    (alone_own one c.requires.listed.candidates)))
 
 pub returns : goal.returns
 returns g c =
-    let self = c.args.self.now
-    in let d = self.states.dispatcher.now
-    in let shop = g.D.Dispatching.shop d
-    in let word = self.path.items
-    in let cand = c.index-candidate.result.now
+    let self = c.args.self.now in let d = self.states.dispatcher.now in let shop = g.D.Dispatching.shop d
+    in let word = self.path.items in let cand = c.index-candidate.result.now
     in let one = one_listed self.candidates.items cand _ c.requires.one c.index-candidate.ensures
     in let at = c.requires.listed.at
     in let bound = at.bound ∙ ap (λ (x : Shop). lb x word) (sym self.same_shop)

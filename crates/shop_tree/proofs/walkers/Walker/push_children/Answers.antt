@@ -1,17 +1,16 @@
-use Rattle.std.proofs.{Common.{◌≡◌, ◌<◌, ◌++◌, ◌∙◌, ℕ, List, ap, length, map, subst, arith}, lemmas.List.length-append}
-use Rattle.shop_model.specs.{Shop.{Shop, operation_count}, Word.IsWord}
-use Rattle.shop_model.proofs.WordLengths.{word_length}
-use Rattle.shop_tree.specs.{declared.held.Held.Held, inner.Held.{held, opens_in, waiting_in}, inner.Opens.AreChildren}
-use Rattle.shop_tree.specs.{inner.StateWalkers.stage_of, inner.Walkers.HasBranched}
+use Rattle.std.proofs.Common.{◌≡◌, ◌<◌, ◌++◌, ◌∙◌, List, ap, length, map, subst, sym, arith}
+use Rattle.std.proofs.lemmas.List.{length-append}
+use Rattle.shop_model.{specs.{Shop.{operation_count}, Word.IsWord}, proofs.WordLengths.word_length}
+use Rattle.shop_tree.specs.{declared.held.Held.Held, inner.Held.{held, opens_in, waiting_in}}
+use Rattle.shop_tree.specs.inner.{Slots.{IsStateIn, Lists}, StateWalkers.stage_of, Walkers.HasBranched}
+use Rattle.shop_bound.specs.Bound.{lb}
 use Rattle.shop_tree.proofs.{ListLemmas.on_ok, AddLemmas.few_open, ExpandLemmas.branched, ListedLemmas.few_closed}
 use Rattle.shop_tree.proofs.{HeldLemmas.{rest_long, waiting_put}, StateSteps.held_branched}
 use Rattle.shop_tree.proofs.walkers.Walker.push_children.Goals as goal
 
 pub put_rest-requires : goal.put_rest-requires
 put_rest-requires g c =
-    let self = c.args.self.now
-    in let d = self.states.dispatcher.now
-    in let word = self.path.items
+    let self = c.args.self.now in let d = self.states.dispatcher.now in let word = self.path.items
     in let limits = g.met.D.Dispatching.state_is_within_limits d word self.states.current.value
     c.requires.listed.at.state
     in let most = word_length (g.D.Dispatching.shop d) word limits
@@ -22,11 +21,8 @@ put_rest-requires g c =
 
 pub set_rest_below-requires : goal.set_rest_below-requires
 set_rest_below-requires g c =
-    let self = c.args.self.now
-    in let d = self.states.dispatcher.now
-    in let word = self.path.items
-    in let old = self.stack.items
-    in let put = c.in_ok-all.ensures.children.put
+    let self = c.args.self.now in let d = self.states.dispatcher.now in let word = self.path.items
+    in let old = self.stack.items in let put = c.in_ok-all.ensures.children.put
     in let a = ap (λ (hs : List (Held g.row.S.Denot)). length hs) put.stack
     in let b = length-append c.put_rest.new.stack.items (map held put.kids)
     in let e = ap (λ (hs : List (Held g.row.S.Denot)). length hs) c.in_ok-put_rest.ensures
@@ -47,18 +43,11 @@ set_rest_below-requires g c =
 
 pub returns-clause-branched : goal.returns-clause-branched
 returns-clause-branched g c =
-    let self = c.args.self.now
-    in let d = self.states.dispatcher.now
-    in let word = self.path.items
-    in let best = self.best
-    in let put = c.in_ok-all.ensures.children.put
-    in let opens = opens_in put.kids
+    let self = c.args.self.now in let d = self.states.dispatcher.now in let word = self.path.items
+    in let best = self.best in let put = c.in_ok-all.ensures.children.put in let opens = opens_in put.kids
     in let n = c.in_ok-all.all
-    in let kids : AreChildren self.instance.now best word opens n =
-    subst (λ (x : Shop). AreChildren x best word opens n) self.same_shop
-    (subst (λ (w : List ℕ). AreChildren (g.D.Dispatching.shop d) best w opens n) c.as_slice.ensures.value
-    put.children)
-    in let is : IsWord self.instance.now word = subst (λ (x : Shop). IsWord x word) self.same_shop
+    in let kids = rw (self.same_shop, c.as_slice.ensures.value) at put.children
+    in let is : IsWord self.instance.now word = subst (λ x. IsWord x word) self.same_shop
     (g.met.D.Dispatching.state_is_of_word d word self.states.current.value c.requires.listed.at.state)
     in let short : length word < operation_count self.instance.now = (let a = c.requires.listed.short
     in let b = self.counted in omega arith)
@@ -77,3 +66,16 @@ returns-clause-branched g c =
 
 pub returns-clause-states : goal.returns-clause-states
 returns-clause-states g c = grind (arith, on_ok, held_branched)
+
+pub try_candidates-requires-clause-branching : goal.try_candidates-requires-clause-branching
+try_candidates-requires-clause-branching g c =
+    let self = c.args.self.now in let at = c.requires.listed.at in let s = self.states in let is = g.D.Dispatching
+    in let word = sym c.as_slice.ensures.value
+    in record {
+      state = subst (IsStateIn is s) word at.state;
+      bound = at.bound ∙ (ap (λ x. lb x self.path.items) (sym self.same_shop)
+          ∙ ap (lb (is.shop s.dispatcher.now)) word);
+      listed = subst (λ v. Lists is s v self.best c.as_slice-2.result.now c.args.closed) word
+          (subst (λ cs. Lists is s self.path.items self.best cs c.args.closed) (sym c.as_slice-2.ensures.value)
+          c.requires.listed.candidates);
+    }

@@ -1,18 +1,16 @@
-use Rattle.std.proofs.{Common.{◌≡◌, ◌∙◌, refl, sym, ap, subst, arith, rules}, lemmas.List.take_rest}
+use Rattle.std.proofs.Common.{◌≡◌, ◌-◌, ◌∙◌, drop, length, refl, sym, ap, subst, arith}
+use Rattle.std.proofs.lemmas.List.{take_rest, Elements.{All-drop, All-take}}
 use Rattle.shop_model.specs.Shop.{Shop}
-use Rattle.shop_nodes.specs.{Left.Leaving, Laws.{AreWords, KeepsPiece}, Nodes.{words_of, AreNodes}, Walking.Walk}
-use Rattle.shop_nodes.specs.Halts.{halted_words}
+use Rattle.shop_nodes.specs.{Left.Leaving, Laws.{AreWords, KeepsPiece}, Nodes.{words_of, AreNodes, IsNode}}
+use Rattle.shop_nodes.{specs.{Halts.halted_words, Walking.Walk}, proofs.{NodeLemmas.are_words, Found.searches_keep}}
 use Rattle.shop_tree.specs.inner.{Held.waiting_in, Searching.opening_walk, StateWalkers.stage_of, Walkers.Stage}
-use Rattle.shop_nodes.proofs.{NodeLemmas.are_words, Found.searches_keep}
 use Rattle.shop_tree.proofs.WalkerLemmas.{sheet_told}
 use Rattle.shop_tree.proofs.walkers.Walker.search.Goals as goal
 
 pub returns-clause-sheet : goal.returns-clause-sheet
 returns-clause-sheet g c =
-    let shop = c.args.self.now.instance.now
-    in let t = c.walk_nodes.new.self
-    in let nodes = c.args.piece.now.nodes.items
-    in let k = c.in_ok-index.index
+    let shop = c.args.self.now.instance.now in let t = c.walk_nodes.new.self
+    in let nodes = c.args.piece.now.nodes.items in let k = c.in_ok-index.index
     in let halted = halted_words t.instance.now c.in_ok-halt.halt
     in let same : c.clear.new.self.instance.now ≡ shop = c.in_ok-clear.ensures.instance
     in let begun : Stage = record {
@@ -32,17 +30,14 @@ returns-clause-sheet g c =
       keeps = subst (KeepsPiece shop (words_of nodes) c.args.best)
           (sym (sheet_told begun (stage_of t) c.as_slice-nodes.result.now k same refl refl
           c.in_ok-index.ensures.walked c.in_ok-index.ensures.ended c.as_slice-nodes.ensures.value (take_rest
-          c.as_slice-nodes.result.now k) (search rules) c.in_ok-halt.ensures.words left))
+          c.as_slice-nodes.result.now k) c.take.ensures.value c.in_ok-halt.ensures.words left))
           (searches_keep shop (words_of nodes) c.args.best c.args.budget (are_words shop nodes c.requires.nodes));
     }
 
 pub invariant_of-result : goal.invariant_of-result
 invariant_of-result g c =
-    let t = c.walk_nodes.new.self
-    in let shop = t.instance.now
-    in let nodes = c.args.piece.now.nodes.items
-    in let k = c.in_ok-index.index
-    in let halted = halted_words shop c.in_ok-halt.halt
+    let t = c.walk_nodes.new.self in let shop = t.instance.now in let nodes = c.args.piece.now.nodes.items
+    in let k = c.in_ok-index.index in let halted = halted_words shop c.in_ok-halt.halt
     in let same : shop ≡ c.args.self.now.instance.now = c.in_ok-index.ensures.walked.shop
     ∙ c.in_ok-clear.ensures.instance
     in let begun : Stage = record {
@@ -54,7 +49,7 @@ invariant_of-result g c =
     in let left = ap (λ (l : Leaving). l.words) c.new.ensures
     in let told = sheet_told begun (stage_of t) c.as_slice-nodes.result.now k (sym c.in_ok-index.ensures.walked.shop)
     refl refl c.in_ok-index.ensures.walked c.in_ok-index.ensures.ended c.as_slice-nodes.ensures.value
-    (take_rest c.as_slice-nodes.result.now k) (search rules) c.in_ok-halt.ensures.words left
+    (take_rest c.as_slice-nodes.result.now k) c.take.ensures.value c.in_ok-halt.ensures.words left
     in record {
       of_piece = refl;
       spent = omega arith;
@@ -65,3 +60,14 @@ invariant_of-result g c =
           (are_words shop nodes (subst (λ (x : Shop). AreNodes x nodes) (sym same) c.requires.nodes))).left;
       is_sheet = told;
     }
+
+pub new-requires : goal.new-requires
+new-requires g c =
+    let k = c.in_ok-index.index in let nodes = c.as_slice-nodes.result.now
+    in let is = IsNode c.walk_nodes.new.self.instance.now
+    in (
+      c.in_ok-halt.ensures.halt,
+      All-take is (length nodes - k) (drop k nodes) (All-drop is k nodes
+          (rw (c.as_slice-nodes.ensures.value, c.in_ok-index.ensures.walked.shop, c.in_ok-clear.ensures.instance)
+          c.requires.nodes)),
+    )

@@ -1,13 +1,9 @@
-use Rattle.std.proofs.{Common.{◌≡◌, ◌∙◌, ◌<◌, ℕ, List, sym, subst, arith}, lemmas.List.length-take-le}
-use Rattle.std.specs.Prelude.{take}
-use Rattle.shop_model.specs.{Shop.Shop, Word.IsWord}
-use Rattle.shop_bound.specs.Bound.{lb}
-use Rattle.shop_bound.proofs.WordLengths.{room_left}
-use Rattle.shop_tree.specs.inner.{Held.waiting_in, Slots.IsStateIn, StateWalkers.{stage_of, walked, AreHeld}}
-use Rattle.shop_tree.specs.inner.Walkers.{HasExpanded, IsInOrder, IsTurn, spent_one}
+use Rattle.std.{proofs.{Common.{◌≡◌, ◌∙◌, ◌<◌, subst, arith}, lemmas.List.length-take-le}, specs.Prelude.take}
+use Rattle.shop_bound.{proofs.WordLengths.room_left}
+use Rattle.shop_tree.specs.inner.{Held.waiting_in, Slots.IsStateIn, StateWalkers.stage_of, Walkers.{IsTurn, spent_one}}
+use Rattle.shop_tree.proofs.{OpenLemmas.popped, ListLemmas.on_ok, StateLemmas.held_below, WalkerLemmas.turn_cut}
+use Rattle.shop_tree.proofs.WalkerLemmas.{turn_expanded, went_in_order}
 use Rattle.shop_nodes.specs.{Halts.{open_child, word_at}}
-use Rattle.shop_tree.proofs.{OpenLemmas.popped, ListLemmas.on_ok, StateLemmas.held_below}
-use Rattle.shop_tree.proofs.WalkerLemmas.{turn_cut, turn_expanded, went_in_order}
 use Rattle.shop_tree.proofs.walkers.Walker.walk_open.Goals as goal
 
 pub returns-then-child-self-clause-turn : goal.returns-then-child-self-clause-turn
@@ -19,9 +15,7 @@ returns-then-child-self-clause-turn g c =
 
 pub unwrap-requires : goal.unwrap-requires
 unwrap-requires g c =
-    let self = c.args.self.now
-    in let o = c.args.child
-    in let word = self.path.items
+    let self = c.args.self.now in let o = c.args.child in let word = self.path.items
     in let own = (popped (waiting_in self.stack.items) (open_child o) c.requires.on).own
     in let few = room_left self.instance.now (take o.depth word) o.job own.is_word
     in let depth = length-take-le o.depth word own.depth
@@ -30,41 +24,27 @@ unwrap-requires g c =
 
 pub go_on_in-requires-clause-word : goal.go_on_in-requires-clause-word
 go_on_in-requires-clause-word g c =
-    let self = c.args.self.now
-    in let o = c.args.child
-    in let word = self.path.items
+    let self = c.args.self.now in let o = c.args.child in let word = self.path.items
     in let own = (popped (waiting_in self.stack.items) (open_child o) c.requires.on).own
     in let went : c.as_slice.result.now ≡ word_at word o = c.as_slice.ensures.value
     ∙ rw (c.unwrap.ensures, c.truncate.ensures.items) at c.push.ensures.items
-    in subst (λ (w : List ℕ). IsWord (g.D.Dispatching.shop self.states.dispatcher.now) w) (sym went)
-    (subst (λ (x : Shop). IsWord x (word_at word o)) (sym self.same_shop) own.is_word)
+    in rw (went, self.same_shop) own.is_word
 
 pub expand-requires : goal.expand-requires
 expand-requires g c =
-    let self = c.args.self.now
-    in let o = c.args.child
-    in let d = self.states.dispatcher.now
-    in let word = self.path.items
-    in let hs = self.stack.items
+    let self = c.args.self.now in let o = c.args.child in let d = self.states.dispatcher.now
+    in let word = self.path.items in let hs = self.stack.items
     in let own = (popped (waiting_in hs) (open_child o) c.requires.on).own
     in let went : c.push.new.self.items ≡ word_at word o =
     rw (c.unwrap.ensures, c.truncate.ensures.items) at c.push.ensures.items
     in record {
       at = record {
-        bound = subst (λ (w : List ℕ). o.bound ≡ lb self.instance.now w) (sym went) own.bound;
+        bound = rw went own.bound;
         below = (let a = c.if-child-self.false in omega arith);
-        in_order = subst (λ (w : List ℕ). IsInOrder (record {
-          shop = self.instance.now;
-          word = w;
-          walk = spent_one (walked self);
-          stack = waiting_in hs;
-        })) (sym went) (went_in_order (stage_of self) o c.requires.on);
+        in_order = rw went (went_in_order (stage_of self) o c.requires.on);
         states = record {
-          held = subst (λ x. AreHeld (g.D.Dispatching.IsStateOf x) c.push.new.self.items hs)
-              (sym c.go_on_in.ensures.sound.dispatcher)
-              (subst (λ (w : List ℕ). AreHeld (g.D.Dispatching.IsStateOf d) w hs) (sym went)
-              (held_below (g.D.Dispatching.IsStateOf d) self.instance.now self.best word hs o
-              c.requires.on c.requires.states.held));
+          held = rw (c.go_on_in.ensures.sound.dispatcher, went) (held_below (g.D.Dispatching.IsStateOf d)
+              self.instance.now self.best word hs o c.requires.on c.requires.states.held);
           states = c.go_on_in.ensures.sound.states;
         };
         state = subst (IsStateIn g.D.Dispatching c.go_on_in.new.self) c.as_slice.ensures.value
@@ -74,18 +54,11 @@ expand-requires g c =
 
 pub returns-clause-turn : goal.returns-clause-turn
 returns-clause-turn g c =
-    let self = c.args.self.now
-    in let o = c.args.child
+    let self = c.args.self.now in let o = c.args.child
     in let went : c.push.new.self.items ≡ word_at self.path.items o =
     rw (c.unwrap.ensures, c.truncate.ensures.items) at c.push.ensures.items
     in let below : o.bound < self.best = (let a = c.if-child-self.false in omega arith)
     in let t = stage_of c.expand.new.self
     in on_ok _ (IsTurn (stage_of self) (open_child o) t)
-    (λ e. turn_expanded (stage_of self) t o c.requires.on c.requires.some below
-    (subst (λ (w : List ℕ). HasExpanded (record {
-      shop = self.instance.now;
-      word = w;
-      walk = spent_one (walked self);
-      stack = waiting_in self.stack.items;
-    }) t) went e))
+    (λ e. turn_expanded (stage_of self) t o c.requires.on c.requires.some below (rw went at e))
     c.expand.result c.expand.ensures.expanded

@@ -1,7 +1,6 @@
 use Rattle.std.proofs.Common.{ap, ◌∙◌, arith}
 use Rattle.atomic_table.specs.Table.{Me}
-use Rattle.shop_workers.specs.declared.views.View.{View}
-use Rattle.shop_workers.proofs.{Numbers.once_apart, JoinedSeats.{joins, recalls}}
+use Rattle.shop_workers.{specs.declared.views.View.View, proofs.{Numbers.once_apart, JoinedSeats.{joins, recalls}}}
 use Rattle.shop_workers.proofs.boards.Board.join.Goals as goal
 
 pub join_seat-requires : goal.join_seat-requires

@@ -1,0 +1,16 @@
+use Rattle.std.proofs.Common.{ap, subst, sym}
+use Rattle.shop_tree.specs.inner.Slots.{HoldSlots}
+use Rattle.shop_tree.proofs.walk_states.WalkStates.advance_to.Goals as goal
+
+pub returns-then-candidate-job-clause-sound : goal.returns-then-candidate-job-clause-sound
+returns-then-candidate-job-clause-sound g c =
+    let old = subst (HoldSlots g.D.Dispatching) (sym c.loop-index.invariant) c.requires.sound
+    in record {
+      states = record {
+        scratch_is = c.dispatch_settled.ensures.scratch;
+        current_is = c.dispatch_settled.ensures.slot;
+        trial_is = old.trial_is;
+        spare_are = old.spare_are;
+      };
+      dispatcher = ap (λ s. s.dispatcher.now) c.loop-index.invariant;
+    }
