@@ -1,12 +1,11 @@
 // Who is at work and how often a piece is searched, by either crew; and pieces that no worker brought.
 ghost use Rattle.std.specs.Thread.{IsSync};
 
-use crate::gates::Refused;
+use crate::gates::{Once, Refused};
 use crate::instances::{FT06, instance_of};
 use crate::rounds::{RoundTest, after_round, in_third_round, next_round};
 use crate::telling::{assert_entries, assert_number};
 use shop_board::{BoardCrew, LockCrew, work};
-use shop_round::PieceSearcher;
 use shop_runs::{Plan, Round, Standing};
 use shop_workers::{
     Board, Gate, OpenGate, Pool, Returned, Seat, SeatGate, complete_returned, in_order, serve,
@@ -146,14 +145,14 @@ impl<R: Abort> RoundTest<R> for NothingBrought {
         let (seat, mut other) = board.split(seat);
         let entries = Ok(Vec::new(alloc));
         let returned = vec![in alloc; Returned { seat, entries }].expect(rt, "memory");
-        let completed = complete_returned::<PieceSearcher<'r>>(alloc, &board, round, returned);
+        let completed = complete_returned::<Once<'r>>(alloc, &board, round, returned);
         let entries = completed.expect(rt, "memory");
         assert_entries(rt, alloc, &entries, "10 1 0, 12 2 0, 14 2 0, ");
         let (first, second) = (board.claim(&mut other, 0), board.claim(&mut other, 1));
         let third = board.claim(&mut other, 2);
         assert!(rt; !first && !second && !third);
         let brought = vec![in alloc; Ok(Vec::new(alloc))].expect(rt, "memory");
-        let completed = in_order::<PieceSearcher<'r>>(alloc, round, brought);
+        let completed = in_order::<Once<'r>>(alloc, round, brought);
         let entries = completed.expect(rt, "memory");
         assert_entries(rt, alloc, &entries, "10 1 0, 12 2 0, 14 2 0, ");
     }
@@ -178,9 +177,7 @@ impl<R: Abort + Wait> RoundTest<R> for AllBrought {
         let entries = completed.expect(rt, "memory");
         assert_entries(rt, alloc, &entries, "10 1 0, by 0, by 0, ");
         let pool = Mutex::new(Pool::open(round.pieces.len()));
-        let entries = serve::<PieceSearcher<'r>, R, OpenGate>(
-            rt, alloc, round, &pool, &OpenGate, 0,
-        );
+        let entries = serve::<Once<'r>, R, OpenGate>(rt, alloc, round, &pool, &OpenGate, 0);
         let brought = vec![in alloc; entries].expect(rt, "memory");
         let completed = in_order::<Refused<'r>>(alloc, round, brought);
         let entries = completed.expect(rt, "memory");

@@ -10,7 +10,8 @@ use crate::long_machines::{LATEST, SHAPES, made};
 use crate::numbers::Numbers;
 use crate::shuffled_layouts::shuffled;
 use shop_bound::lower_bound;
-use shop_layout::LaneLayout;
+use shop_lanes::StateLanes;
+use shop_layout::{LaidOut, LaneLayout};
 use shop_model::{Instance, Job, Op, Word};
 use shop_states::{Candidate, Dispatching};
 use std::alloc::Global;
@@ -284,34 +285,37 @@ fn assert_walk<D: Dispatching<S>, S: Drop>(
     }
 }
 
+/// Does what `assert_walk` does. For any lanes, so that what a walk needs of its states is proved once, not for each
+/// width.
+fn assert_walk_over<L: StateLanes>(
+    rt: &impl Abort,
+    alloc: Global,
+    numbers: &mut Numbers,
+    lanes: &LaidOut<'_, L>,
+    instance: &Instance,
+    manner: Manner,
+)
+    requires { lanes.now.asked ≡ instance.now }
+{
+    assert_walk(rt, alloc, numbers, lanes, instance, manner)
+}
+
 /// Walks a random word in the lanes of the instance's layout, where its machines stand in a random order.
 fn assert_walk_in_lanes(
     rt: &impl Abort,
     alloc: Global,
     numbers: &mut Numbers,
-    instance: &Instance,
+    shop: &Instance,
     manner: Manner,
 ) {
-    let layout = shuffled(rt, alloc, numbers, instance);
+    let layout = shuffled(rt, alloc, numbers, shop);
     match layout.lanes() {
-        LaneLayout::In16By2(laid_out) => {
-            assert_walk(rt, alloc, numbers, laid_out, instance, manner)
-        }
-        LaneLayout::In16By3(laid_out) => {
-            assert_walk(rt, alloc, numbers, laid_out, instance, manner)
-        }
-        LaneLayout::In16By4(laid_out) => {
-            assert_walk(rt, alloc, numbers, laid_out, instance, manner)
-        }
-        LaneLayout::In16(laid_out) => {
-            assert_walk(rt, alloc, numbers, laid_out, instance, manner)
-        }
-        LaneLayout::In32(laid_out) => {
-            assert_walk(rt, alloc, numbers, laid_out, instance, manner)
-        }
-        LaneLayout::In64(laid_out) => {
-            assert_walk(rt, alloc, numbers, laid_out, instance, manner)
-        }
+        LaneLayout::In16By2(lanes) => assert_walk_over(rt, alloc, numbers, lanes, shop, manner),
+        LaneLayout::In16By3(lanes) => assert_walk_over(rt, alloc, numbers, lanes, shop, manner),
+        LaneLayout::In16By4(lanes) => assert_walk_over(rt, alloc, numbers, lanes, shop, manner),
+        LaneLayout::In16(lanes) => assert_walk_over(rt, alloc, numbers, lanes, shop, manner),
+        LaneLayout::In32(lanes) => assert_walk_over(rt, alloc, numbers, lanes, shop, manner),
+        LaneLayout::In64(lanes) => assert_walk_over(rt, alloc, numbers, lanes, shop, manner),
     }
 }
 

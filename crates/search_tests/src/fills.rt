@@ -5,7 +5,8 @@ ghost use Rattle.std.specs.Prelude.{◌≡◌};
 use crate::long_machines::{LATEST, SHAPES, made};
 use crate::numbers::Numbers;
 use crate::shuffled_layouts::shuffled;
-use shop_layout::LaneLayout;
+use shop_lanes::StateLanes;
+use shop_layout::{LaidOut, LaneLayout};
 use shop_model::{Instance, Word, fits, is_full};
 use shop_nodes::conflict;
 use shop_states::Dispatching;
@@ -84,6 +85,19 @@ fn assert_fills<D: Dispatching<S>, S: Drop>(
     }
 }
 
+/// Does what `assert_fills` does. For any lanes, so that what a fill needs of its state is proved once, not for each
+/// width.
+fn assert_fills_over<L: StateLanes>(
+    rt: &(impl Abort + AllocGlobal),
+    numbers: &mut Numbers,
+    lanes: &LaidOut<'_, L>,
+    instance: &Instance,
+)
+    requires { lanes.now.asked ≡ instance.now }
+{
+    assert_fills(rt, numbers, lanes, instance)
+}
+
 /// Fills states in the lanes of the instance's layout, where its machines stand in a random order.
 fn assert_fills_in_lanes(
     rt: &(impl Abort + AllocGlobal),
@@ -92,12 +106,12 @@ fn assert_fills_in_lanes(
 ) {
     let layout = shuffled(rt, rt.alloc(), numbers, instance);
     match layout.lanes() {
-        LaneLayout::In16By2(laid_out) => assert_fills(rt, numbers, laid_out, instance),
-        LaneLayout::In16By3(laid_out) => assert_fills(rt, numbers, laid_out, instance),
-        LaneLayout::In16By4(laid_out) => assert_fills(rt, numbers, laid_out, instance),
-        LaneLayout::In16(laid_out) => assert_fills(rt, numbers, laid_out, instance),
-        LaneLayout::In32(laid_out) => assert_fills(rt, numbers, laid_out, instance),
-        LaneLayout::In64(laid_out) => assert_fills(rt, numbers, laid_out, instance),
+        LaneLayout::In16By2(lanes) => assert_fills_over(rt, numbers, lanes, instance),
+        LaneLayout::In16By3(lanes) => assert_fills_over(rt, numbers, lanes, instance),
+        LaneLayout::In16By4(lanes) => assert_fills_over(rt, numbers, lanes, instance),
+        LaneLayout::In16(lanes) => assert_fills_over(rt, numbers, lanes, instance),
+        LaneLayout::In32(lanes) => assert_fills_over(rt, numbers, lanes, instance),
+        LaneLayout::In64(lanes) => assert_fills_over(rt, numbers, lanes, instance),
     }
 }
 
