@@ -70,7 +70,7 @@ impl<'r> PieceSearch<'r> for Refused<'r> {
 }
 
 /// A searcher that memory is refused where it searches a piece twice in a row. It makes a `PieceSearcher` for each
-/// search, and keeps none: what code for any searcher needs of this one is then proved in a third of the time.
+/// search and keeps none, so that code for any searcher is proved for this one without the six widths of lanes.
 #[derive(Drop)]
 pub struct Once<'r> {
     round: &'r Round<'r>,

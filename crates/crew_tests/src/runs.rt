@@ -125,23 +125,27 @@ fn after_one(
     after_round(rt, alloc, instance, plan, standing)
 }
 
-/// The longest time, its unit, a budget and a piece. After three rounds more nodes are open than a fourth one takes.
-/// With a unit of 1000 they stand in a map.
-static OPEN_BY_BOUND: [(u64, u64, u64, usize); 4] = [
-    (40, 1, 9, 1),
-    (3, 1, 9, 1),
-    (40, 1, 20, 2),
-    (40, 1_000, 9, 1),
+/// The longest time, its unit, a budget, a piece, an order, and how many nodes are open after three rounds, at least:
+/// more than a fourth one takes, or in the last two more than a piece holds. By bound they stand in a row, or with a
+/// unit of 1000 in a map.
+static MANY_OPEN: [(u64, u64, u64, usize, Order, usize); 7] = [
+    (40, 1, 9, 1, Order::Bound, 257),
+    (3, 1, 9, 1, Order::Bound, 257),
+    (40, 1, 20, 2, Order::Bound, 513),
+    (40, 1_000, 9, 1, Order::Bound, 257),
+    (40, 1, 9, 1, Order::Kept, 257),
+    (40, 1, 300, 17, Order::Bound, 18),
+    (40, 1, 300, 17, Order::Kept, 18),
 ];
 
-/// Rounds that are cut one by one keep all nodes open; a run only counts those that no round left can take.
+/// Rounds that are cut one by one keep all nodes open; a run by bound only counts those that no round left can take.
 #[test]
 fn runs_end_where_rounds_do(rt: HostRuntime) {
-    for (longest, unit, budget, piece) in &OPEN_BY_BOUND {
+    for (longest, unit, budget, piece, order, open) in &MANY_OPEN {
         let text = made_text(&rt, rt.alloc(), *longest, *unit);
         let instance = instance_of(&rt, rt.alloc(), text.as_str());
         let plan_of = |rounds: u64| -> Plan {
-            Plan::ordered(rounds, *budget, *piece, Order::Bound).expect(&rt, "a plan")
+            Plan::ordered(rounds, *budget, *piece, *order).expect(&rt, "a plan")
         };
         let all = plan_of(9);
         let start = Standing::start(rt.alloc(), &instance).expect(&rt, "memory");
@@ -151,7 +155,7 @@ fn runs_end_where_rounds_do(rt: HostRuntime) {
         assert_stands(&rt, rt.alloc(), &instance, &plan_of(2), &second);
         let third = after_one(&rt, rt.alloc(), &instance, &all, second);
         assert_stands(&rt, rt.alloc(), &instance, &plan_of(3), &third);
-        assert!(rt; third.open.len() > piece.saturating_mul(256));
+        assert!(rt; third.open.len() >= *open);
         let fourth = after_one(&rt, rt.alloc(), &instance, &all, third);
         assert_stands(&rt, rt.alloc(), &instance, &plan_of(4), &fourth);
     }

@@ -285,8 +285,8 @@ fn assert_walk<D: Dispatching<S>, S: Drop>(
     }
 }
 
-/// Does what `assert_walk` does. For any lanes, so that what a walk needs of its states is proved once, not for each
-/// width.
+/// Does what `assert_walk` does. It is called for each width of lanes, so that what a walk needs of its states is
+/// proved once, for any lanes.
 fn assert_walk_over<L: StateLanes>(
     rt: &impl Abort,
     alloc: Global,
@@ -305,17 +305,17 @@ fn assert_walk_in_lanes(
     rt: &impl Abort,
     alloc: Global,
     numbers: &mut Numbers,
-    shop: &Instance,
+    instance: &Instance,
     manner: Manner,
 ) {
-    let layout = shuffled(rt, alloc, numbers, shop);
+    let layout = shuffled(rt, alloc, numbers, instance);
     match layout.lanes() {
-        LaneLayout::In16By2(lanes) => assert_walk_over(rt, alloc, numbers, lanes, shop, manner),
-        LaneLayout::In16By3(lanes) => assert_walk_over(rt, alloc, numbers, lanes, shop, manner),
-        LaneLayout::In16By4(lanes) => assert_walk_over(rt, alloc, numbers, lanes, shop, manner),
-        LaneLayout::In16(lanes) => assert_walk_over(rt, alloc, numbers, lanes, shop, manner),
-        LaneLayout::In32(lanes) => assert_walk_over(rt, alloc, numbers, lanes, shop, manner),
-        LaneLayout::In64(lanes) => assert_walk_over(rt, alloc, numbers, lanes, shop, manner),
+        LaneLayout::In16By2(lanes) => assert_walk_over(rt, alloc, numbers, lanes, instance, manner),
+        LaneLayout::In16By3(lanes) => assert_walk_over(rt, alloc, numbers, lanes, instance, manner),
+        LaneLayout::In16By4(lanes) => assert_walk_over(rt, alloc, numbers, lanes, instance, manner),
+        LaneLayout::In16(lanes) => assert_walk_over(rt, alloc, numbers, lanes, instance, manner),
+        LaneLayout::In32(lanes) => assert_walk_over(rt, alloc, numbers, lanes, instance, manner),
+        LaneLayout::In64(lanes) => assert_walk_over(rt, alloc, numbers, lanes, instance, manner),
     }
 }
 
@@ -340,12 +340,14 @@ fn dispatches_children_in_copies_of_long_machines(rt: HostRuntime) {
 }
 
 /// How many jobs and machines, and the greatest time: of one to nine blocks a machine, in lanes of each width.
-static SQUARES: [(usize, usize, u32); 8] = [
+static SQUARES: [(usize, usize, u32); 10] = [
     (6, 6, 9),
     (10, 5, 9),
     (20, 5, 9),
     (20, 5, 0),
     (30, 4, 9),
+    (48, 3, 9),
+    (64, 3, 9),
     (68, 3, 9),
     (20, 5, 9_000),
     (15, 5, 1_000_000_000),

@@ -1,5 +1,6 @@
-// States filled from random words, each from the beginning of the one before: their candidates are the conflict sets of
-// the words. Jobs are finished early or late, are released late, and come back to machines.
+// States filled from random words, each from the beginning of the one before, and then from words that begin otherwise:
+// their candidates are the conflict sets of the words. Jobs are finished early or late, are released late, and come
+// back to machines.
 ghost use Rattle.std.specs.Prelude.{◌≡◌};
 
 use crate::long_machines::{LATEST, SHAPES, made};
@@ -60,6 +61,34 @@ fn assert_fill<D: Dispatching<S>, S: Drop>(
 }
 
 /// Fills a state from each beginning of a random word.
+fn assert_fills_along<D: Dispatching<S>, S: Drop>(
+    rt: &(impl Abort + AllocGlobal),
+    numbers: &mut Numbers,
+    dispatcher: &D,
+    instance: &Instance,
+    scratch: &mut D::Scratch,
+    state: &mut S,
+)
+    requires shop { D.shop dispatcher.now ≡ instance.now }
+    requires scratch { D.IsScratch dispatcher.now scratch.old }
+    requires state { D.IsSlot dispatcher.now state.old }
+    ensures scratch { D.IsScratch dispatcher.now scratch.new }
+    ensures state { D.IsSlot dispatcher.now state.new }
+{
+    let mut path = Vec::new(rt.alloc());
+    instance.keeps_limits();
+    let last = instance.jobs().saturating_sub(1) as u32;
+    for _ in 0..instance.operations() {
+        let job = numbers.up_to(last) as u16;
+        path.push(job).expect(rt, "memory");
+        let is_word = assert_fill(rt, dispatcher, instance, scratch, state, path.as_slice());
+        if !is_word {
+            path.pop();
+        }
+    }
+}
+
+/// Fills a state from each beginning of two random words.
 fn assert_fills<D: Dispatching<S>, S: Drop>(
     rt: &(impl Abort + AllocGlobal),
     numbers: &mut Numbers,
@@ -71,22 +100,12 @@ fn assert_fills<D: Dispatching<S>, S: Drop>(
     let alloc = rt.alloc();
     let mut scratch = dispatcher.scratch(alloc).expect(rt, "memory");
     let mut state = dispatcher.slot(alloc).expect(rt, "memory");
-    let mut path = Vec::new(alloc);
-    instance.keeps_limits();
-    let last = instance.jobs().saturating_sub(1) as u32;
-    for _ in 0..instance.operations() {
-        let job = numbers.up_to(last) as u16;
-        path.push(job).expect(rt, "memory");
-        let along = path.as_slice();
-        let is_word = assert_fill(rt, dispatcher, instance, &mut scratch, &mut state, along);
-        if !is_word {
-            path.pop();
-        }
-    }
+    assert_fills_along(rt, numbers, dispatcher, instance, &mut scratch, &mut state);
+    assert_fills_along(rt, numbers, dispatcher, instance, &mut scratch, &mut state);
 }
 
-/// Does what `assert_fills` does. For any lanes, so that what a fill needs of its state is proved once, not for each
-/// width.
+/// Does what `assert_fills` does. It is called for each width of lanes, so that what a fill needs of its state is
+/// proved once, for any lanes.
 fn assert_fills_over<L: StateLanes>(
     rt: &(impl Abort + AllocGlobal),
     numbers: &mut Numbers,

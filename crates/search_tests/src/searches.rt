@@ -4,9 +4,10 @@ ghost use Rattle.shop_nodes.specs.Nodes.{AreNodes};
 use crate::branches::node_of;
 use crate::instances::{CROSSING, GAP, ZEROS, instance_of};
 use crate::words::{assert_told, tell_nodes, tell_word};
+use shop_layout::Layout;
 use shop_model::Instance;
 use shop_nodes::{Piece, Sheet};
-use shop_tree::search;
+use shop_tree::{Searcher, search};
 use std::alloc::Global;
 use std::fmt::Write;
 use std::process::Abort;
@@ -99,5 +100,31 @@ fn assert_search(rt: &impl Abort, alloc: Global, row: &Search) {
 fn sheets_of_pieces(rt: HostRuntime) {
     for row in &SEARCHES {
         assert_search(&rt, rt.alloc(), row);
+    }
+}
+
+/// Asserts the sheet of a searcher that keeps at most `most` states for waiting children, and searches the piece twice.
+fn assert_search_with_states(rt: &impl Abort, alloc: Global, row: &Search, most: usize) {
+    let (text, words, best, budget, wanted) = *row;
+    let instance = instance_of(rt, alloc, text);
+    let piece = piece_of(rt, alloc, &instance, words);
+    let layout = Layout::of(alloc, &instance).expect(rt, "memory");
+    assert!(rt; budget <= 100);
+    let mut searcher = Searcher::with_states(&instance, &layout, most);
+    let first = searcher.search(alloc, &piece, best, budget);
+    let first = first.expect(rt, "memory");
+    let second = searcher.search(alloc, &piece, best, budget);
+    let second = second.expect(rt, "memory");
+    assert_told(rt, text, told_of(rt, alloc, &first).as_str(), wanted);
+    assert_told(rt, text, told_of(rt, alloc, &second).as_str(), wanted);
+}
+
+/// However few states a walk keeps, its sheets are the same.
+#[test]
+fn sheets_of_pieces_with_few_states(rt: HostRuntime) {
+    for row in &SEARCHES {
+        for most in [0, 1, 2] {
+            assert_search_with_states(&rt, rt.alloc(), row, most);
+        }
     }
 }

@@ -47,8 +47,9 @@ impl<G> BoardCrew<G> {
 
 impl<G: SeatGate + Sync> BoardCrew<G> {
     /// Does what `Crew::search` does, for a crew with a gate of any type: answers one entry for each piece of `round`,
-    /// in number order. Uses all workers of the crew, however short the round is. Fails with `NoMemory` if memory runs
-    /// out. Joins all workers before it returns or fails.
+    /// in number order. Uses all workers of the crew, or one for each piece if these are fewer; `Crew::search` may use
+    /// fewer, since it counts what a thread costs. Fails with `NoMemory` if memory runs out. Joins all workers before
+    /// it returns or fails.
     pub fn search_round<'r, R: Threads + Sync>(
         &self,
         rt: &R,

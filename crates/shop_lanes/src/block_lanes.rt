@@ -5,7 +5,7 @@ ghost use Rattle.shop_lanes.specs.inner.Passes.{IsPadded};
 
 use crate::blocks::Block;
 use crate::lane_rows::{HeadRange, LaneRows};
-use crate::leaps::{leap, leap_over};
+use crate::leaps::{leap, leap_any};
 use crate::marking::Marks;
 use crate::owning::own_spans;
 use crate::passes::{bits_up_to, first_least};
@@ -202,7 +202,7 @@ impl<B: Block, const EACH: usize> StateLanes for BlockLanes<B, EACH> {
         limit: u64,
     ) -> u64 {
         if count == 0 {
-            return leap_over::<B>(rows, range, most, limit);
+            return leap_any::<B>(rows, range, most, limit);
         }
         leap::<B>(8 * count, rows, range, most, limit)
     }

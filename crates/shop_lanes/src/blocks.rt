@@ -36,10 +36,12 @@ pub trait Block: Copy + Drop {
 
     ghost value: { Self.Number → ℕ };
 
+    /// The number as it stands in a lane.
     fn narrowed(number: u64) -> Self::Number
         requires { number ≤ GREATEST }
         ensures { value result ≡ number };
 
+    /// The number that stands in a lane.
     fn widened(number: Self::Number) -> u64
         ensures { result ≡ value number };
 
@@ -48,6 +50,7 @@ pub trait Block: Copy + Drop {
         requires { number ≤ GREATEST }
         ensures { IfOk result (λ row. map value row.items ≡ replicate count number) };
 
+    /// A block with `number` in each lane.
     fn splat(number: u64) -> Self
         requires { number ≤ GREATEST }
         ensures { numbers result ≡ replicate 8 number };
@@ -72,12 +75,13 @@ pub trait Block: Copy + Drop {
     fn moved(block: Self, how: Move) -> Self
         ensures { numbers result ≡ moved how (numbers block) };
 
+    /// Adds the numbers of `b` to those of `a`, lane by lane.
     fn sum(a: Self, b: Self) -> Self
         requires { AddsFit GREATEST (numbers a) (numbers b) }
         ensures { numbers result ≡ added (numbers a) (numbers b) };
 
     /// Subtracts the numbers of `b` from those of `a`, lane by lane; 0 in a lane where `b` is greater.
-    fn less(a: Self, b: Self) -> Self
+    fn difference(a: Self, b: Self) -> Self
         requires { length (numbers a) ≡ length (numbers b) }
         ensures { numbers result ≡ lessened (numbers a) (numbers b) };
 

@@ -99,7 +99,7 @@ impl Block for Block16 {
     }
 
     #[inline(always)]
-    fn less(a: Self, b: Self) -> Self {
+    fn difference(a: Self, b: Self) -> Self {
         Block16(a.0.simd_max(b.0).strict_sub(b.0))
     }
 
@@ -197,7 +197,7 @@ impl Block for Block32 {
     }
 
     #[inline(always)]
-    fn less(a: Self, b: Self) -> Self {
+    fn difference(a: Self, b: Self) -> Self {
         Block32(a.0.simd_max(b.0).strict_sub(b.0))
     }
 
@@ -295,7 +295,7 @@ impl Block for Block64 {
     }
 
     #[inline(always)]
-    fn less(a: Self, b: Self) -> Self {
+    fn difference(a: Self, b: Self) -> Self {
         Block64(a.0.simd_max(b.0).strict_sub(b.0))
     }
 

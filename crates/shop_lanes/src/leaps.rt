@@ -67,7 +67,7 @@ pub(crate) fn leap<B: Block>(
 /// Calls `leap` for any number of blocks, with a literal `count` for one to eight blocks (in lanes of 64 bits, for one
 /// to three). Kept out of line.
 #[inline(never)]
-pub(crate) fn leap_over<B: Block>(
+pub(crate) fn leap_any<B: Block>(
     rows: &LaneRows<B::Number>,
     range: HeadRange,
     most: u64,

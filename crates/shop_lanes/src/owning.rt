@@ -84,10 +84,10 @@ fn write_back<B: Block>(
         // which is taken off.
         let first = B::greater(ends.before, B::sum(ends.begins, noted));
         let late = B::sum(clocks, B::waiting(tail, head, one));
-        let rest = B::greater(first, B::less(behind, time));
+        let rest = B::greater(first, B::difference(behind, time));
         B::store(B::sum(B::sum(head, time), rest), owns, block);
         behind = B::greater(behind, late);
-        clocks = B::less(clocks, B::waiting(time, head, one));
+        clocks = B::difference(clocks, B::waiting(time, head, one));
     }
 }
 

@@ -8,9 +8,10 @@ use crate::lane_rows::{HeadRange, LaneRows};
 use crate::marking::Marks;
 use std::alloc::{AllocError as NoMemory, Global};
 
-/// The state of a word: the head of the operation at each position, 0 if no operation waits there, and the end of each
-/// job's next operation. Positions come in blocks of eight, read and added up together. Ranks run down the first lanes
-/// of all blocks of a machine, then down their second lanes, and so on.
+/// The state of a word: a head for each position, and the end of each job's next operation. A head is one higher than
+/// the operation at its position can begin, and 0 if no operation waits there; ends, and so spans, are one higher, too.
+/// Positions come in blocks of eight, read and added up together. Ranks run down the first lanes of all blocks of a
+/// machine, then down their second lanes, and so on.
 pub trait StateLanes: Drop {
     /// The time and the tail of the operation at each position, equal in all states.
     type Fixed: Drop;
@@ -64,6 +65,7 @@ pub trait StateLanes: Drop {
         ensures heads { heads self.new ≡ heads other.now }
         ensures ends { ends self.new ≡ ends other.now };
 
+    /// The head at `position`.
     fn head(&self, position: usize) -> u64
         requires { position < length (heads self.now) }
         ensures { result ≡ slice_index (heads self.now) position };
@@ -73,12 +75,14 @@ pub trait StateLanes: Drop {
         requires { position ≤ length (heads self.now) }
         ensures { result ≡ slice_index_or (heads self.now) position GREATEST };
 
+    /// Sets the head at `position`.
     fn set_head(&mut self, position: usize, head: u64)
         requires in_range { position < length (heads self.old) }
         requires fits { head ≤ GREATEST }
         ensures heads { heads self.new ≡ slice_set (heads self.old) position head }
         ensures ends { ends self.new ≡ ends self.old };
 
+    /// Sets the end of the next operation of `job`.
     fn set_end(&mut self, job: usize, end: u64)
         requires in_range { job < length (ends self.old) }
         requires fits { end ≤ GREATEST }
@@ -126,10 +130,12 @@ pub trait StateLanes: Drop {
         ensures { IsRaisedBelow limit
             (max most (spans_between range.above range.upto (lanes_in value rows.now))) result };
 
+    /// The number as it stands in a lane.
     fn narrowed(number: u64) -> Self::Number
         requires { number ≤ GREATEST }
         ensures { value result ≡ number };
 
+    /// The number that stands in a lane.
     fn widened(number: Self::Number) -> u64
         ensures { result ≡ value number };
 

@@ -21,7 +21,7 @@ pub struct LaidOut<'a, L: StateLanes> {
     grid: Box<Grid<L>>,
 }
 
-// Written by hand so that code that drops a layout calls this one function and does not drop each field itself.
+// Not derived: a derived `Drop` would be compiled anew into each function that has a layout.
 impl<L: StateLanes> Drop for LaidOut<'_, L> {
     fn drop(self) {
         let LaidOut {

@@ -84,6 +84,7 @@ pub struct Instance {
     given: Given,
 }
 
+// Not derived: a derived `Drop` would be compiled anew into each function that has an instance.
 impl Drop for Instance {
     fn drop(self) {
         let Instance {

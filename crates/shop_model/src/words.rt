@@ -21,7 +21,7 @@ pub struct Word {
     entries: Entries,
 }
 
-// Written by hand so that code that drops a word calls this one function and does not branch itself.
+// Not derived: a derived `Drop` would be compiled anew, branches included, into each function that has a word.
 impl Drop for Word {
     fn drop(self) {
         let Word { entries: _ } = self;

@@ -22,6 +22,7 @@ pub struct Left<'r> {
     untaken: &'r [Node],
 }
 
+// Not derived: a derived `Drop` would be compiled anew into each function that has what a search left.
 impl Drop for Left<'_> {
     fn drop(self) {
         let Left {

@@ -36,8 +36,8 @@ impl Node {
     }
 }
 
-/// A node whose word can share its jobs with other words. Searches leave open nodes in this form, and runs store them
-/// in it. It takes 24 bytes. Contracts see the node.
+/// A node whose word can share its jobs with other words: the form in which a run puts nodes into its store. It takes
+/// 24 bytes. Contracts see the node.
 #[derive(Drop)]
 pub struct SharedNode {
     word: SharedWord,

@@ -149,8 +149,8 @@ pub(crate) struct BoundRow {
     first: usize,
     /// how many nodes are put before `retire` counts again
     wait: usize,
-    /// Stacks that `retire` took out, kept until `keep_below` cuts the row. Their words lie all over the heap: if they
-    /// were freed at once, each later request of memory would take longer.
+    /// Stacks that `retire` took out, kept until the makespan falls to the row's length or below. Their words lie all
+    /// over the heap: if they were freed at once, each later request of memory would take longer.
     spent: Vec<Place>,
 }
 

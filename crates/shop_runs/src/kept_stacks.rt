@@ -52,8 +52,8 @@ fn count_taken(leasts: &mut Vec<Least>, bound: u64)
 }
 
 /// A stack of open nodes; `pop` takes the top one. A node takes 24 bytes. `leasts` has the bounds of nodes that have no
-/// lower bound below them, each bound once. The last of these is the least bound of all. Contracts see the list of nodes
-/// from the top down.
+/// lower bound below them, each bound once. The last of these is the least bound of all. Contracts see the list of
+/// nodes from the top down.
 #[derive(Drop)]
 pub(crate) struct KeptStack {
     nodes: Vec<SharedNode>,

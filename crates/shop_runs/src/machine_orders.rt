@@ -14,7 +14,7 @@ use std::alloc::{AllocError as NoMemory, Global};
 const MOST_OPERATIONS: usize = 400;
 
 /// From the bounds of how many words the order is made, at most. More tell little more.
-const WORDS: usize = 4;
+const MOST_WORDS: usize = 4;
 
 /// How many rounds are done before the one whose layout is made anew: its words tell more than the empty word, the only
 /// one of the first round.
@@ -39,7 +39,7 @@ fn add_bounds(
     Ok(())
 }
 
-/// Answers for each machine the sum of its one-machine bounds after some words of `pieces`, taken evenly. None
+/// Answers for each machine the sum of its one-machine bounds after some words of `pieces`, taken evenly. No sum
 /// has to be right. Fails with `NoMemory` if memory runs out.
 fn machine_keys(alloc: Global, instance: &Instance, pieces: &[Piece]) -> Result<Vec<u64>, NoMemory>
     requires { ArePieces instance.now pieces.now }
@@ -50,7 +50,7 @@ fn machine_keys(alloc: Global, instance: &Instance, pieces: &[Piece]) -> Result<
     for piece in pieces {
         count = count.saturating_add(piece.nodes.len());
     }
-    let apart = count / WORDS + 1;
+    let apart = count / MOST_WORDS + 1;
     let mut index = 0_usize;
     for piece in pieces {
         for node in &piece.nodes {

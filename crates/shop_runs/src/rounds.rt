@@ -58,9 +58,9 @@ impl<'r> Round<'r> {
         ensures cut { IfOk result (λ r. IsCutOf instance.now plan.now standing r) }
         ensures covers { IfOk result (λ r. CutCovers instance.now standing r) }
     {
-        let mut search = OpenRun::of(alloc, instance, plan.order, standing)?;
-        let mut round = search.cut(alloc, instance, None, plan)?;
-        let rest = search.open.take_all(alloc)?;
+        let mut open_run = OpenRun::of(alloc, instance, plan.order, standing)?;
+        let mut round = open_run.cut(alloc, instance, None, plan)?;
+        let rest = open_run.open.take_all(alloc)?;
         round.rest = rest;
         Ok(round)
     }

@@ -71,9 +71,10 @@ impl OpenRun {
     }
 
     /// Cuts the first open nodes off into at most 256 pieces, which take over the lists of the run's spare ones.
-    /// Answers their round, without a rest. The run's word moves into the round: until `next` sets it again, the run
-    /// has an empty one, and no spare pieces. The other open nodes stay. `layout_for` chooses the layout; `kept` is the
-    /// last round's, if there was one. Fails with `NoMemory` if memory runs out; the run is then of no use.
+    /// Answers the round of these pieces, without a rest. The run's word moves into the round: until `next` sets it
+    /// again, the run has an empty one, and no spare pieces. The other open nodes stay. `layout_for` chooses the
+    /// layout; `kept` is the last round's, if there was one. Fails with `NoMemory` if memory runs out; the run is then
+    /// of no use.
     pub(crate) fn cut<'r>(
         &mut self,
         alloc: Global,
@@ -167,15 +168,15 @@ impl OpenRun {
             (answer_of_plan instance.now (planned plan.now)) t) }
     {
         let start = Standing::start(alloc, instance)?;
-        let mut search = OpenRun::of(alloc, instance, plan.order, start)?;
+        let mut run = OpenRun::of(alloc, instance, plan.order, start)?;
         let mut layout = None;
         for done in 0..plan.rounds {
-            if search.open.is_empty() {
-                return Ok(search);
+            if run.open.is_empty() {
+                return Ok(run);
             }
-            layout = Some(search.next(rt, alloc, instance, plan, layout, crew)?);
+            layout = Some(run.next(rt, alloc, instance, plan, layout, crew)?);
         }
-        Ok(search)
+        Ok(run)
     }
 }
 

@@ -25,7 +25,7 @@ pub(crate) struct BoundRange {
 /// Makes the operation behind `position` on the route of `job` the job's next one, and sets that operation's end, plus
 /// one like heads in lanes: `GREATEST` if the job has no operation left.
 #[inline(always)]
-pub(crate) fn go_on<L: StateLanes>(
+pub(crate) fn set_next<L: StateLanes>(
     lanes: &mut L,
     next: &mut [u32],
     grid: &Grid<L>,
@@ -52,10 +52,10 @@ pub(crate) fn go_on<L: StateLanes>(
 
 /// Strikes the operation of `dispatch` out of the lanes of a word's state, or out of a copy of them, and raises the
 /// heads that its end delays. `next` has the word's next operations. Answers the bound of the extended word if it is
-/// below `range.limit`; then `go_on` completes its state. Else answers `None`. `range.least` is at most that bound, and
-/// at least the former word's bound and the operation's own span: how late the operation, and the others of its machine
-/// with their tails, end if it goes first. `ceilings` is empty, or has for each machine one more than a number that the
-/// extended word's bound there doesn't exceed.
+/// below `range.limit`; then `set_next` completes its state. Else answers `None`. `range.least` is at most that bound,
+/// and at least the former word's bound and the operation's own span: how late the operation, and the others of its
+/// machine with their tails, end if it goes first. `ceilings` is empty, or has for each machine one more than a number
+/// that the extended word's bound there doesn't exceed.
 #[inline(always)]
 pub(crate) fn advance_below<L: StateLanes>(
     lanes: &mut L,
@@ -128,14 +128,18 @@ pub(crate) fn dispatch_in_copy<L: StateLanes>(
     let bound = advance_below(&mut to.lanes, raises, ceilings, grid, next, dispatch, range)?;
     let copied = to.next.as_mut_slice();
     copied.copy_from_slice(next);
-    go_on(&mut to.lanes, copied, grid, job, position);
+    set_next(&mut to.lanes, copied, grid, job, position);
     Some(bound)
 }
 
-/// Dispatches the operation of `dispatch`, which was looked up in this state. Does what `advance_below` and `go_on` do,
-/// but bounds nothing, so that heads rise without notes.
+/// Dispatches the operation of `dispatch`, which was looked up in this state. Does what `advance_below` and `set_next`
+/// do, but bounds nothing, so that heads rise without notes.
 #[inline(always)]
-pub(crate) fn advance<L: StateLanes>(state: &mut State<L>, grid: &Grid<L>, dispatch: Dispatch)
+pub(crate) fn advance_unbounded<L: StateLanes>(
+    state: &mut State<L>,
+    grid: &Grid<L>,
+    dispatch: Dispatch,
+)
     requires is { IsDispatchOf grid.now (L.heads state.old.lanes) state.old.next.items dispatch }
     requires can { CanGoOn L.GREATEST grid.now (rows_in L.StateLanes grid.now state.old.lanes) state.old.next.items
         dispatch.job }
@@ -150,7 +154,7 @@ pub(crate) fn advance<L: StateLanes>(state: &mut State<L>, grid: &Grid<L>, dispa
     let next = state.next.as_mut_slice();
     lanes.set_head(position, 0);
     delay(lanes, grid, next, dispatch);
-    go_on(lanes, next, grid, job, position);
+    set_next(lanes, next, grid, job, position);
 }
 
 /// Dispatches the next operation of `job`, the only job in the conflict set. No head rises.
@@ -164,5 +168,5 @@ pub(crate) fn strike<L: StateLanes>(state: &mut State<L>, grid: &Grid<L>, job: u
     let next = state.next.as_mut_slice();
     let position = next[job] as usize;
     lanes.set_head(position, 0);
-    go_on(lanes, next, grid, job, position);
+    set_next(lanes, next, grid, job, position);
 }

@@ -99,7 +99,7 @@ impl Beginning {
 
     /// Extends the beginning to all but the last `LEFT_OUT` jobs of `path`, a word that starts with the beginning,
     /// unless it is longer already.
-    fn go_on<L: StateLanes>(&mut self, laid_out: &LaidOut<L>, path: &[u16])
+    fn extend<L: StateLanes>(&mut self, laid_out: &LaidOut<L>, path: &[u16])
         requires is { IsBeginningOf laid_out.now.shop laid_out.now.layout self.old }
         requires begins { Begins path.now self.old }
         requires word { IsWord laid_out.now.shop path.now }
@@ -139,7 +139,7 @@ impl Beginning {
             laid_out.now.layout next_legs.new ready.new free.new }
     {
         self.keep_for(laid_out, path);
-        self.go_on(laid_out, path);
+        self.extend(laid_out, path);
         next_legs.copy_from_slice(self.next_legs.as_slice());
         ready.copy_from_slice(self.ready.as_slice());
         free.copy_from_slice(self.free.as_slice());

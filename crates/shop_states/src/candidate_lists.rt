@@ -19,7 +19,7 @@ use shop_layout::Grid;
 
 /// Appends the candidates of the marked `jobs` whose `own` is below `limit`, and answers how many jobs are left out.
 /// `owns[i]` is the own span of the operation at position `first` + `i`: how late it, and the others of its machine
-/// with their tails, end if it goes first.
+/// with their tails, end if it goes first. Own spans are one higher, like heads in lanes; `own` is not.
 #[inline(always)]
 fn list_marked<L: StateLanes>(
     candidates: &mut Vec<Candidate>,
@@ -67,9 +67,9 @@ pub(crate) struct FirstEnd {
 
 /// Fills the empty list with the candidates of the conflict set in `blocks` whose `own` is below `limit`, and answers
 /// how many jobs are left out. `owns` holds the own spans from the first of these blocks on. The set has a bit for each
-/// job, in `WORDS` numbers of 64 bits.
+/// job, in `NUMBERS` numbers of 64 bits.
 #[inline(always)]
-fn list_conflict_set<const WORDS: usize, L: StateLanes>(
+fn list_conflict_set<const NUMBERS: usize, L: StateLanes>(
     candidates: &mut Vec<Candidate>,
     owns: &[L::Number],
     state: &State<L>,
@@ -79,8 +79,8 @@ fn list_conflict_set<const WORDS: usize, L: StateLanes>(
 ) -> usize
     requires can { CanList L.GREATEST grid.now (rows_in L.StateLanes grid.now state.now.lanes) state.now.next.items
         blocks (length owns.now) }
-    requires words { WORDS ≤ 16 }
-    requires fits { length state.now.next.items ≤ 64 * WORDS }
+    requires numbers { NUMBERS ≤ 16 }
+    requires fits { length state.now.next.items ≤ 64 * NUMBERS }
     requires none { candidates.old.items ≡ [] }
     requires room { length state.now.next.items ≤ vec_capacity candidates.old }
     ensures listed { ListsGathered limit (told_at state.now.next.items (8 * blocks.from) (map L.value owns.now))
@@ -90,11 +90,11 @@ fn list_conflict_set<const WORDS: usize, L: StateLanes>(
 {
     let next = state.next.as_slice();
     let first = 8 * blocks.from;
-    let set = conflict_set::<WORDS, L>(blocks, &state.lanes, grid);
-    let words = set.words();
+    let set = conflict_set::<NUMBERS, L>(blocks, &state.lanes, grid);
+    let numbers = set.numbers();
     let mut others = 0;
-    for word in 0..words.len() {
-        let jobs = Marks::new(BITS * word, words[word]);
+    for index in 0..numbers.len() {
+        let jobs = Marks::new(BITS * index, numbers[index]);
         others += list_marked::<L>(candidates, jobs, next, first, owns, limit);
     }
     others

@@ -1,7 +1,9 @@
 // Implements `Dispatching` for a layout, with states in lanes of one width.
 ghost use Rattle.std.specs.Prelude.{◌≡◌, ◌^◌, length, max, min};
 
-use crate::advances::{BoundRange, advance, advance_below, dispatch_in_copy, go_on, strike};
+use crate::advances::{
+    BoundRange, advance_below, advance_unbounded, dispatch_in_copy, set_next, strike,
+};
 use crate::beginnings::Beginning;
 use crate::candidate_lists::list_candidates;
 use crate::dispatches::Dispatch;
@@ -82,7 +84,7 @@ impl<'a, L: StateLanes> Dispatching<State<L>> for LaidOut<'a, L> {
     }
 
     fn fill(&self, scratch: &mut Scratch<L>, path: &[u16], state: &mut State<L>) {
-        // its promise: the layout differs from the instance in the numbers of machines alone
+        // called for its contract: the layout differs from the instance in the numbers of machines alone
         let _ = self.grid();
         let next = state.next.as_mut_slice();
         let ready = scratch.ready.as_mut_slice();
@@ -129,7 +131,7 @@ impl<'a, L: StateLanes> Dispatching<State<L>> for LaidOut<'a, L> {
         let lanes = &mut state.lanes;
         let next = state.next.as_slice();
         let told = advance_below(lanes, &mut scratch.raises, &[], grid, next, dispatch, range)?;
-        go_on(lanes, state.next.as_mut_slice(), grid, job, position);
+        set_next(lanes, state.next.as_mut_slice(), grid, job, position);
         Some(told)
     }
 
@@ -196,7 +198,7 @@ impl<'a, L: StateLanes> Dispatching<State<L>> for LaidOut<'a, L> {
     ) -> bool {
         let grid = self.grid();
         let dispatch = Dispatch::of(state, grid, candidate.job as usize);
-        advance(state, grid, dispatch);
+        advance_unbounded(state, grid, dispatch);
         true
     }
 

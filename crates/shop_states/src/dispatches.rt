@@ -7,7 +7,7 @@ use crate::states::State;
 use shop_lanes::{Marks, StateLanes};
 use shop_layout::Grid;
 
-/// The most blocks that are marked at once.
+/// The most blocks that are marked at once: `Marks` has a bit for each of their 64 positions.
 pub(crate) const MOST_MARKED: usize = 8;
 
 /// A dispatch of an operation, the next one of `job`. Its `end` is one higher, like heads in lanes. `delayed` marks
@@ -34,11 +34,10 @@ fn mark_below<L: StateLanes>(lanes: &L, grid: &Grid<L>, machine: usize, end: u64
 }
 
 impl Dispatch {
-    /// Looks up the next operation of `job`, and marks what its end delays. `state` is the state of a word: the one in
-    /// which the operation is dispatched, or the one that this is to be a copy of. A wide load of heads that were just
-    /// written, one by one or by the copy, waits until they have left the processor's store buffer, and heads that lay
-    /// still load at once. So who dispatches in a copy looks up the dispatch before it copies. The operation itself
-    /// waits, and is unmarked by three instructions.
+    /// Looks up the next operation of `job`, and marks what its end delays. `state` is the state in which the operation
+    /// is dispatched or, for a dispatch in a copy, the one to be copied. The look-up then has to come before the copy:
+    /// it reads eight heads at once, and a processor delays such a read if the heads were only just written. The
+    /// operation itself is marked at first, unless its time is 0, since it can begin before its own end.
     #[inline(always)]
     pub(crate) fn of<L: StateLanes>(state: &State<L>, grid: &Grid<L>, job: usize) -> Dispatch
         requires { CanGoOn L.GREATEST grid.now (rows_in L.StateLanes grid.now state.now.lanes)

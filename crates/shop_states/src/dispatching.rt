@@ -37,7 +37,7 @@ pub trait Dispatching<S: Drop> {
     ghost IsCandidate: { Self → List ℕ → Candidate → Type 0 };
 
     /// Says that scratch room holds what bounds the child of a word by a job.
-    ghost KnowsChild: { Self → Self.Scratch → List ℕ → ℕ → Type 0 } = { λ _ _ _ _. Unit {0} };
+    ghost KnowsChild: { Self → Self.Scratch → List ℕ → ℕ → Type 0 };
 
     /// Makes scratch room. Fails with `NoMemory` if memory runs out.
     fn scratch(&self, alloc: Global) -> Result<Self::Scratch, NoMemory>
@@ -55,7 +55,7 @@ pub trait Dispatching<S: Drop> {
         ensures state { IsStateOf self.now path.now state.new }
         ensures scratch { IsScratch self.now scratch.new };
 
-    /// Makes `to` a copy of `from`.
+    /// Makes `to` a copy of `from`. For tests and other walks: the program copies where it dispatches.
     fn copy(&self, from: &S, to: &mut S)
         requires from { IsSlot self.now from.now }
         requires to { IsSlot self.now to.old }
@@ -132,11 +132,7 @@ pub trait Dispatching<S: Drop> {
         ensures slot { IsSlot self.now to.new }
         ensures scratch { IsScratch self.now scratch.new }
         ensures kept { (w : List ℕ) (j : ℕ) → KnowsChild self.now scratch.old w j
-            → KnowsChild self.now scratch.new w j }
-    {
-        self.copy(from, to);
-        self.dispatch_below(scratch, to, candidate, bound, limit)
-    }
+            → KnowsChild self.now scratch.new w j };
 
     /// Bounds all children of the word of `state` together, before any candidate is dispatched. `bound` is the bound of
     /// that word, and `list_candidates` listed the candidates. Answers a number: if `bound` or the `own` of a candidate
@@ -144,31 +140,28 @@ pub trait Dispatching<S: Drop> {
     /// be bounded alone. Uses up `room`, and leaves in `scratch` what `dispatch_child_in_copy` needs.
     fn bound_children(
         &self,
-        _scratch: &mut Self::Scratch,
-        _state: &S,
-        _room: &mut S,
-        _candidates: &[Candidate],
-        _bound: u64,
+        scratch: &mut Self::Scratch,
+        state: &S,
+        room: &mut S,
+        candidates: &[Candidate],
+        bound: u64,
     ) -> Option<u64>
-        requires scratch { IsScratch self.now _scratch.old }
-        requires room { IsSlot self.now _room.old }
-        requires can { HasListed (shop self.now) (λ w. IsStateOf self.now w _state.now)
-            (IsCandidate self.now) _candidates.now _bound }
+        requires scratch { IsScratch self.now scratch.old }
+        requires room { IsSlot self.now room.old }
+        requires can { HasListed (shop self.now) (λ w. IsStateOf self.now w state.now)
+            (IsCandidate self.now) candidates.now bound }
         ensures settled { IfSome result (λ top. (w : List ℕ) (limit others : ℕ)
-            → IsStateOf self.now w _state.now → _bound ≡ lb (shop self.now) w
+            → IsStateOf self.now w state.now → bound ≡ lb (shop self.now) w
             → ListsBelow (shop self.now) w limit (IsCandidate self.now w)
-            (conflict (shop self.now) w) _candidates.now others
-            → Settles (shop self.now) w _bound top _candidates.now) }
+            (conflict (shop self.now) w) candidates.now others
+            → Settles (shop self.now) w bound top candidates.now) }
         ensures known { IfSome result (λ top. (w : List ℕ) (limit others : ℕ)
-            → IsStateOf self.now w _state.now → _bound ≡ lb (shop self.now) w
+            → IsStateOf self.now w state.now → bound ≡ lb (shop self.now) w
             → ListsBelow (shop self.now) w limit (IsCandidate self.now w)
-            (conflict (shop self.now) w) _candidates.now others
-            → All (λ c. KnowsChild self.now _scratch.new w c.job) _candidates.now) }
-        ensures room { IsSlot self.now _room.new }
-        ensures scratch { IsScratch self.now _scratch.new }
-    {
-        None
-    }
+            (conflict (shop self.now) w) candidates.now others
+            → All (λ c. KnowsChild self.now scratch.new w c.job) candidates.now) }
+        ensures room { IsSlot self.now room.new }
+        ensures scratch { IsScratch self.now scratch.new };
 
     /// Dispatches the next operation of `candidate.job` in `to`, made a copy of `from`, and answers as `dispatch_below`
     /// does, in fewer steps, with what `bound_children` left in `scratch`.
@@ -193,10 +186,7 @@ pub trait Dispatching<S: Drop> {
         ensures slot { IsSlot self.now to.new }
         ensures scratch { IsScratch self.now scratch.new }
         ensures kept { (w : List ℕ) (j : ℕ) → KnowsChild self.now scratch.old w j
-            → KnowsChild self.now scratch.new w j }
-    {
-        self.dispatch_below_in_copy(scratch, from, to, candidate, bound, limit)
-    }
+            → KnowsChild self.now scratch.new w j };
 
     /// Dispatches the next operation of `candidate.job` after `bound_children`, where the bound of the extended word is
     /// known already, so that nothing need be bounded. Answers whether `state` is that of the extended word now; else
@@ -217,11 +207,7 @@ pub trait Dispatching<S: Drop> {
         ensures slot { IsSlot self.now state.new }
         ensures scratch { IsScratch self.now scratch.new }
         ensures kept { (w : List ℕ) (j : ℕ) → KnowsChild self.now scratch.old w j
-            → KnowsChild self.now scratch.new w j }
-    {
-        self.dispatch_below(scratch, state, candidate, bound, limit)
-            .is_some()
-    }
+            → KnowsChild self.now scratch.new w j };
 
     /// Law: the state of a word also has room for any other state.
     ghost state_is_slot: { (d : Self) (w : List ℕ) (s : S) → IsStateOf d w s → IsSlot d s };

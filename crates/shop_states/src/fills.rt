@@ -96,7 +96,7 @@ pub(crate) fn fill_state<L: StateLanes>(
         → IsKeptInLanes L.GREATEST laid_out.now.shop w laid_out.now.layout
         (rows_in L.StateLanes laid_out.now.layout lanes.new) next.new }
 {
-    // its promise: the lanes hold every head and end
+    // called for its contract: the lanes hold every head and end
     let _ = laid_out.grid();
     lanes.clear();
     for job in 0..next.len() {

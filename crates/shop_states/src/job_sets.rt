@@ -7,47 +7,49 @@ use std::marker::Model;
 /// How many jobs each number of a set stands for, one bit a job.
 pub(crate) const BITS: usize = 64;
 
-/// A set of jobs below 64 * `WORDS`. Its value in contracts is the ascending list of its jobs.
+/// A set of jobs below 64 * `NUMBERS`. Its value in contracts is the ascending list of its jobs.
 #[derive(Drop)]
-pub(crate) struct JobSet<const WORDS: usize> {
-    words: [u64; WORDS],
+pub(crate) struct JobSet<const NUMBERS: usize> {
+    numbers: [u64; NUMBERS],
 }
 
-impl<const WORDS: usize> Model for JobSet<WORDS> {
+impl<const NUMBERS: usize> Model for JobSet<NUMBERS> {
     ghost Value = { List ℕ };
 
-    ghost view = { λ s. members 0 s.words };
+    ghost view = { λ s. members 0 s.numbers };
 
-    ghost invariant = { λ s. length s.words ≡ WORDS };
+    ghost invariant = { λ s. length s.numbers ≡ NUMBERS };
 }
 
-impl<const WORDS: usize> JobSet<WORDS> {
+impl<const NUMBERS: usize> JobSet<NUMBERS> {
     /// Makes the empty set.
     #[inline(always)]
     pub(crate) fn new() -> Self
         ensures { result ≡ [] }
     {
-        JobSet { words: [0; WORDS] }
+        JobSet {
+            numbers: [0; NUMBERS],
+        }
     }
 
     /// Puts a job into the set.
     #[inline(always)]
     pub(crate) fn put(&mut self, job: usize)
-        requires { job < 64 * WORDS }
+        requires { job < 64 * NUMBERS }
         ensures { HasPut job self.old self.new }
     {
         // a set of one number needs no division
-        let word = if WORDS == 1 { 0 } else { job / BITS };
-        self.words[word] |= 1 << (job % BITS);
+        let index = if NUMBERS == 1 { 0 } else { job / BITS };
+        self.numbers[index] |= 1 << (job % BITS);
     }
 
     /// Answers the set as bits, 64 jobs to each number, lowest job first.
     #[inline(always)]
-    pub(crate) fn words(&self) -> &[u64]
+    pub(crate) fn numbers(&self) -> &[u64]
         ensures members { members 0 result.now ≡ self.now }
-        ensures many { length result.now ≡ WORDS }
+        ensures many { length result.now ≡ NUMBERS }
     {
-        &self.words
+        &self.numbers
     }
 
     /// Proves that the value of a set lists its jobs in ascending order. Does nothing when called.
@@ -55,6 +57,6 @@ impl<const WORDS: usize> JobSet<WORDS> {
     pub(crate) fn rises(&self)
         ensures { Rises self.now }
     {
-        let _ = &self.words;
+        let _ = &self.numbers;
     }
 }

@@ -44,7 +44,7 @@ pub(crate) fn span_of_rows<L: StateLanes>(
 
 /// Tells whether the ceiling of `machine`, if it has one, is at most `most`.
 #[inline(always)]
-fn is_under(ceilings: &[u64], machine: usize, most: u64) -> bool
+fn is_ceiling_within(ceilings: &[u64], machine: usize, most: u64) -> bool
     ensures { IsTrue result → (machine < length ceilings.now) × (slice_index ceilings.now machine ≤ most) }
 {
     machine < ceilings.len() && ceilings[machine] <= most
@@ -76,7 +76,7 @@ pub(crate) fn take_spans_of<L: StateLanes>(
     let mut left = raised;
     while let Some(machine) = left.pop_first() {
         let raise = take_raise::<L>(raises, machine);
-        if !is_under(ceilings, machine, most) {
+        if !is_ceiling_within(ceilings, machine, most) {
             let (from, to) = laid.grid.blocks_of(each, machine);
             most = span_of_rows::<L>(each, &rows.blocks(from, to), raise, most, limit);
         }

@@ -23,13 +23,13 @@ pub(crate) struct ConflictBlocks {
 
 /// Puts the job of each position in `marked` into `jobs`.
 #[inline(always)]
-fn gather_marked<const WORDS: usize, L: StateLanes>(
-    jobs: &mut JobSet<WORDS>,
+fn gather_marked<const NUMBERS: usize, L: StateLanes>(
+    jobs: &mut JobSet<NUMBERS>,
     marked: Marks,
     grid: &Grid<L>,
 )
     requires known { (q : ℕ) → IsIn marked q → q < length grid.now.jobs }
-    requires jobs { HaveJobs grid.now (length grid.now.jobs) (64 * WORDS) }
+    requires jobs { HaveJobs grid.now (length grid.now.jobs) (64 * NUMBERS) }
     ensures { HasGathered (IsJobAt grid.now marked) jobs.old jobs.new }
 {
     let mut left = marked;
@@ -85,14 +85,14 @@ pub(crate) fn is_alone<L: StateLanes>(blocks: &ConflictBlocks, lanes: &L, positi
 /// a head below the end of the chosen one. Each of these operations is its job's next one, since no next operation can
 /// end earlier.
 #[inline(always)]
-pub(crate) fn conflict_set<const WORDS: usize, L: StateLanes>(
+pub(crate) fn conflict_set<const NUMBERS: usize, L: StateLanes>(
     blocks: ConflictBlocks,
     lanes: &L,
     grid: &Grid<L>,
-) -> JobSet<WORDS>
+) -> JobSet<NUMBERS>
     requires blocks { AreConflictBlocks L.GREATEST (L.heads lanes.now) blocks }
-    requires jobs { HaveJobs grid.now (length (L.heads lanes.now)) (64 * WORDS) }
-    requires chosen { blocks.chosen < 64 * WORDS }
+    requires jobs { HaveJobs grid.now (length (L.heads lanes.now)) (64 * NUMBERS) }
+    requires chosen { blocks.chosen < 64 * NUMBERS }
     ensures { IsGatheredWith blocks.chosen (IsJobBelow grid.now (L.heads lanes.now)
         (IsInBlocks blocks.from blocks.behind) blocks.end) result }
 {

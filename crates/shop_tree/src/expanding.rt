@@ -71,7 +71,7 @@ impl<'l, 'a, D: Dispatching<S>, S: Drop> Walker<'l, 'a, D, S> {
             self.take_job(candidate.job);
             return Ok(Some(bound));
         }
-        let Some(bound) = self.states.advance(candidate, bound, self.best) else {
+        let Some(bound) = self.states.dispatch_below(candidate, bound, self.best) else {
             self.close(closed + 1)?;
             return Ok(None);
         };
@@ -140,7 +140,7 @@ impl<'l, 'a, D: Dispatching<S>, S: Drop> Walker<'l, 'a, D, S> {
     /// Keeps the current word, which is full, as the word found, and its bound `bound` as the best makespan. Fails with
     /// `NoMemory` if memory runs out.
     #[inline(never)]
-    fn find(&mut self, alloc: Global, bound: u64) -> Result<(), NoMemory>
+    fn keep_found(&mut self, alloc: Global, bound: u64) -> Result<(), NoMemory>
         requires full { self.old.operations ≤ length self.old.path.items }
         requires at { StandsAt self.old bound }
         ensures expanded { OnOk result (HasExpanded (stage_of self.old) (stage_of self.new)) }
@@ -170,6 +170,6 @@ impl<'l, 'a, D: Dispatching<S>, S: Drop> Walker<'l, 'a, D, S> {
             };
             bound = next;
         }
-        self.find(alloc, bound)
+        self.keep_found(alloc, bound)
     }
 }

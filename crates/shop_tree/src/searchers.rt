@@ -16,7 +16,7 @@ use std::marker::Model;
 type WalkerIn<'l, 'a, L> = Walker<'l, 'a, LaidOut<'a, L>, State<L>>;
 
 // `LaneWalker` calls these for each of its lanes, and not the walk's own functions: so what a walk needs of its states,
-// how to let go of them among it, is proved once, for any lanes, and not for each.
+// letting go of them included, is proved once for any lanes, not once for each.
 
 /// Makes a walk like `Walker::new`.
 #[inline(always)]

@@ -41,7 +41,8 @@ pub(crate) struct WalkStates<'l, D: Dispatching<S>, S: Drop> {
 }
 
 impl<'l, D: Dispatching<S>, S: Drop> WalkStates<'l, D, S> {
-    /// Makes a walk's states, at most `most` for waiting children. Fails with `NoMemory` if memory runs out.
+    /// Makes the current state and the trial's. Allows at most `most` further states, for waiting children, which are
+    /// allocated when they are needed. Fails with `NoMemory` if memory runs out.
     pub(crate) fn new(
         alloc: Global,
         dispatcher: &'l D,
@@ -102,7 +103,12 @@ impl<'l, D: Dispatching<S>, S: Drop> WalkStates<'l, D, S> {
     /// Dispatches `candidate` in the current state. Answers the child's bound if it is below `limit`; else answers
     /// `None`, and the current state is no word's state any more. `bound` is the bound of the word before the dispatch.
     #[inline(always)]
-    pub(crate) fn advance(&mut self, candidate: Candidate, bound: u64, limit: u64) -> Option<u64>
+    pub(crate) fn dispatch_below(
+        &mut self,
+        candidate: Candidate,
+        bound: u64,
+        limit: u64,
+    ) -> Option<u64>
         requires sound { HoldSlots D.Dispatching self.old }
         requires can { CanTake D.Dispatching self.old candidate bound }
         ensures sound { KeepSlots D.Dispatching self.old self.new }

@@ -24,7 +24,7 @@ const TOGETHER: usize = 36;
 pub(crate) struct Walker<'l, 'a, D: Dispatching<S>, S: Drop> {
     pub(crate) instance: &'a Instance,
     pub(crate) operations: usize,
-    /// `TOGETHER` for all machines
+    /// `TOGETHER` times the number of machines, to compare with candidates times operations left on all machines
     pub(crate) together: usize,
     pub(crate) found: Option<Word>,
     pub(crate) best: u64,
@@ -49,7 +49,7 @@ impl<'l, 'a, D: Dispatching<S>, S: Drop> Walker<'l, 'a, D, S> {
 
     /// Makes a walk for pieces of the dispatcher's instance, with at most `most` states for waiting children. Fails
     /// with `NoMemory` if memory runs out.
-    // out of line, so that the walks of six kinds of lanes share its stack
+    // out of line: a caller with one inlined body for each of six kinds of lanes would take six times the stack memory
     #[inline(never)]
     pub(crate) fn new(
         alloc: Global,

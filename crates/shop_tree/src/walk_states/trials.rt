@@ -30,7 +30,7 @@ impl<'l, D: Dispatching<S>, S: Drop> WalkStates<'l, D, S> {
         ensures current { is_last ≡ false → self.new.current.value ≡ self.old.current.value }
     {
         if is_last {
-            let child = self.advance(candidate, bound, limit);
+            let child = self.dispatch_below(candidate, bound, limit);
             mem::swap(&mut self.current, &mut self.trial);
             return child;
         }
@@ -78,7 +78,7 @@ impl<'l, D: Dispatching<S>, S: Drop> WalkStates<'l, D, S> {
     /// Dispatches the candidate of `branching` with this `job` in the current state itself, after `bound_children`. The
     /// bound of its child is known already, and is below the limit. Answers whether the current state is the child's
     /// now; else it may be no word's state any more.
-    pub(crate) fn advance_to(&mut self, job: u16, branching: &Branching<'_>) -> bool
+    pub(crate) fn dispatch_settled(&mut self, job: u16, branching: &Branching<'_>) -> bool
         requires sound { HoldSlots D.Dispatching self.old }
         requires can { All (λ c. CanTakeKnown D.Dispatching self.old c branching.now.bound)
             branching.now.candidates.now }
@@ -148,7 +148,8 @@ impl<'l, D: Dispatching<S>, S: Drop> WalkStates<'l, D, S> {
             (HasPutAll D.Dispatching self.old branching.now stack.old.items stack.new.items) }
     {
         if let Some(top) = self.bound_children(branching) {
-            // A record of its own: the caller's is then never written to memory.
+            // `settle_candidates` isn't inlined, and reads its record from memory. It gets a copy, so that the record
+            // that the caller made can stay in registers.
             let branching = *branching;
             return self.settle_candidates(alloc, stack, &branching, top);
         }
@@ -157,19 +158,19 @@ impl<'l, D: Dispatching<S>, S: Drop> WalkStates<'l, D, S> {
         let candidates = branching.candidates;
         let from = stack.len();
         let depth = branching.word.len() as u32;
-        let mut others = branching.closed;
+        let mut closed = branching.closed;
         // Tries the last job first, so that of equal bounds the lower job lies above.
         for index in (0..candidates.len()).rev() {
             let candidate = candidates[index];
             let is_last = index == 0;
             let Some(bound) = self.try_candidate(candidate, is_last, bound, limit) else {
-                others += 1;
+                closed += 1;
                 continue;
             };
             let job = candidate.job;
             self.put_tried(alloc, stack, from, Open { depth, job, bound })?;
         }
-        Ok(others)
+        Ok(closed)
     }
 
     /// Gives the child on top of the stack a state, if the child lies from index `from` on and has none, and another
@@ -196,7 +197,7 @@ impl<'l, D: Dispatching<S>, S: Drop> WalkStates<'l, D, S> {
         let Some(child) = bare_top(stack, from) else {
             return Ok(());
         };
-        if !self.advance_to(child.job, branching) {
+        if !self.dispatch_settled(child.job, branching) {
             return Ok(());
         }
         let Some(spare) = self.spare_state(alloc)? else {
@@ -208,11 +209,11 @@ impl<'l, D: Dispatching<S>, S: Drop> WalkStates<'l, D, S> {
     }
 
     /// Does what `try_candidates` does, after `bound_children` answered `top`. A child is settled if the bound of
-    /// `branching` or its own number reaches `top`: the greater of the two is then its bound, as a trial would find. A
-    /// settled child goes on the stack without a trial and without a state. Only the child that ends on top, which is
-    /// walked next, gets a state, by a dispatch in the current one; if another settled child's turn comes, its state is
-    /// filled from its word. The children that aren't settled are tried in copies, since the current state is needed to
-    /// the end. Fails with `NoMemory` if memory runs out.
+    /// `branching` or the candidate's `own` reaches `top`: the greater of the two is then its bound, as a trial would
+    /// find. A settled child goes on the stack without a trial and without a state. Only the child that ends on top,
+    /// which is walked next, gets a state, by a dispatch in the current one; if another settled child's turn comes, its
+    /// state is filled from its word. The children that aren't settled are tried in copies, since the current state is
+    /// needed to the end. Fails with `NoMemory` if memory runs out.
     #[inline(never)]
     pub(crate) fn settle_candidates(
         &mut self,
@@ -233,28 +234,28 @@ impl<'l, D: Dispatching<S>, S: Drop> WalkStates<'l, D, S> {
         let candidates = branching.candidates;
         let from = stack.len();
         let depth = branching.word.len() as u32;
-        let mut others = branching.closed;
+        let mut closed = branching.closed;
         // The last job first, as in `try_candidates`.
         for index in (0..candidates.len()).rev() {
             let candidate = candidates[index];
             let job = candidate.job;
-            let settled = bound.max(candidate.own);
-            if top <= settled {
-                if settled < limit {
-                    let bound = settled;
+            let least = bound.max(candidate.own);
+            if top <= least {
+                if least < limit {
+                    let bound = least;
                     put(stack, from, Open { depth, job, bound }, None)?;
                 } else {
-                    others += 1;
+                    closed += 1;
                 }
                 continue;
             }
             let Some(bound) = self.try_child(candidate, bound, limit) else {
-                others += 1;
+                closed += 1;
                 continue;
             };
             self.put_tried(alloc, stack, from, Open { depth, job, bound })?;
         }
         self.give_current(alloc, stack, from, branching)?;
-        Ok(others)
+        Ok(closed)
     }
 }

@@ -36,7 +36,7 @@ sum-requires-in-loop-block g c =
 pub sum-requires-in-loop-block-2 : goal.sum-requires-in-loop-block-2
 sum-requires-in-loop-block-2 g c =
     let cols = columns_in g.B.Block.value c.args.rows.now c.args.count c.requires.count c.requires.can.whole_blocks
-    in rw (c.sum-in-loop-block.ensures, c.greater-rest.ensures, c.less.ensures)
+    in rw (c.sum-in-loop-block.ensures, c.greater-rest.ensures, c.difference.ensures)
     (ends_fit cols c.requires.can.fits (c.loop-block.block - 1) (omega (arith, c.loop-block-test.true))
     c.loop-block.invariant c.load-head.ensures c.load-time.ensures c.load-tail.ensures c.load-noted.ensures
     c.splat-one.ensures c.requires.ends.begins c.requires.ends.before c.sum.ensures c.greater-first.ensures)
@@ -48,7 +48,7 @@ store-requires-clause-eight g c =
     (omega (arith, c.loop-block-test.true)) c.loop-block.invariant c.load-head.ensures c.load-time.ensures
     c.load-tail.ensures c.load-noted.ensures c.splat-one.ensures c.requires.ends.begins c.requires.ends.before
     c.sum.ensures c.greater-first.ensures
-    (own_told _ _ _ _ c.sum-in-loop-block.ensures c.less.ensures c.greater-rest.ensures c.sum-in-loop-block-2.ensures))
+    (own_told _ _ _ _ c.sum-in-loop-block.ensures c.difference.ensures c.greater-rest.ensures c.sum-in-loop-block-2.ensures))
 
 pub sum-late-requires : goal.sum-late-requires
 sum-late-requires g c =
@@ -66,8 +66,8 @@ greater-behind-requires g c =
     c.load-tail.ensures c.load-noted.ensures c.splat-one.ensures c.requires.ends.begins c.requires.ends.before
     c.sum.ensures c.greater-first.ensures c.waiting.ensures c.sum-late.ensures))
 
-pub less-clocks-requires : goal.less-clocks-requires
-less-clocks-requires g c =
+pub difference-clocks-requires : goal.difference-clocks-requires
+difference-clocks-requires g c =
     let cols = columns_in g.B.Block.value c.args.rows.now c.args.count c.requires.count c.requires.can.whole_blocks
     in ap length c.loop-block.invariant.clocks_are ∙ sym (ap length
     (served_eight cols c.requires.can.fits (c.loop-block.block - 1) (omega (arith, c.loop-block-test.true))
@@ -81,9 +81,9 @@ loop-block-preserved g c =
     in back_more cols c.requires.can.fits (c.loop-block.block - 1) (omega (arith, c.loop-block-test.true))
     c.loop-block.invariant c.load-head.ensures c.load-time.ensures c.load-tail.ensures c.load-noted.ensures
     c.splat-one.ensures c.requires.ends.begins c.requires.ends.before c.sum.ensures c.greater-first.ensures
-    (own_told _ _ _ _ c.sum-in-loop-block.ensures c.less.ensures c.greater-rest.ensures c.sum-in-loop-block-2.ensures)
+    (own_told _ _ _ _ c.sum-in-loop-block.ensures c.difference.ensures c.greater-rest.ensures c.sum-in-loop-block-2.ensures)
     c.waiting.ensures c.sum-late.ensures c.waiting-in-loop-block.ensures c.store.ensures c.greater-behind.ensures
-    c.less-clocks.ensures
+    c.difference-clocks.ensures
 
 pub greater-rest-requires : goal.greater-rest-requires
 greater-rest-requires g c =
@@ -91,7 +91,7 @@ greater-rest-requires g c =
     in rest_long cols c.requires.can.fits (c.loop-block.block - 1) (omega (arith, c.loop-block-test.true))
     c.loop-block.invariant c.load-head.ensures c.load-time.ensures c.load-tail.ensures c.load-noted.ensures
     c.splat-one.ensures c.requires.ends.begins c.requires.ends.before c.sum.ensures c.greater-first.ensures
-    c.less.ensures
+    c.difference.ensures
 
 pub waiting-requires-in-loop-block-clause-heads : goal.waiting-requires-in-loop-block-clause-heads
 waiting-requires-in-loop-block-clause-heads g c =
@@ -103,8 +103,8 @@ waiting-requires-in-loop-block-clause-heads g c =
 pub waiting-requires-clause-heads : goal.waiting-requires-clause-heads
 waiting-requires-clause-heads g c = grind (arith, length-map, length-block)
 
-pub less-requires : goal.less-requires
-less-requires g c = grind (arith, length-map, length-block)
+pub difference-requires : goal.difference-requires
+difference-requires g c = grind (arith, length-map, length-block)
 
 pub loop-block-init : goal.loop-block-init
 loop-block-init g c = grind (arith, length-map, length-block)

@@ -13,8 +13,8 @@ returns-in_err-bound-clause-told g c = λ shop w is.
     ) at c.in_err-bound.ensures.told shop w is
     in grind arith
 
-pub go_on-requires-clause-job : goal.go_on-requires-clause-job
-go_on-requires-clause-job g c = rw (c.copy_from_slice.ensures.after, c.as_slice-next.ensures.value)
+pub set_next-requires-clause-job : goal.set_next-requires-clause-job
+set_next-requires-clause-job g c = rw (c.copy_from_slice.ensures.after, c.as_slice-next.ensures.value)
     (its_job c.requires.can.is.kept c.args.job c.requires.can.is.fits)
 
 pub returns-clause-told : goal.returns-clause-told
@@ -33,15 +33,15 @@ returns-clause-state g c = λ shop w kept fits.
       c.as_slice-next.ensures.value,
       c.of-dispatch.ensures.job,
     ) at c.in_ok-bound.ensures.ready
-    in let on = rw (c.copy_from_slice.ensures.after, c.as_slice-next.ensures.value) at c.go_on.ensures
-    in let long = ap (λ (ns : List ℕ). length ns) c.go_on.ensures.are_next
+    in let on = rw (c.copy_from_slice.ensures.after, c.as_slice-next.ensures.value) at c.set_next.ensures
+    in let long = ap (λ (ns : List ℕ). length ns) c.set_next.ensures.are_next
     ∙ length-set c.copy_from_slice.new.self _ _ ∙ c.copy_from_slice.ensures.len
-    in let whole = written_vec c.args.to.now.next c.as_mut_slice-copied.result.now c.go_on.new.next
+    in let whole = written_vec c.args.to.now.next c.as_mut_slice-copied.result.now c.set_next.new.next
     c.as_mut_slice-copied.ensures.value long
     in rw whole (ready.kept shop w kept fits _ _ on)
 
-pub go_on-requires-clause-position : goal.go_on-requires-clause-position
-go_on-requires-clause-position g c =
+pub set_next-requires-clause-position : goal.set_next-requires-clause-position
+set_next-requires-clause-position g c =
     let kept = c.requires.can.is.kept
     in let here = its_position kept c.args.job c.requires.can.is.fits
     (rw c.of-dispatch.ensures.job at c.of-dispatch.ensures.is.position_is)

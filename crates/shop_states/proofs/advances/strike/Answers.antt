@@ -14,8 +14,8 @@ pub set_head-requires : goal.set_head-requires
 set_head-requires g c = rw c.as_mut_slice-next.ensures.value
     (record { in_range = its_position c.requires.kept c.requires.sole; fits = omega arith })
 
-pub go_on-requires : goal.go_on-requires
-go_on-requires g c =
+pub set_next-requires : goal.set_next-requires
+set_next-requires g c =
     let long = lists_long c.requires.kept c.requires.sole
     in let times = long.0 in let following = long.1
     in let here = its_position c.requires.kept c.requires.sole
@@ -32,10 +32,10 @@ go_on-requires g c =
 pub returns : goal.returns
 returns g c = λ shop w kept alone.
     let heads = rw c.as_mut_slice-next.ensures.value at c.set_head.ensures.heads
-    in let on = rw c.as_mut_slice-next.ensures.value at c.go_on.ensures
-    in let long = ap (λ (ns : List ℕ). length ns) c.go_on.ensures.are_next
+    in let on = rw c.as_mut_slice-next.ensures.value at c.set_next.ensures
+    in let long = ap (λ (ns : List ℕ). length ns) c.set_next.ensures.are_next
     ∙ length-set c.as_mut_slice-next.result.now _ _
-    in let whole = written_vec c.args.state.now.next c.as_mut_slice-next.result.now c.go_on.new.next
+    in let whole = written_vec c.args.state.now.next c.as_mut_slice-next.result.now c.set_next.new.next
     c.as_mut_slice-next.ensures.value long
     in rw whole (struck_kept kept alone (put_is c.args.grid.now (g.L.StateLanes.heads c.args.state.now.lanes)
     (get_or c.args.state.now.next.items c.args.job 0) 0 heads c.set_head.ensures.ends) on.are_next on.ends)

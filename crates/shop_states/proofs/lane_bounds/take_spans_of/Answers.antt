@@ -28,11 +28,11 @@ pub span_of_rows-most-requires : goal.span_of_rows-most-requires
 span_of_rows-most-requires g c =
     let left = c.loop-machine.invariant.left in let rows = c.rows-rows.ensures in let blocks = c.blocks_of-from.ensures
     in can_bound c.requires.can.can left c.in-Some.ensures blocks.first blocks.behind g.L.StateLanes.value
-    c.rows-rows.result rows.heads rows.times rows.tails c.blocks-then-not-is_under.ensures
+    c.rows-rows.result rows.heads rows.times rows.tails c.blocks-then-not-is_ceiling_within.ensures
     c.take_raise-raise.ensures.raise c.args.each blocks.count
 
-pub loop-machine-preserved-then-not-is_under : goal.loop-machine-preserved-then-not-is_under
-loop-machine-preserved-then-not-is_under g c =
+pub loop-machine-preserved-then-not-is_ceiling_within : goal.loop-machine-preserved-then-not-is_ceiling_within
+loop-machine-preserved-then-not-is_ceiling_within g c =
     let on = lanes_on (laid_rows g.L.StateLanes.heads g.L.StateLanes.ends c.args.laid.now) c.args.laid.now.grid.now
     in let old = raises_in g.L.StateLanes.value c.args.raises.now
     in let left = c.loop-machine.invariant.left in let rows = c.rows-rows.ensures
@@ -41,14 +41,14 @@ loop-machine-preserved-then-not-is_under g c =
     c.span_of_rows-most.result) (sym c.take_raise-raise.ensures.empty) (taken_more c.loop-machine.invariant
     c.in-Some.ensures (nothing_raised g.L.StateLanes.GREATEST) refl (cut_span c.requires.can.can left c.in-Some.ensures
     blocks.first blocks.behind g.L.StateLanes.value c.rows-rows.result rows.heads rows.times rows.tails
-    c.blocks-then-not-is_under.ensures c.take_raise-raise.ensures.raise c.span_of_rows-most.ensures))
+    c.blocks-then-not-is_ceiling_within.ensures c.take_raise-raise.ensures.raise c.span_of_rows-most.ensures))
 
 pub loop-machine-preserved : goal.loop-machine-preserved
 loop-machine-preserved g c =
     let on = lanes_on (laid_rows g.L.StateLanes.heads g.L.StateLanes.ends c.args.laid.now) c.args.laid.now.grid.now
     in let old = raises_in g.L.StateLanes.value c.args.raises.now
     in let so = c.loop-machine.invariant
-    in let few = c.is_under.ensures c.if-not-is_under.false
+    in let few = c.is_ceiling_within.ensures c.if-not-is_ceiling_within.false
     in let here = few.0 in let most = few.1 in let low = so.low
     in let spans = c.requires.can.under c.in-Some.machine here (its_known c.requires.can.can so.left c.in-Some.ensures)
     in subst (λ (rs : List Raise). IsTakenSo c.args.least c.args.limit old on rs c.pop_first.new.self

@@ -8,8 +8,8 @@ loop-done-init g c = grind (arith, way_first)
 
 pub returns-then-is_empty : goal.returns-then-is_empty
 returns-then-is_empty g c = way_closed c.args.instance.now
-    (planned c.args.plan.now) c.loop-done.done c.loop-done.search c.loop-done.invariant.way
-    (eqb-true (length (open_list c.loop-done.search.open)) 0 (sym c.if-is_empty.ensures))
+    (planned c.args.plan.now) c.loop-done.done c.loop-done.run c.loop-done.invariant.way
+    (eqb-true (length (open_list c.loop-done.run.open)) 0 (sym c.if-is_empty.ensures))
 
 pub next-requires-clause-search : goal.next-requires-clause-search
 next-requires-clause-search g c = search (rules, way_search)
@@ -17,9 +17,9 @@ next-requires-clause-search g c = search (rules, way_search)
 pub loop-done-preserved : goal.loop-done-preserved
 loop-done-preserved g c = record {
   way = way_next c.args.instance.now
-      (planned c.args.plan.now) c.loop-done.done c.loop-done.search c.loop-done.invariant.way c.next.new.self
+      (planned c.args.plan.now) c.loop-done.done c.loop-done.run c.loop-done.invariant.way c.next.new.self
       c.loop-done-test.true
-      (some_open (length (open_list c.loop-done.search.open)) (length (open_list c.loop-done.search.open)) refl
+      (some_open (length (open_list c.loop-done.run.open)) (length (open_list c.loop-done.run.open)) refl
       c.if-is_empty.ensures) c.in_ok-next.ensures.next;
   layout = c.in_ok-next.ensures.layout;
 }

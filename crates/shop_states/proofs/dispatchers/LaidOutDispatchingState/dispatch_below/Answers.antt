@@ -22,12 +22,12 @@ returns-in_err-told-clause-told g c = λ w of candidate bound_is.
     c.advance_below.result (rw c.as_slice-next.ensures.value at c.advance_below.ensures.told))
     in grind arith
 
-pub go_on-requires-clause-job : goal.go_on-requires-clause-job
-go_on-requires-clause-job g c = rw c.as_mut_slice.ensures.value
+pub set_next-requires-clause-job : goal.set_next-requires-clause-job
+set_next-requires-clause-job g c = rw c.as_mut_slice.ensures.value
     (its_job c.requires.can.is.0.kept c.args.candidate.job c.requires.can.is.1.fits)
 
-pub go_on-requires-clause-position : goal.go_on-requires-clause-position
-go_on-requires-clause-position g c =
+pub set_next-requires-clause-position : goal.set_next-requires-clause-position
+set_next-requires-clause-position g c =
     let kept = c.requires.can.is.0.kept
     in let here = its_position kept c.args.candidate.job c.requires.can.is.1.fits
     (rw c.of-dispatch.ensures.job at c.of-dispatch.ensures.is.position_is)
@@ -46,9 +46,9 @@ pub returns-clause-state : goal.returns-clause-state
 returns-clause-state g c = λ w of candidate.
     let ready = rw (c.grid-grid.ensures.grid, c.of-dispatch.ensures.job, c.as_slice-next.ensures.value)
     at c.in_ok-told.ensures.ready
-    in let on = rw (c.grid-grid.ensures.grid, c.as_mut_slice.ensures.value) at c.go_on.ensures
-    in let long = ap (λ (ns : List ℕ). length ns) c.go_on.ensures.are_next ∙ length-set c.as_mut_slice.result.now _ _
-    in let whole = written_vec c.args.state.now.next c.as_mut_slice.result.now c.go_on.new.next
+    in let on = rw (c.grid-grid.ensures.grid, c.as_mut_slice.ensures.value) at c.set_next.ensures
+    in let long = ap (λ (ns : List ℕ). length ns) c.set_next.ensures.are_next ∙ length-set c.as_mut_slice.result.now _ _
+    in let whole = written_vec c.args.state.now.next c.as_mut_slice.result.now c.set_next.new.next
     c.as_mut_slice.ensures.value long
     in rw whole (kept_on of (ready.kept c.args.self.now.shop w of.kept candidate.fits _ _ on))
 
@@ -61,14 +61,14 @@ advance_below-requires-clause-is g c = rw c.as_slice-next.ensures.value c.of-dis
 pub advance_below-requires-clause-limit : goal.advance_below-requires-clause-limit
 advance_below-requires-clause-limit g c = let limit = c.range_of-range.ensures.limit in omega arith
 
-pub go_on-requires-clause-keep : goal.go_on-requires-clause-keep
-go_on-requires-clause-keep g c = rw c.as_mut_slice.ensures.value (rw (
+pub set_next-requires-clause-keep : goal.set_next-requires-clause-keep
+set_next-requires-clause-keep g c = rw c.as_mut_slice.ensures.value (rw (
   c.of-dispatch.ensures.job,
   c.as_slice-next.ensures.value,
 ) at c.in_ok-told.ensures.ready.keep)
 
-pub go_on-requires-clause-times : goal.go_on-requires-clause-times
-go_on-requires-clause-times g c = grind arith
+pub set_next-requires-clause-times : goal.set_next-requires-clause-times
+set_next-requires-clause-times g c = grind arith
 
 pub returns-in_err-told-clause-slot : goal.returns-in_err-told-clause-slot
 returns-in_err-told-clause-slot g c = grind (arith, room_kept)
@@ -82,7 +82,7 @@ returns-in_err-told-clause-kept g c = λ w j known. known
 
 pub returns-clause-slot : goal.returns-clause-slot
 returns-clause-slot g c = room_behind c.requires.can.is.0 c.args.state.now.next refl c.as_mut_slice.ensures.value
-    c.advance_below.ensures.positions c.advance_below.ensures.ends c.go_on.ensures
+    c.advance_below.ensures.positions c.advance_below.ensures.ends c.set_next.ensures
 
 pub returns-clause-scratch : goal.returns-clause-scratch
 returns-clause-scratch g c =

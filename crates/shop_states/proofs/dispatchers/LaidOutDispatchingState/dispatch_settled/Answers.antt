@@ -5,8 +5,8 @@ use Rattle.shop_states.proofs.dispatchers.LaidOutDispatchingState.dispatch_settl
 pub of-dispatch-requires : goal.of-dispatch-requires
 of-dispatch-requires g c = search (rules, kept_read)
 
-pub advance-requires-clause-can : goal.advance-requires-clause-can
-advance-requires-clause-can g c = record {
+pub advance_unbounded-requires-clause-can : goal.advance_unbounded-requires-clause-can
+advance_unbounded-requires-clause-can g c = record {
   shop = c.args.self.now.shop;
   word = c.requires.can.word;
   kept = kept_read c.grid-grid.ensures.grid refl c.requires.can.is.0.kept;
@@ -15,4 +15,4 @@ advance-requires-clause-can g c = record {
 
 pub returns-clause-state : goal.returns-clause-state
 returns-clause-state g c = λ told w of candidate. kept_on of (rw (c.grid-grid.ensures.grid, c.of-dispatch.ensures.job)
-    at c.advance.ensures.state c.args.self.now.shop w of.kept candidate.fits)
+    at c.advance_unbounded.ensures.state c.args.self.now.shop w of.kept candidate.fits)

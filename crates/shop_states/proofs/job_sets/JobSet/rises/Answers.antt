@@ -3,4 +3,4 @@ use Rattle.shop_states.{specs.inner.RisingLists.Rises, proofs.JobSets.members_ri
 use Rattle.shop_states.proofs.job_sets.JobSet.rises.Goals as goal
 
 pub returns : goal.returns
-returns g c = subst Rises c.self.view_is (members_rise 0 c.self.inside.words)
+returns g c = subst Rises c.self.view_is (members_rise 0 c.self.inside.numbers)

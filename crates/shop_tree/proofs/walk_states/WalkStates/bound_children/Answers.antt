@@ -25,6 +25,6 @@ returns-clause-bounded g c =
     → Settles shop w b.bound top b.candidates.now)) c.deref.ensures c.bound_children.ensures.settled
     in let known = subst (λ now. IfSome c.bound_children.result (λ top. (w : List ℕ) (limit others : ℕ)
     → is w now → b.bound ≡ lb shop w → Lists g.D.Dispatching s w limit b.candidates.now others
-    → All (λ c'. g.D.Dispatching.KnowsChild s.dispatcher.now c.bound_children.new._scratch w c'.job)
+    → All (λ c'. g.D.Dispatching.KnowsChild s.dispatcher.now c.bound_children.new.scratch w c'.job)
     b.candidates.now)) c.deref.ensures c.bound_children.ensures.known
     in bounded_together _ c.requires.branching c.bound_children.result settled known refl

@@ -25,15 +25,15 @@ loop-index-init g c = record {
   same = refl;
 }
 
-pub overflow_add-others : goal.overflow_add-others
-overflow_add-others g c =
+pub overflow_add-closed : goal.overflow_add-closed
+overflow_add-closed g c =
     let d = c.loop-index.self.dispatcher.now in let now = c.loop-index.invariant in let a = now.trying.few
     in let limits = g.met.D.Dispatching.state_is_within_limits d c.args.branching.now.word.now _ now.branching.state
     in let b = conflict_few (g.D.Dispatching.shop d) c.args.branching.now.word.now in let e = limits.jobs
     in let some = c.loop-index-test.true in omega arith
 
-pub overflow_add-others-in_default : goal.overflow_add-others-in_default
-overflow_add-others-in_default g c =
+pub overflow_add-closed-in_default : goal.overflow_add-closed-in_default
+overflow_add-closed-in_default g c =
     let d = c.loop-index.self.dispatcher.now in let now = c.loop-index.invariant in let a = now.trying.few
     in let limits = g.met.D.Dispatching.state_is_within_limits d c.args.branching.now.word.now _ now.branching.state
     in let b = conflict_few (g.D.Dispatching.shop d) c.args.branching.now.word.now in let e = limits.jobs
@@ -48,11 +48,11 @@ loop-index-preserved-in_ok-put g c =
     in let some : 0 < i = (let a = c.loop-index-test.true in omega arith)
     in let none : Candidate = record { job = 0; own = 0 }
     in let job = (get_or cs (i - 1) none).job
-    in let b = c.max-settled.result
+    in let b = c.max-least.result
     in let within : i - 1 < length cs = (let a = now.trying.within in omega arith)
     in let told = settled_bound shop word at.bound c.args.top cs now.bounded.settled (i - 1) none within b
-    c.max-settled.ensures c.if-top-settled.true
-    in let child = settled_child is shop word at.limit job b told c.if-settled-limit.true
+    c.max-least.ensures c.if-top-least.true
+    in let child = settled_child is shop word at.limit job b told c.if-least-limit.true
     in let e : c.len-from.result ≡ length c.args.stack.now.items =
     (let a = c.len-from.ensures in let k = c.args.stack.now.ok.0 in omega arith)
     in let put = c.in_ok-put.ensures c.args.stack.now.items now.kids e now.stack
@@ -69,19 +69,19 @@ loop-index-preserved-in_ok-put g c =
       same = now.same;
     }
 
-pub loop-index-preserved-else-settled-limit : goal.loop-index-preserved-else-settled-limit
-loop-index-preserved-else-settled-limit g c =
+pub loop-index-preserved-else-least-limit : goal.loop-index-preserved-else-least-limit
+loop-index-preserved-else-least-limit g c =
     let now = c.loop-index.invariant in let d = c.loop-index.self.dispatcher.now
     in let shop = g.D.Dispatching.shop d in let at = c.args.branching.now in let word = at.word.now
     in let cs = at.candidates.now in let i = c.loop-index.index
     in let some : 0 < i = (let a = c.loop-index-test.true in omega arith)
     in let none : Candidate = record { job = 0; own = 0 }
     in let job = (get_or cs (i - 1) none).job
-    in let b = c.max-settled.result
+    in let b = c.max-least.result
     in let within : i - 1 < length cs = (let a = now.trying.within in omega arith)
     in let told = settled_bound shop word at.bound c.args.top cs now.bounded.settled (i - 1) none within b
-    c.max-settled.ensures c.if-top-settled.true
-    in let high : at.limit ≤ lb shop (word ++ job ∷ []) = (let a = c.if-settled-limit.false in omega arith)
+    c.max-least.ensures c.if-top-least.true
+    in let high : at.limit ≤ lb shop (word ++ job ∷ []) = (let a = c.if-least-limit.false in omega arith)
     in record {
       kids = now.kids;
       stack = now.stack;
@@ -168,7 +168,7 @@ loop-index-preserved g c =
       kids = kept.kids;
       stack = kept.stack;
       trying = subst (λ x. IsTrying (g.D.Dispatching.IsStateOf x) (g.D.Dispatching.IsCandidate x word)
-          (g.D.Dispatching.shop x) at.limit word cs (i - 1) kept.kids c.loop-index.others left)
+          (g.D.Dispatching.shop x) at.limit word cs (i - 1) kept.kids c.loop-index.closed left)
           (sym same) kept.trying;
       branching = branching_stays same current now.branching;
       bounded = bounded_stays same (λ w j known. subst (λ x. g.D.Dispatching.KnowsChild d x w j)
@@ -186,12 +186,12 @@ returns-clause-children g c =
     in let is = g.D.Dispatching.IsStateOf d
     in let e : c.len-from.result ≡ length old =
     (let a = c.len-from.ensures in let b = c.args.stack.now.ok.0 in omega arith)
-    in let put = all_tried c.loop-index.index now.kids c.loop-index.others c.loop-index.self.current.value old mid
+    in let put = all_tried c.loop-index.index now.kids c.loop-index.closed c.loop-index.self.current.value old mid
     (let a = c.loop-index-test.false in omega arith) now.stack now.trying
     in record {
       put = subst (λ x. HasPutChildren (g.D.Dispatching.IsStateOf x) (g.D.Dispatching.shop x) at.limit word old new
-          c.loop-index.others) now.same (put_given is (g.D.Dispatching.shop d) at.limit word old mid new
-          c.loop-index.others c.len-from.result e put c.in_ok-give_current.ensures.given);
+          c.loop-index.closed) now.same (put_given is (g.D.Dispatching.shop d) at.limit word old mid new
+          c.loop-index.closed c.len-from.result e put c.in_ok-give_current.ensures.given);
       more = now.more;
     }
 

@@ -10,10 +10,10 @@ invariant-loop-index g l = record {
   trying : IsTrying (g.D.Dispatching.IsStateOf l.self.dispatcher.now)
       (g.D.Dispatching.IsCandidate l.self.dispatcher.now l.branching.word.now)
       (g.D.Dispatching.shop l.self.dispatcher.now) l.branching.limit l.branching.word.now
-      l.branching.candidates.now l.index kids l.others l.self.current.value;
+      l.branching.candidates.now l.index kids l.closed l.self.current.value;
   branching : IsBranchingOf g.D.Dispatching l.self l.branching;
   bounded : AreBounded g.D.Dispatching l.self l.branching l.top;
-  more : l.branching.closed ≤ l.others;
+  more : l.branching.closed ≤ l.closed;
   sound : HoldSlots g.D.Dispatching l.self;
   same : l.self.dispatcher.now ≡ l.fn.self.dispatcher.now;
 }

@@ -26,8 +26,8 @@ loop-index-init g c =
       same = c.bound_children.ensures.sound.dispatcher;
     }
 
-pub overflow_add-others : goal.overflow_add-others
-overflow_add-others g c =
+pub overflow_add-closed : goal.overflow_add-closed
+overflow_add-closed g c =
     let d = c.loop-index.self.dispatcher.now in let now = c.loop-index.invariant in let a = now.trying.few
     in let some : 0 < c.loop-index.index = (let a = c.loop-index-test.true in omega arith)
     in let word = c.args.branching.now.word.now
@@ -108,7 +108,7 @@ loop-index-preserved g c =
       stack = kept.stack;
       trying = subst (λ x. IsTrying (g.D.Dispatching.IsStateOf x) (g.D.Dispatching.IsCandidate x word)
           (g.D.Dispatching.shop x) at.limit word at.candidates.now (i - 1) kept.kids
-          c.loop-index.others left) (sym same) kept.trying;
+          c.loop-index.closed left) (sym same) kept.trying;
       bound = now.bound ∙ ap (λ x. lb (g.D.Dispatching.shop x) word) (sym same);
       more = now.more;
       sound = c.put_tried.ensures.sound.states;
@@ -121,7 +121,7 @@ returns-clause-children g c =
     in let new = c.loop-index.stack.items in let now = c.loop-index.invariant
     in record {
       put = subst (λ x. HasPutChildren (g.D.Dispatching.IsStateOf x) (g.D.Dispatching.shop x) at.limit word old new
-          c.loop-index.others) now.same (all_tried c.loop-index.index now.kids c.loop-index.others
+          c.loop-index.closed) now.same (all_tried c.loop-index.index now.kids c.loop-index.closed
           c.loop-index.self.current.value old new (let a = c.loop-index-test.false in omega arith) now.stack
           now.trying);
       more = now.more;

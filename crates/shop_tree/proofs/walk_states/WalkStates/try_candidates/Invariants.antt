@@ -10,9 +10,9 @@ invariant-loop-index g l = record {
   trying : IsTrying (g.D.Dispatching.IsStateOf l.self.dispatcher.now)
       (g.D.Dispatching.IsCandidate l.self.dispatcher.now l.branching.word.now)
       (g.D.Dispatching.shop l.self.dispatcher.now) l.branching.limit l.branching.word.now
-      l.branching.candidates.now l.index kids l.others l.self.current.value;
+      l.branching.candidates.now l.index kids l.closed l.self.current.value;
   bound : l.branching.bound ≡ lb (g.D.Dispatching.shop l.self.dispatcher.now) l.branching.word.now;
-  more : l.branching.closed ≤ l.others;
+  more : l.branching.closed ≤ l.closed;
   sound : HoldSlots g.D.Dispatching l.self;
   same : l.self.dispatcher.now ≡ l.fn.self.dispatcher.now;
 }

@@ -49,8 +49,8 @@ returns-then-closed-eq0 g c =
     (subst (λ (b : ℕ). HasGone (stage_of self) (gone_on (stage_of self) job) b) (sym at.bound) gone))
     c.take_job.ensures.states c.take_job.ensures.state
 
-pub advance-requires-clause-can : goal.advance-requires-clause-can
-advance-requires-clause-can g c =
+pub dispatch_below-requires-clause-can : goal.dispatch_below-requires-clause-can
+dispatch_below-requires-clause-can g c =
     let self = c.args.self.now in let d = self.states.dispatcher.now in let word = self.path.items
     in let cand = c.index-candidate.result.now
     in let one = one_listed self.candidates.items cand _ c.requires.one c.index-candidate.ensures
@@ -90,8 +90,8 @@ close-requires-clause-closed g c =
     in let word = self.path.items in let cand = c.index-candidate.result.now in let at = c.requires.listed.at
     in let one = one_listed self.candidates.items cand _ c.requires.one c.index-candidate.ensures
     in let bound = at.bound ∙ ap (λ (x : Shop). lb x word) (sym self.same_shop)
-    in let high = told_high self.best (lb shop (word ++ cand.job ∷ [])) c.advance.result c.in_default.is
-    (c.advance.ensures.taken.told word at.state (alone_own one c.requires.listed.candidates) bound)
+    in let high = told_high self.best (lb shop (word ++ cand.job ∷ [])) c.dispatch_below.result c.in_default.is
+    (c.dispatch_below.ensures.taken.told word at.state (alone_own one c.requires.listed.candidates) bound)
     in subst (λ (x : Shop). AreChildren x self.best word [] (c.args.closed + 1)) self.same_shop
     (alone_closed one c.requires.listed.candidates high)
 
@@ -101,8 +101,8 @@ close-requires-clause-in_order g c = c.requires.listed.at.in_order
 pub close-requires-clause-states : goal.close-requires-clause-states
 close-requires-clause-states g c = let self = c.args.self.now
     in let held = subst (λ x. AreHeld (g.D.Dispatching.IsStateOf x) self.path.items self.stack.items)
-    (sym c.advance.ensures.sound.dispatcher) c.requires.listed.at.states.held
-    in record { held = held; states = c.advance.ensures.sound.states }
+    (sym c.dispatch_below.ensures.sound.dispatcher) c.requires.listed.at.states.held
+    in record { held = held; states = c.dispatch_below.ensures.sound.states }
 
 pub put_rest-requires : goal.put_rest-requires
 put_rest-requires g c =
@@ -128,20 +128,20 @@ take_job-requires-2-clause-held g c =
     in let longer = held_on is self.instance.now self.best self.path.items c.index-candidate.result.now.job
     self.stack.items at.in_order at.states.held
     in subst (λ x. AreHeld (g.D.Dispatching.IsStateOf x) next c.put_rest.new.stack.items)
-    (sym c.advance.ensures.sound.dispatcher) (subst (λ hs. AreHeld is next hs) (sym c.in_ok-put_rest.ensures)
+    (sym c.dispatch_below.ensures.sound.dispatcher) (subst (λ hs. AreHeld is next hs) (sym c.in_ok-put_rest.ensures)
     (states_rest self.stack.items is next c.len.result c.args.closed longer))
 
 pub take_job-requires-2-clause-slots : goal.take_job-requires-2-clause-slots
-take_job-requires-2-clause-slots g c = c.advance.ensures.sound.states
+take_job-requires-2-clause-slots g c = c.dispatch_below.ensures.sound.states
 
 pub take_job-requires-2-clause-state : goal.take_job-requires-2-clause-state
 take_job-requires-2-clause-state g c =
     let self = c.args.self.now in let word = self.path.items in let cand = c.index-candidate.result.now
     in let one = one_listed self.candidates.items cand _ c.requires.one c.index-candidate.ensures
-    in let is = g.D.Dispatching.IsStateOf in let after = c.advance.new.self.current.value
-    in subst (λ x. is x (word ++ cand.job ∷ []) after) (sym c.advance.ensures.sound.dispatcher)
-    (told_state (is self.states.dispatcher.now (word ++ cand.job ∷ []) after) c.in-Some.bound c.advance.result
-    c.in-Some.is (c.advance.ensures.taken.state word c.requires.listed.at.state
+    in let is = g.D.Dispatching.IsStateOf in let after = c.dispatch_below.new.self.current.value
+    in subst (λ x. is x (word ++ cand.job ∷ []) after) (sym c.dispatch_below.ensures.sound.dispatcher)
+    (told_state (is self.states.dispatcher.now (word ++ cand.job ∷ []) after) c.in-Some.bound c.dispatch_below.result
+    c.in-Some.is (c.dispatch_below.ensures.taken.state word c.requires.listed.at.state
     (alone_own one c.requires.listed.candidates)))
 
 pub returns : goal.returns
@@ -153,8 +153,8 @@ returns g c =
     in let bound = at.bound ∙ ap (λ (x : Shop). lb x word) (sym self.same_shop)
     in let own = alone_own one c.requires.listed.candidates
     in let is_word = g.met.D.Dispatching.state_is_of_word d word self.states.current.value at.state
-    in let low = told_low self.best (lb shop (word ++ cand.job ∷ [])) c.in-Some.bound c.advance.result
-    c.in-Some.is (c.advance.ensures.taken.told word at.state own bound)
+    in let low = told_low self.best (lb shop (word ++ cand.job ∷ [])) c.in-Some.bound c.dispatch_below.result
+    c.in-Some.is (c.dispatch_below.ensures.taken.told word at.state own bound)
     in let o : Open = record { depth = length word; job = cand.job; bound = c.in-Some.bound }
     in let kids : AreChildren self.instance.now self.best word (o ∷ []) c.args.closed =
     subst (λ (x : Shop). AreChildren x self.best word (o ∷ []) c.args.closed) self.same_shop

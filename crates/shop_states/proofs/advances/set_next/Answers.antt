@@ -1,7 +1,7 @@
 use Rattle.std.proofs.{Common.{◌<◌, arith, length, length-set, get_or, set}, lemmas.Bool.Decides.nat_tests}
 use Rattle.std.proofs.lemmas.List.{get_or-set_same}
-use Rattle.shop_states.proofs.advances.go_on.Goals.{then-ahead-positions, else-ahead-positions}
-use Rattle.shop_states.proofs.advances.go_on.Goals as goal
+use Rattle.shop_states.proofs.advances.set_next.Goals.{then-ahead-positions, else-ahead-positions}
+use Rattle.shop_states.proofs.advances.set_next.Goals as goal
 
 pub overflow_add-end : goal.overflow_add-end
 overflow_add-end g c =

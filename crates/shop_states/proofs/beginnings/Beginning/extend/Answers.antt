@@ -3,7 +3,7 @@ use Rattle.std.proofs.lemmas.List.{length-take, length-take-le, take-take}
 use Rattle.shop_bound.proofs.WordLengths.{word_within}
 use Rattle.shop_model.proofs.PlacementLemmas.{IsWord-take}
 use Rattle.shop_states.proofs.LongerBeginnings.{gone_on}
-use Rattle.shop_states.proofs.beginnings.Beginning.go_on.Goals as goal
+use Rattle.shop_states.proofs.beginnings.Beginning.extend.Goals as goal
 
 pub write_front-requires : goal.write_front-requires
 write_front-requires g c = grind (arith, word_within, length-take)

@@ -3,7 +3,7 @@ use Rattle.shop_model.{specs.Shop.operation_count, proofs.WordLengths.word_lengt
 use Rattle.shop_bound.specs.Bound.{lb}
 use Rattle.shop_tree.specs.{inner.StateWalkers.stage_of, inner.Walkers.HasExpanded}
 use Rattle.shop_tree.proofs.ExpandLemmas.{expands_found, found_at}
-use Rattle.shop_tree.proofs.walkers.Walker.find.Goals as goal
+use Rattle.shop_tree.proofs.walkers.Walker.keep_found.Goals as goal
 
 pub of_path-requires : goal.of_path-requires
 of_path-requires g c = grind (arith, word_length)

@@ -1,7 +1,7 @@
 use Rattle.std.proofs.{Common.{ℕ, List, ◌∙◌, ap, refl, arith, length}, lemmas.List.length-set}
 use Rattle.shop_layout.proofs.Written.{written_vec}
 use Rattle.shop_states.proofs.{KeptRoom.long_kept, Trials.{can_delay, its_job, its_position, trial_keep, trial_kept}}
-use Rattle.shop_states.proofs.advances.advance.Goals as goal
+use Rattle.shop_states.proofs.advances.advance_unbounded.Goals as goal
 
 pub set_head-requires-clause-in_range : goal.set_head-requires-clause-in_range
 set_head-requires-clause-in_range g c =
@@ -11,18 +11,18 @@ pub delay-requires : goal.delay-requires
 delay-requires g c = rw c.as_mut_slice-next.ensures.value (can_delay c.requires.can.kept c.args.dispatch
     c.requires.can.fits c.requires.is c.set_head.ensures.heads c.set_head.ensures.ends)
 
-pub go_on-requires-clause-job : goal.go_on-requires-clause-job
-go_on-requires-clause-job g c = rw c.as_mut_slice-next.ensures.value
+pub set_next-requires-clause-job : goal.set_next-requires-clause-job
+set_next-requires-clause-job g c = rw c.as_mut_slice-next.ensures.value
     (its_job c.requires.can.kept c.args.dispatch.job c.requires.can.fits)
 
-pub go_on-requires-clause-position : goal.go_on-requires-clause-position
-go_on-requires-clause-position g c =
+pub set_next-requires-clause-position : goal.set_next-requires-clause-position
+set_next-requires-clause-position g c =
     let here = its_position c.requires.can.kept c.args.dispatch.job c.requires.can.fits c.requires.is.position_is
     in let following = c.requires.can.kept.kept.laid.positions.following
     in let long = c.requires.can.kept.kept.heads.positions in omega arith
 
-pub go_on-requires-clause-keep : goal.go_on-requires-clause-keep
-go_on-requires-clause-keep g c =
+pub set_next-requires-clause-keep : goal.set_next-requires-clause-keep
+set_next-requires-clause-keep g c =
     let raised = rw c.as_mut_slice-next.ensures.value at c.delay.ensures
     in rw c.as_mut_slice-next.ensures.value (trial_keep c.requires.can.kept c.args.dispatch.job
     c.requires.can.fits c.requires.is.position_is c.requires.is.machine_is c.requires.is.end_is
@@ -31,10 +31,10 @@ go_on-requires-clause-keep g c =
 pub returns-clause-state : goal.returns-clause-state
 returns-clause-state g c = λ shop w kept fits.
     let raised = rw c.as_mut_slice-next.ensures.value at c.delay.ensures
-    in let on = rw c.as_mut_slice-next.ensures.value at c.go_on.ensures
-    in let long = ap (λ (ns : List ℕ). length ns) c.go_on.ensures.are_next
+    in let on = rw c.as_mut_slice-next.ensures.value at c.set_next.ensures
+    in let long = ap (λ (ns : List ℕ). length ns) c.set_next.ensures.are_next
     ∙ length-set c.as_mut_slice-next.result.now _ _
-    in let whole = written_vec c.args.state.now.next c.as_mut_slice-next.result.now c.go_on.new.next
+    in let whole = written_vec c.args.state.now.next c.as_mut_slice-next.result.now c.set_next.new.next
     c.as_mut_slice-next.ensures.value long
     in rw whole (trial_kept kept c.args.dispatch.job fits c.requires.is.position_is c.requires.is.machine_is
     c.requires.is.end_is c.set_head.ensures.heads c.set_head.ensures.ends raised on.are_next on.ends)

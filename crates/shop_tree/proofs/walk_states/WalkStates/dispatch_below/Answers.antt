@@ -1,4 +1,4 @@
-use Rattle.shop_tree.proofs.walk_states.WalkStates.advance.Goals as goal
+use Rattle.shop_tree.proofs.walk_states.WalkStates.dispatch_below.Goals as goal
 
 pub dispatch_below-requires-clause-can : goal.dispatch_below-requires-clause-can
 dispatch_below-requires-clause-can g c = let can = c.requires.can

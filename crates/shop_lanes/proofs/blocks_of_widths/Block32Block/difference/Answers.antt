@@ -1,6 +1,6 @@
 use Rattle.std.proofs.Common.{w32}
 use Rattle.shop_lanes.proofs.Comparisons.{greater_covers, lessened_told_is}
-use Rattle.shop_lanes.proofs.blocks_of_widths.Block32Block.less.Goals as goal
+use Rattle.shop_lanes.proofs.blocks_of_widths.Block32Block.difference.Goals as goal
 
 pub overflow_sub-result : goal.overflow_sub-result
 overflow_sub-result c = greater_covers w32 c.args.a.0 c.args.b.0 c.requires

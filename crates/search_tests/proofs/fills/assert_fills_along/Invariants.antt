@@ -1,4 +1,4 @@
-use Rattle.search_tests.proofs.fills.assert_fills.Given as goal
+use Rattle.search_tests.proofs.fills.assert_fills_along.Given as goal
 
 abbrev pub invariant-loop : goal.invariant-loop
 invariant-loop g l = record {

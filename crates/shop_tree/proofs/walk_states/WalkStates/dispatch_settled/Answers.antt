@@ -1,6 +1,6 @@
 use Rattle.std.proofs.Common.{ap, subst, sym}
 use Rattle.shop_tree.specs.inner.Slots.{HoldSlots}
-use Rattle.shop_tree.proofs.walk_states.WalkStates.advance_to.Goals as goal
+use Rattle.shop_tree.proofs.walk_states.WalkStates.dispatch_settled.Goals as goal
 
 pub returns-then-candidate-job-clause-sound : goal.returns-then-candidate-job-clause-sound
 returns-then-candidate-job-clause-sound g c =
