@@ -1,4 +1,5 @@
 // When gates are called: once for each piece that is searched, with its number, just before its search.
+ghost use Rattle.std.specs.Prelude.{◌≡◌};
 
 use crate::rounds::{RoundTest, in_second_round};
 use shop_nodes::Sheet;
@@ -53,12 +54,16 @@ pub struct Refused<'r> {
     round: &'r Round<'r>,
 }
 
-impl<'r> PieceSearch<'r> for Refused<'r> {
-    ghost searched = { λ s. s.round.now };
-
-    fn over(round: &'r Round<'r>) -> Refused<'r> {
+impl<'r> Refused<'r> {
+    pub fn over(round: &'r Round<'r>) -> Refused<'r>
+        ensures { result.round.now ≡ round.now }
+    {
         Refused { round }
     }
+}
+
+impl<'r> PieceSearch<'r> for Refused<'r> {
+    ghost searched = { λ s. s.round.now };
 
     fn round(&self) -> &'r Round<'r> {
         self.round
@@ -77,12 +82,16 @@ pub struct Once<'r> {
     last: Option<usize>,
 }
 
-impl<'r> PieceSearch<'r> for Once<'r> {
-    ghost searched = { λ s. s.round.now };
-
-    fn over(round: &'r Round<'r>) -> Once<'r> {
+impl<'r> Once<'r> {
+    pub fn over(round: &'r Round<'r>) -> Once<'r>
+        ensures { result.round.now ≡ round.now }
+    {
         Once { round, last: None }
     }
+}
+
+impl<'r> PieceSearch<'r> for Once<'r> {
+    ghost searched = { λ s. s.round.now };
 
     fn round(&self) -> &'r Round<'r> {
         self.round
@@ -101,12 +110,11 @@ impl<'r> PieceSearch<'r> for Once<'r> {
 fn calls_on_board<'r, P: PieceSearch<'r>>(
     rt: &impl Abort,
     alloc: Global,
-    round: &'r Round<'r>,
+    searcher: &mut P,
 ) -> (usize, bool) {
     let gate = Calls::new();
-    let (board, mut seat) = Board::open(alloc, round).expect(rt, "memory");
-    let mut searcher = P::over(round);
-    let entries = claim_and_search_all(alloc, &board, &mut seat, &mut searcher, 3, &gate);
+    let (board, mut seat) = Board::open(alloc, searcher.round()).expect(rt, "memory");
+    let entries = claim_and_search_all(alloc, &board, &mut seat, searcher, 3, &gate);
     (gate.noted(), entries.is_ok())
 }
 
@@ -114,11 +122,11 @@ fn calls_on_board<'r, P: PieceSearch<'r>>(
 fn calls_on_pool<'r, P: PieceSearch<'r>, R: Wait>(
     rt: &R,
     alloc: Global,
-    round: &'r Round<'r>,
+    searcher: &mut P,
 ) -> (usize, bool) {
     let gate = Calls::new();
-    let pool = Mutex::new(Pool::open(round.pieces.len()));
-    let entries = serve::<P, R, Calls>(rt, alloc, round, &pool, &gate, 3);
+    let pool = Mutex::new(Pool::open(searcher.round().pieces.len()));
+    let entries = serve(rt, alloc, searcher, &pool, &gate, 3);
     (gate.noted(), entries.is_ok())
 }
 
@@ -130,10 +138,10 @@ impl<R: Abort + Wait> RoundTest<R> for Called {
     fn run<'r>(&self, rt: &R, alloc: Global, round: &'r Round<'r>) {
         let searched = (3132, true);
         let refused = (31, false);
-        assert!(rt; calls_on_board::<Once<'r>>(rt, alloc, round) == searched);
-        assert!(rt; calls_on_pool::<Once<'r>, R>(rt, alloc, round) == searched);
-        assert!(rt; calls_on_board::<Refused<'r>>(rt, alloc, round) == refused);
-        assert!(rt; calls_on_pool::<Refused<'r>, R>(rt, alloc, round) == refused);
+        assert!(rt; calls_on_board(rt, alloc, &mut Once::over(round)) == searched);
+        assert!(rt; calls_on_pool(rt, alloc, &mut Once::over(round)) == searched);
+        assert!(rt; calls_on_board(rt, alloc, &mut Refused::over(round)) == refused);
+        assert!(rt; calls_on_pool(rt, alloc, &mut Refused::over(round)) == refused);
     }
 }
 

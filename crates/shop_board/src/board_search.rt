@@ -4,12 +4,12 @@ ghost use Rattle.shop_runs.specs.{Entries.told, Crews.OneForEach, Hits.hits_of_r
 ghost use Rattle.shop_workers.specs.{Views.HasServed, Seats.{knows, hits_of, IsSeatOf}};
 ghost use Rattle.shop_workers.specs.{Works.{Grows, IsAllKnown, BringsWon}, inner.Returns.{IsReturned, AreReturned}};
 
+use crate::completing::complete_round;
 use crate::waiting::map_waiting;
 use shop_round::PieceSearcher;
-use shop_runs::{Entry, PieceSearch, Round};
+use shop_runs::{Entry, Round};
 use shop_workers::{
-    Board, Lent, Returned, Seat, SeatGate, claim_and_search_all, complete_returned,
-    seats_for_workers,
+    Board, Lent, Returned, Seat, SeatGate, claim_and_search_all, place_returned, seats_for_workers,
 };
 use std::alloc::{AllocError as NoMemory, Global};
 use std::thread::Threads;
@@ -79,5 +79,9 @@ pub fn search_claimed<'r, R: Threads + Sync, G: SeatGate + Sync>(
     let (board, seat) = Board::open(alloc, round)?;
     let lent = seats_for_workers(alloc, &board, seat, workers.min(round.pieces.len()))?;
     let returned = work_all(rt, alloc, &board, lent, round, gate)?;
-    complete_returned::<PieceSearcher<'r>>(alloc, &board, round, returned)
+    complete_round(
+        alloc,
+        round,
+        place_returned(alloc, &board, round, returned)?,
+    )
 }

@@ -3,6 +3,7 @@
 
 mod board_crews;
 mod board_search;
+mod completing;
 mod lock_crews;
 mod waiting;
 mod worker_crews;

@@ -3,9 +3,10 @@ ghost use Rattle.std.specs.{Thread.IsSync, Prelude.{◌≡◌, ◌<◌, ◌≤�
 ghost use Rattle.shop_runs.specs.{declared.plans.TheConstants.MAX_WORKERS, Entries.told, Crews.OneForEach};
 ghost use Rattle.shop_workers.specs.Entries.{OfRound};
 
+use crate::completing::complete_round;
 use shop_round::PieceSearcher;
 use shop_runs::{Crew, Entry, Round, Workers};
-use shop_workers::{Gate, OpenGate, Pool, in_order, serve};
+use shop_workers::{Gate, OpenGate, Pool, place_all, serve};
 use std::alloc::{AllocError as NoMemory, Global};
 use std::sync::{Mutex, Wait};
 use std::thread;
@@ -63,9 +64,12 @@ impl<G: Gate + Sync> LockCrew<G> {
             &|index: usize|
                 requires { index < count }
                 ensures { IfOk result (λ v. OfRound (told round.entry.now) v.items) }
-            { serve::<PieceSearcher, R, G>(rt, alloc, round, lock, gate, count - 1 - index) },
+            {
+                let mut searcher = PieceSearcher::over(round);
+                serve(rt, alloc, &mut searcher, lock, gate, count - 1 - index)
+            },
         )?;
-        in_order::<PieceSearcher<'r>>(alloc, round, lists)
+        complete_round(alloc, round, place_all(alloc, round, lists)?)
     }
 }
 

@@ -35,15 +35,20 @@ impl<'r> Model for PieceSearcher<'r> {
     ghost invariant = { λ s. s.searcher ≡ s.round.now.instance.now };
 }
 
-impl<'r> PieceSearch<'r> for PieceSearcher<'r> {
-    ghost searched = { λ round. round };
-
-    fn over(round: &'r Round<'r>) -> PieceSearcher<'r> {
+impl<'r> PieceSearcher<'r> {
+    /// Makes a searcher of the pieces of `round`. Takes no memory.
+    pub fn over(round: &'r Round<'r>) -> PieceSearcher<'r>
+        ensures { result ≡ round.now }
+    {
         PieceSearcher {
             round,
             searcher: searcher_for(round),
         }
     }
+}
+
+impl<'r> PieceSearch<'r> for PieceSearcher<'r> {
+    ghost searched = { λ round. round };
 
     fn round(&self) -> &'r Round<'r> {
         self.round

@@ -8,14 +8,11 @@ use crate::rounds::Round;
 use shop_nodes::Sheet;
 use std::alloc::{AllocError as NoMemory, Global};
 
-/// Searches pieces of one round, one after the other. Proofs about crews hold for every implementation.
+/// Searches pieces of one round, one after the other. Who runs a crew's workers makes their searchers. Proofs about
+/// crews hold for every implementation.
 pub trait PieceSearch<'r>: Drop {
     /// The round whose pieces the searcher searches.
     ghost searched: { Self → Round };
-
-    /// Makes a searcher of the pieces of `round`. Takes no memory.
-    fn over(round: &'r Round<'r>) -> Self
-        ensures { searched result ≡ round.now };
 
     /// Answers the round whose pieces the searcher searches.
     fn round(&self) -> &'r Round<'r>

@@ -150,16 +150,12 @@ pub trait Dispatching<S: Drop> {
         requires room { IsSlot self.now room.old }
         requires can { HasListed (shop self.now) (λ w. IsStateOf self.now w state.now)
             (IsCandidate self.now) candidates.now bound }
-        ensures settled { IfSome result (λ top. (w : List ℕ) (limit others : ℕ)
+        ensures bounded { IfSome result (λ top. (w : List ℕ) (limit others : ℕ)
             → IsStateOf self.now w state.now → bound ≡ lb (shop self.now) w
             → ListsBelow (shop self.now) w limit (IsCandidate self.now w)
             (conflict (shop self.now) w) candidates.now others
-            → Settles (shop self.now) w bound top candidates.now) }
-        ensures known { IfSome result (λ top. (w : List ℕ) (limit others : ℕ)
-            → IsStateOf self.now w state.now → bound ≡ lb (shop self.now) w
-            → ListsBelow (shop self.now) w limit (IsCandidate self.now w)
-            (conflict (shop self.now) w) candidates.now others
-            → All (λ c. KnowsChild self.now scratch.new w c.job) candidates.now) }
+            → Settles (shop self.now) w bound top candidates.now
+            × All (λ c. KnowsChild self.now scratch.new w c.job) candidates.now) }
         ensures room { IsSlot self.now room.new }
         ensures scratch { IsScratch self.now scratch.new };
 

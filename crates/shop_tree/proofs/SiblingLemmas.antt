@@ -150,13 +150,10 @@ pub bounded_together : {D S C : Type 0} {g : Ghosts D S C} {s : WalkStates D S C
     (t : WalkStates D S C) → IsBranchingOf g s b → (answer : Option ℕ)
     → IfSome answer (λ top. (w : List ℕ) (limit others : ℕ) → IsStateIn g s w
     → b.bound ≡ lb (g.shop s.dispatcher.now) w → Lists g s w limit b.candidates.now others
-    → Settles (g.shop s.dispatcher.now) w b.bound top b.candidates.now)
-    → IfSome answer (λ top. (w : List ℕ) (limit others : ℕ) → IsStateIn g s w
-    → b.bound ≡ lb (g.shop s.dispatcher.now) w → Lists g s w limit b.candidates.now others
-    → All (λ c. g.KnowsChild s.dispatcher.now t.scratch w c.job) b.candidates.now)
+    → Settles (g.shop s.dispatcher.now) w b.bound top b.candidates.now
+    × All (λ c. g.KnowsChild s.dispatcher.now t.scratch w c.job) b.candidates.now)
     → t.dispatcher.now ≡ s.dispatcher.now → IfSome answer (AreBounded g t b)
-bounded_together t at None settled known same = tt
-bounded_together {b = b} t at (Some top) settled known same = record {
-  settled = rw same (settled b.word.now b.limit b.closed at.state at.bound at.listed);
-  known = rw same (known b.word.now b.limit b.closed at.state at.bound at.listed);
-}
+bounded_together t at None bounded same = tt
+bounded_together {b = b} t at (Some top) bounded same =
+    let of = bounded b.word.now b.limit b.closed at.state at.bound at.listed
+    in record { settled = rw same of.0; known = rw same of.1 }

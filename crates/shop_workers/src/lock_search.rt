@@ -4,7 +4,7 @@ ghost use Rattle.shop_runs.specs.{Entries.{told, is_hit}, Crews.IsEntryOf, Hits.
 ghost use Rattle.shop_workers.specs.Entries.{OfRound, IsPassed, LetsPass};
 
 use crate::gates::Gate;
-use shop_runs::{Entry, PieceSearch, Round};
+use shop_runs::{Entry, PieceSearch};
 use std::alloc::{AllocError as NoMemory, Global};
 use std::sync::{Mutex, Wait};
 
@@ -79,17 +79,17 @@ fn search_or_pass<'r, P: PieceSearch<'r>, G: Gate>(
 pub fn serve<'r, P: PieceSearch<'r>, R: Wait, G: Gate>(
     rt: &R,
     alloc: Global,
-    round: &'r Round<'r>,
+    searcher: &mut P,
     pool: &Mutex<Pool>,
     gate: &G,
     worker: usize,
 ) -> Result<Vec<Entry<'r>>, NoMemory>
-    ensures of { IfOk result (λ v. OfRound (told round.now) v.items) }
-    ensures passes { IfOk result (λ v. AllPairs (LetsPass (told round.now)) v.items) }
+    ensures round { P.searched searcher.new ≡ P.searched searcher.old }
+    ensures of { IfOk result (λ v. OfRound (told (P.searched searcher.old)) v.items) }
+    ensures passes { IfOk result (λ v. AllPairs (LetsPass (told (P.searched searcher.old))) v.items) }
 {
-    let mut searcher = P::over(round);
     let mut entries = Vec::new(alloc);
-    let pieces = round.pieces.len();
+    let pieces = searcher.round().pieces.len();
     let mut low = pieces;
     for _ in rt.forever() {
         let Some(number) = pool.lock(rt).take() else {
@@ -98,7 +98,7 @@ pub fn serve<'r, P: PieceSearch<'r>, R: Wait, G: Gate>(
         if number >= pieces {
             break;
         }
-        let entry = search_or_pass(alloc, &mut searcher, &mut low, number, worker, gate)?;
+        let entry = search_or_pass(alloc, searcher, &mut low, number, worker, gate)?;
         entries.push(entry)?;
     }
     Ok(entries)

@@ -1,4 +1,4 @@
-// Puts the entries that workers brought into the order of their pieces, and searches the pieces without an entry.
+// Puts the entries that workers brought into the places of their pieces, and searches the pieces without an entry.
 ghost use Rattle.std.specs.Prelude.{◌≡◌, ◌<◌, length, All, IfOk, IsOk, OnOk, IfSome, vec_len};
 ghost use Rattle.shop_runs.specs.{Entries.told, Crews.{OneForEach, IsEntryOf}};
 ghost use Rattle.shop_workers.specs.{Entries.OfRound, inner.Gathered.{AllOfRound, Placed, Fills, StayFilled, AreKept}};
@@ -51,6 +51,25 @@ pub fn place<'r>(
     }
 }
 
+/// Puts each entry that a worker brought into its piece's place. The place of a piece of `round` stays empty if no
+/// worker brought its entry. Fails with `NoMemory` if memory runs out, here or for a worker.
+pub fn place_all<'r>(
+    alloc: Global,
+    round: &'r Round<'r>,
+    mut brought: Vec<Result<Vec<Entry<'r>>, NoMemory>>,
+) -> Result<Vec<Option<Entry<'r>>>, NoMemory>
+    requires { AllOfRound (told round.now) brought.items }
+    ensures granted { OnOk result (All IsOk brought.entry.items) }
+    ensures len { IfOk result (λ v. vec_len v ≡ length round.now.pieces.items) }
+    ensures placed { IfOk result (λ v. Placed (told round.now) v.items) }
+{
+    let mut slots = places(alloc, round)?;
+    while let Some(entries) = brought.pop() {
+        place(round, &mut slots, entries?);
+    }
+    Ok(slots)
+}
+
 /// Answers the entry that a worker brought for piece `number`, or searches the piece if `brought` is `None`.
 fn or_search<'r, P: PieceSearch<'r>>(
     alloc: Global,
@@ -73,41 +92,23 @@ fn or_search<'r, P: PieceSearch<'r>>(
     }
 }
 
-/// Answers one entry for each piece of `round`, in number order: takes it from the piece's place in `slots`, or
-/// searches the piece if the place is empty. Fails with `NoMemory` if memory runs out.
+/// Answers one entry for each piece of the searcher's round, in number order: takes it from the piece's place in
+/// `slots`, or searches the piece if the place is empty. Fails with `NoMemory` if memory runs out.
 pub fn complete<'r, P: PieceSearch<'r>>(
     alloc: Global,
-    round: &'r Round<'r>,
+    searcher: &mut P,
     mut slots: Vec<Option<Entry<'r>>>,
 ) -> Result<Vec<Entry<'r>>, NoMemory>
-    requires len { vec_len slots ≡ length round.now.pieces.items }
-    requires slots { Placed (told round.now) slots.items }
-    ensures each { IfOk result (λ v. OneForEach (told round.now) v.items) }
+    requires len { vec_len slots ≡ length (P.searched searcher.old).pieces.items }
+    requires slots { Placed (told (P.searched searcher.old)) slots.items }
+    ensures round { P.searched searcher.new ≡ P.searched searcher.old }
+    ensures each { IfOk result (λ v. OneForEach (told (P.searched searcher.old)) v.items) }
     ensures kept { IfOk result (λ v. AreKept slots.entry.items v.items) }
 {
-    let mut searcher = P::over(round);
     let mut entries = Vec::with_capacity(alloc, slots.len())?;
     for number in 0..slots.len() {
         let brought = slots[number].take();
-        entries.push(or_search(alloc, &mut searcher, number, brought)?)?;
+        entries.push(or_search(alloc, searcher, number, brought)?)?;
     }
     Ok(entries)
-}
-
-/// Answers one entry for each piece of `round`, in number order: takes one that a worker brought, or searches the piece
-/// if no worker brought one. Fails with `NoMemory` if memory runs out, here or for a worker.
-pub fn in_order<'r, P: PieceSearch<'r>>(
-    alloc: Global,
-    round: &'r Round<'r>,
-    mut brought: Vec<Result<Vec<Entry<'r>>, NoMemory>>,
-) -> Result<Vec<Entry<'r>>, NoMemory>
-    requires { AllOfRound (told round.now) brought.items }
-    ensures granted { OnOk result (All IsOk brought.entry.items) }
-    ensures each { IfOk result (λ v. OneForEach (told round.now) v.items) }
-{
-    let mut slots = places(alloc, round)?;
-    while let Some(entries) = brought.pop() {
-        place(round, &mut slots, entries?);
-    }
-    complete::<P>(alloc, round, slots)
 }

@@ -1,12 +1,12 @@
-// Lends the seats of a board to workers, and completes the entries that the workers bring back.
+// Lends the seats of a board to workers, and collects the entries that the workers bring back.
 ghost use Rattle.std.specs.Prelude.{◌≡◌, length, vec_len, All, IfOk, IsOk, OnOk, IfSome};
-ghost use Rattle.shop_runs.specs.{Entries.told, Crews.OneForEach, Hits.hits_of_round};
+ghost use Rattle.shop_runs.specs.{Entries.told, Hits.hits_of_round};
 ghost use Rattle.shop_workers.specs.{inner.Gathered.Placed, inner.Returns.AreReturned, inner.Turns.IsRestKnown};
 ghost use Rattle.shop_workers.specs.Seats.{knows, hits_of, IsSeatOf};
 
 use crate::boards::{Board, Seat};
-use crate::ordering::{complete, place, places};
-use shop_runs::{Entry, PieceSearch, Round};
+use crate::ordering::{place, places};
+use shop_runs::{Entry, Round};
 use std::alloc::{AllocError as NoMemory, Global};
 
 /// A worker's number, and the seat that the worker borrows.
@@ -88,22 +88,23 @@ fn claim_rest(board: &Board, seat: &mut Seat, places: &[Option<Entry>])
     }
 }
 
-/// Answers one entry for each piece of `round`, in number order. If no worker brought a piece's entry, claims and
-/// searches the piece on the calling thread. Fails with `NoMemory` if memory runs out, here or for a worker.
-pub fn complete_returned<'r, P: PieceSearch<'r>>(
+/// Puts each entry that a worker brought into its piece's place, and claims each piece of `round` whose place stays
+/// empty, as no worker brought its entry. Fails with `NoMemory` if memory runs out, here or for a worker.
+pub fn place_returned<'r>(
     alloc: Global,
     board: &Board,
     round: &'r Round<'r>,
     returned: Vec<Returned<'r>>,
-) -> Result<Vec<Entry<'r>>, NoMemory>
+) -> Result<Vec<Option<Entry<'r>>>, NoMemory>
     requires round { hits_of board.now ≡ hits_of_round round.now }
     requires returned { AreReturned board.now (told round.now) returned.items }
     ensures granted { OnOk result (All (λ w. IsOk w.entries) returned.entry.items) }
-    ensures each { IfOk result (λ v. OneForEach (told round.now) v.items) }
+    ensures len { IfOk result (λ v. vec_len v ≡ length round.now.pieces.items) }
+    ensures placed { IfOk result (λ v. Placed (told round.now) v.items) }
 {
     let (joined, slots) = join_all(alloc, board, round, returned)?;
     if let Some(mut seat) = joined {
         claim_rest(board, &mut seat, &slots);
     }
-    complete::<P>(alloc, round, slots)
+    Ok(slots)
 }

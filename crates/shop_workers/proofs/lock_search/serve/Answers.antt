@@ -15,7 +15,7 @@ loop-preserved g c =
       tt,
       c.search_or_pass.ensures.round ∙ same,
       subst (λ r. IsHitOrEnd (hits_of_round r) low) same c.search_or_pass.ensures.low,
-      rw c.in_ok-push.ensures.items (one_taken (told c.args.round.now) c.loop.low low number c.loop.entries.items entry
+      rw c.in_ok-push.ensures.items (one_taken (told (g.P.PieceSearch.searched c.args.searcher.now)) c.loop.low low number c.loop.entries.items entry
           c.loop.invariant.4 c.search_or_pass.ensures.lower is c.in_ok-entry.ensures.passed hit),
     )
 
@@ -23,6 +23,9 @@ pub search_or_pass-requires : goal.search_or_pass-requires
 search_or_pass-requires g c κs = (
   (refl, tt),
   subst (λ r. (c.in-Some-take.number < length r.pieces.items) × IsHitOrEnd (hits_of_round r) c.loop.low)
-      (sym c.loop.invariant.2)
-      (omega (arith, c.len-pieces.ensures, c.if-number-pieces.false), c.loop.invariant.3),
+      (sym c.loop.invariant.2) (
+        subst (λ r. c.in-Some-take.number < length r.pieces.items) c.round.ensures
+            (omega (arith, c.len-pieces.ensures, c.if-number-pieces.false)),
+        c.loop.invariant.3,
+      ),
 )

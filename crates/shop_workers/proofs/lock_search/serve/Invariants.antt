@@ -5,6 +5,7 @@ use Rattle.shop_workers.proofs.lock_search.serve.Given as goal
 
 abbrev pub invariant-loop : goal.invariant-loop
 invariant-loop g l =
-    let searched = g.P.PieceSearch.searched in (goal.iterator-loop g).can_next l.iterator'
-    × (goal.iterator-loop g).is_finite l.iterator' × (searched l.searcher ≡ l.round)
-    × IsHitOrEnd (hits_of_round l.round) l.low × AreTaken (told l.round) l.low l.entries.items
+    let searched = g.P.PieceSearch.searched in let round = searched l.initial.searcher in
+    (goal.iterator-loop g).can_next l.iterator' × (goal.iterator-loop g).is_finite l.iterator'
+    × (searched l.searcher ≡ round) × IsHitOrEnd (hits_of_round round) l.low
+    × AreTaken (told round) l.low l.entries.items

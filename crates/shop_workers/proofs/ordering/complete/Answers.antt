@@ -6,7 +6,7 @@ use Rattle.shop_workers.proofs.ordering.complete.Goals as goal
 
 pub loop-number-preserved : goal.loop-number-preserved
 loop-number-preserved g c =
-    let r = told c.args.round.now in
+    let r = told (g.P.PieceSearch.searched c.args.searcher.now) in
     let so_far = c.loop-number.invariant in
     let places = c.args.slots.items in
     let slots = c.loop-number.slots.items in

@@ -5,7 +5,8 @@ use Rattle.shop_workers.proofs.ordering.complete.Given as goal
 
 abbrev pub invariant-loop-number : goal.invariant-loop-number
 invariant-loop-number g l =
-    (vec_len l.slots ≡ vec_len l.initial.slots) × Placed (told l.round) l.slots.items × (vec_len l.entries ≡ l.number)
-    × UpTo (IsEntryOf (told l.round)) l.entries.items l.number × (g.P.PieceSearch.searched l.searcher ≡ l.round)
+    let searched = g.P.PieceSearch.searched in let r = told (searched l.initial.searcher) in
+    (vec_len l.slots ≡ vec_len l.initial.slots) × Placed r l.slots.items × (vec_len l.entries ≡ l.number)
+    × UpTo (IsEntryOf r) l.entries.items l.number × (searched l.searcher ≡ searched l.initial.searcher)
     × AreLeftFrom l.number l.initial.slots.items l.slots.items
     × UpTo (IsKept l.initial.slots.items) l.entries.items l.number

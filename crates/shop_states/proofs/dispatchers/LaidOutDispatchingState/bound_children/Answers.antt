@@ -1,4 +1,4 @@
-use Rattle.std.proofs.Common.{◌≡◌, ◌∙◌, ℕ, ◌++◌, ◌∷◌, [], List, ap, get_or, length, max, refl, sym, subst, arith}
+use Rattle.std.proofs.Common.{◌≡◌, ◌<◌, ◌∙◌, ℕ, ◌++◌, ◌∷◌, [], List, ap, get_or, length, max, refl, sym, subst, arith}
 use Rattle.std.proofs.lemmas.List.{get_or_default}
 use Rattle.shop_bound.specs.Bound.{lb}
 use Rattle.shop_layout.{specs.{Lanes.rows_of, Positions.LayoutState}, proofs.Written.written_vec}
@@ -20,44 +20,40 @@ bound_children-requires-clause-can g c = record {
   machines_are = c.requires.scratch.machines;
 }
 
-pub returns-clause-settled : goal.returns-clause-settled
-returns-clause-settled g c = λ w limit others of bound_is lists k d here enough.
+pub returns-clause-bounded : goal.returns-clause-bounded
+returns-clause-bounded g c = λ w limit others of bound_is lists.
     let shop = c.args.self.now.shop
     in let cs = c.args.candidates.now
     in let none : Candidate = record { job = 0; own = 0 }
-    in let own = get_or cs k d
-    in let same : (get_or cs k none).job ≡ own.job = ap (λ (x : Candidate). x.job) (get_or_default cs k none d here)
+    in let same : (k : ℕ) (d : Candidate) → k < length cs → (get_or cs k none).job ≡ (get_or cs k d).job =
+    λ k d here. ap (λ (x : Candidate). x.job) (get_or_default cs k none d here)
     in let copied = kept_copied c.grid-grid.ensures.grid c.copy_from.ensures.heads c.copy_from.ensures.ends
     c.as_slice-next.ensures.value of.kept
-    in let candidate = (listed_at lists k d here).1
-    in let advancing = candidate_advancing copied own.job candidate.fits own.own
-    (candidate_read c.grid-grid.ensures.grid candidate) c.as_slice-next.result.now refl c.args.bound
-    (bound_there of bound_is) (max c.args.bound own.own) refl
-    in let its = subst (λ (j : ℕ). IsAdvancing g.L.StateLanes.GREATEST shop w c.grid-grid.result.now
-    (rows_of c.grid-grid.result.now (g.L.StateLanes.heads c.copy_from.new.self) (g.L.StateLanes.ends
-    c.copy_from.new.self)) c.as_slice-next.result.now j (max c.args.bound own.own)) (sym same) advancing
-    in sym (bound_behind of own.job candidate.fits)
-    ∙ subst (λ (j : ℕ). lb shop (w ++ j ∷ []) ≡ max c.args.bound own.own) same
-    (c.bound_children.ensures.settled shop w copied (are_siblings of.kept.kept.word (listed_here of lists))
-    (bound_there of bound_is) k (max c.args.bound own.own) here its enough)
-
-pub returns-clause-known : goal.returns-clause-known
-returns-clause-known g c = λ w limit others of bound_is lists k d here.
-    let shop = c.args.self.now.shop
-    in let cs = c.args.candidates.now
-    in let none : Candidate = record { job = 0; own = 0 }
-    in let same : (get_or cs k none).job ≡ (get_or cs k d).job =
-    ap (λ (x : Candidate). x.job) (get_or_default cs k none d here)
-    in let copied = kept_copied c.grid-grid.ensures.grid c.copy_from.ensures.heads c.copy_from.ensures.ends
-    c.as_slice-next.ensures.value of.kept
-    in let known = c.bound_children.ensures.known shop w copied
-    (are_siblings of.kept.kept.word (listed_here of lists)) (bound_there of bound_is) k here
+    in let siblings = are_siblings of.kept.kept.word (listed_here of lists)
+    in let bound_there_is = bound_there of bound_is
     in let whole = written_vec c.args.scratch.now.ceilings c.as_mut_slice-ceilings.result.now
     c.bound_children.new.ceilings c.as_mut_slice-ceilings.ensures.value c.bound_children.ensures.long
-    in subst (λ (xs : List ℕ). AreChildCeilings shop w c.args.self.now.layout (get_or cs k d).job xs) (sym whole)
-    (subst (λ (l : LayoutState). AreChildCeilings shop w l (get_or cs k d).job c.bound_children.new.ceilings)
-    c.grid-grid.ensures.grid
-    (subst (λ (j : ℕ). AreChildCeilings shop w c.grid-grid.result.now j c.bound_children.new.ceilings) same known))
+    in (
+      λ k d here enough.
+          let own = get_or cs k d
+          in let candidate = (listed_at lists k d here).1
+          in let advancing = candidate_advancing copied own.job candidate.fits own.own
+          (candidate_read c.grid-grid.ensures.grid candidate) c.as_slice-next.result.now refl c.args.bound
+          bound_there_is (max c.args.bound own.own) refl
+          in let its = subst (λ (j : ℕ). IsAdvancing g.L.StateLanes.GREATEST shop w c.grid-grid.result.now
+          (rows_of c.grid-grid.result.now (g.L.StateLanes.heads c.copy_from.new.self) (g.L.StateLanes.ends
+          c.copy_from.new.self)) c.as_slice-next.result.now j (max c.args.bound own.own)) (sym (same k d here)) advancing
+          in sym (bound_behind of own.job candidate.fits)
+          ∙ subst (λ (j : ℕ). lb shop (w ++ j ∷ []) ≡ max c.args.bound own.own) (same k d here)
+          (c.bound_children.ensures.settled shop w copied siblings bound_there_is k (max c.args.bound own.own) here its
+          enough),
+      λ k d here. subst (λ (xs : List ℕ). AreChildCeilings shop w c.args.self.now.layout (get_or cs k d).job xs)
+          (sym whole)
+          (subst (λ (l : LayoutState). AreChildCeilings shop w l (get_or cs k d).job c.bound_children.new.ceilings)
+          c.grid-grid.ensures.grid
+          (subst (λ (j : ℕ). AreChildCeilings shop w c.grid-grid.result.now j c.bound_children.new.ceilings)
+          (same k d here) (c.bound_children.ensures.known shop w copied siblings bound_there_is k here))),
+    )
 
 pub returns-clause-room : goal.returns-clause-room
 returns-clause-room g c = grind (arith, room_kept)

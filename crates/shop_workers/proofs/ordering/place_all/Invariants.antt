@@ -1,13 +1,13 @@
 use Rattle.std.{proofs.Common.{◌≡◌, length, vec_len}, specs.Prelude.IsOk}
 use Rattle.shop_runs.specs.Entries.{told}
 use Rattle.shop_workers.{specs.{Entries.Brought, inner.Gathered.{AllOfRound, Placed}}, proofs.TakenLists.AreThrough}
-use Rattle.shop_workers.proofs.ordering.in_order.Given as goal
+use Rattle.shop_workers.proofs.ordering.place_all.Given as goal
 
 abbrev pub invariant-loop-entries : goal.invariant-loop-entries
-invariant-loop-entries g l =
+invariant-loop-entries l =
     (vec_len l.slots ≡ length l.round.pieces.items) × Placed (told l.round) l.slots.items
     × AllOfRound (told l.round) l.brought.items
     × AreThrough (λ (b : Brought). IsOk b) l.initial.brought.items l.brought.items
 
 abbrev pub decreases-loop-entries : goal.decreases-loop-entries
-decreases-loop-entries g l = vec_len l.brought
+decreases-loop-entries l = vec_len l.brought

@@ -2,10 +2,10 @@ use Rattle.std.proofs.{Common.{refl, Some, ◌∙◌}, lemmas.{List.Elements.All
 use Rattle.std.specs.Prelude.{IsOk, IfOk}
 use Rattle.shop_runs.specs.Entries.{told}
 use Rattle.shop_workers.{specs.Entries.{OfRound, Brought}, proofs.TakenLists.through_one}
-use Rattle.shop_workers.proofs.ordering.in_order.Goals as goal
+use Rattle.shop_workers.proofs.ordering.place_all.Goals as goal
 
 pub loop-entries-preserved : goal.loop-entries-preserved
-loop-entries-preserved g c =
+loop-entries-preserved c =
     let r = told c.args.round.now in
     let granted : IsOk c.in-Some.entries = rw c.in_ok-entries.was refl in (
       c.place.ensures.len ∙ c.loop-entries.invariant.0,
@@ -17,6 +17,6 @@ loop-entries-preserved g c =
     )
 
 pub place-requires-clause-entries : goal.place-requires-clause-entries
-place-requires-clause-entries g c = IfOk-at_ok (λ v. OfRound (told c.args.round.now) v.items) c.in_ok-entries.was
+place-requires-clause-entries c = IfOk-at_ok (λ v. OfRound (told c.args.round.now) v.items) c.in_ok-entries.was
     (All-pop (λ (l : Brought). IfOk l (λ v. OfRound (told c.args.round.now) v.items)) _ _
     (Some c.in-Some.entries) c.in-Some.ensures.items c.loop-entries.invariant.2).1

@@ -1,0 +1,23 @@
+// Searches the pieces that no worker of a crew brought.
+ghost use Rattle.std.specs.Prelude.{◌≡◌, length, IfOk, vec_len};
+ghost use Rattle.shop_runs.specs.{Entries.told, Crews.OneForEach};
+ghost use Rattle.shop_workers.specs.inner.Gathered.{Placed};
+
+use shop_round::PieceSearcher;
+use shop_runs::{Entry, Round};
+use shop_workers::complete;
+use std::alloc::{AllocError as NoMemory, Global};
+
+/// Answers one entry for each piece of `round`, in number order, as `complete` does, by a searcher of the calling
+/// thread. Fails with `NoMemory` if memory runs out.
+pub(crate) fn complete_round<'r>(
+    alloc: Global,
+    round: &'r Round<'r>,
+    slots: Vec<Option<Entry<'r>>>,
+) -> Result<Vec<Entry<'r>>, NoMemory>
+    requires len { vec_len slots ≡ length round.now.pieces.items }
+    requires slots { Placed (told round.now) slots.items }
+    ensures { IfOk result (λ v. OneForEach (told round.now) v.items) }
+{
+    complete(alloc, &mut PieceSearcher::over(round), slots)
+}
