@@ -11,7 +11,7 @@ use crate::numbers::Numbers;
 use crate::shuffled_layouts::shuffled;
 use shop_bound::lower_bound;
 use shop_lanes::StateLanes;
-use shop_layout::{LaidOut, LaneLayout};
+use shop_layout::{LaneLayout, LayoutFor};
 use shop_model::{Instance, Job, Op, Word};
 use shop_states::{Candidate, Dispatching};
 use std::alloc::Global;
@@ -291,13 +291,14 @@ fn assert_walk_over<L: StateLanes>(
     rt: &impl Abort,
     alloc: Global,
     numbers: &mut Numbers,
-    lanes: &LaidOut<'_, L>,
+    layout: LayoutFor<'_, '_, L>,
     instance: &Instance,
     manner: Manner,
 )
-    requires { lanes.now.asked ≡ instance.now }
+    requires { layout.asked ≡ instance.now }
 {
-    assert_walk(rt, alloc, numbers, lanes, instance, manner)
+    let laid_out = layout.laid_out();
+    assert_walk(rt, alloc, numbers, &laid_out, instance, manner)
 }
 
 /// Walks a random word in the lanes of the instance's layout, where its machines stand in a random order.
@@ -310,12 +311,18 @@ fn assert_walk_in_lanes(
 ) {
     let layout = shuffled(rt, alloc, numbers, instance);
     match layout.lanes() {
-        LaneLayout::In16By2(lanes) => assert_walk_over(rt, alloc, numbers, lanes, instance, manner),
-        LaneLayout::In16By3(lanes) => assert_walk_over(rt, alloc, numbers, lanes, instance, manner),
-        LaneLayout::In16By4(lanes) => assert_walk_over(rt, alloc, numbers, lanes, instance, manner),
-        LaneLayout::In16(lanes) => assert_walk_over(rt, alloc, numbers, lanes, instance, manner),
-        LaneLayout::In32(lanes) => assert_walk_over(rt, alloc, numbers, lanes, instance, manner),
-        LaneLayout::In64(lanes) => assert_walk_over(rt, alloc, numbers, lanes, instance, manner),
+        LaneLayout::In16By2(layout) => assert_walk_over(
+            rt, alloc, numbers, layout, instance, manner,
+        ),
+        LaneLayout::In16By3(layout) => assert_walk_over(
+            rt, alloc, numbers, layout, instance, manner,
+        ),
+        LaneLayout::In16By4(layout) => assert_walk_over(
+            rt, alloc, numbers, layout, instance, manner,
+        ),
+        LaneLayout::In16(layout) => assert_walk_over(rt, alloc, numbers, layout, instance, manner),
+        LaneLayout::In32(layout) => assert_walk_over(rt, alloc, numbers, layout, instance, manner),
+        LaneLayout::In64(layout) => assert_walk_over(rt, alloc, numbers, layout, instance, manner),
     }
 }
 

@@ -7,7 +7,7 @@ use crate::long_machines::{LATEST, SHAPES, made};
 use crate::numbers::Numbers;
 use crate::shuffled_layouts::shuffled;
 use shop_lanes::StateLanes;
-use shop_layout::{LaidOut, LaneLayout};
+use shop_layout::{LaneLayout, LayoutFor};
 use shop_model::{Instance, Word, fits, is_full};
 use shop_nodes::conflict;
 use shop_states::Dispatching;
@@ -109,12 +109,13 @@ fn assert_fills<D: Dispatching<S>, S: Drop>(
 fn assert_fills_over<L: StateLanes>(
     rt: &(impl Abort + AllocGlobal),
     numbers: &mut Numbers,
-    lanes: &LaidOut<'_, L>,
+    layout: LayoutFor<'_, '_, L>,
     instance: &Instance,
 )
-    requires { lanes.now.asked ≡ instance.now }
+    requires { layout.asked ≡ instance.now }
 {
-    assert_fills(rt, numbers, lanes, instance)
+    let laid_out = layout.laid_out();
+    assert_fills(rt, numbers, &laid_out, instance)
 }
 
 /// Fills states in the lanes of the instance's layout, where its machines stand in a random order.
@@ -125,12 +126,12 @@ fn assert_fills_in_lanes(
 ) {
     let layout = shuffled(rt, rt.alloc(), numbers, instance);
     match layout.lanes() {
-        LaneLayout::In16By2(lanes) => assert_fills_over(rt, numbers, lanes, instance),
-        LaneLayout::In16By3(lanes) => assert_fills_over(rt, numbers, lanes, instance),
-        LaneLayout::In16By4(lanes) => assert_fills_over(rt, numbers, lanes, instance),
-        LaneLayout::In16(lanes) => assert_fills_over(rt, numbers, lanes, instance),
-        LaneLayout::In32(lanes) => assert_fills_over(rt, numbers, lanes, instance),
-        LaneLayout::In64(lanes) => assert_fills_over(rt, numbers, lanes, instance),
+        LaneLayout::In16By2(layout) => assert_fills_over(rt, numbers, layout, instance),
+        LaneLayout::In16By3(layout) => assert_fills_over(rt, numbers, layout, instance),
+        LaneLayout::In16By4(layout) => assert_fills_over(rt, numbers, layout, instance),
+        LaneLayout::In16(layout) => assert_fills_over(rt, numbers, layout, instance),
+        LaneLayout::In32(layout) => assert_fills_over(rt, numbers, layout, instance),
+        LaneLayout::In64(layout) => assert_fills_over(rt, numbers, layout, instance),
     }
 }
 

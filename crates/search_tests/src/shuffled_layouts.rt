@@ -14,7 +14,7 @@ pub fn shuffled<'a>(
     numbers: &mut Numbers,
     instance: &'a Instance,
 ) -> Layout<'a>
-    ensures { result ≡ instance.now }
+    ensures { result.asked ≡ instance.now }
 {
     let mut keys = vec![in alloc; 0; instance.machines()].expect(rt, "memory");
     for machine in 0..instance.machines() {

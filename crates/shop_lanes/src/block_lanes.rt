@@ -12,13 +12,6 @@ use crate::passes::{bits_up_to, first_least};
 use crate::state_lanes::StateLanes;
 use std::alloc::{AllocError as NoMemory, Global};
 
-/// The time and the tail of the operation at each position.
-#[derive(Drop)]
-pub struct FixedBlocks<B: Block> {
-    times: Vec<B::Number>,
-    tails: Vec<B::Number>,
-}
-
 /// The rows of a word's state: the head of the operation at each position, and the end of each job's next operation.
 /// They lie in one row, so that a copy of a state is one copy of memory. Each machine has `EACH` blocks, or any number
 /// if `EACH` is 0.
@@ -98,8 +91,6 @@ impl<B: Block, const EACH: usize> BlockLanes<B, EACH> {
 }
 
 impl<B: Block, const EACH: usize> StateLanes for BlockLanes<B, EACH> {
-    type Fixed = FixedBlocks<B>;
-
     type Number = B::Number;
 
     ghost GREATEST = { B.GREATEST };
@@ -112,23 +103,12 @@ impl<B: Block, const EACH: usize> StateLanes for BlockLanes<B, EACH> {
 
     ghost value = { B.value };
 
-    ghost times = { λ fixed. map B.value fixed.times.items };
-
-    ghost tails = { λ fixed. map B.value fixed.tails.items };
-
     ghost heads = { λ s. map B.value (take s.positions s.row.items) };
 
     ghost ends = { λ s. take s.jobs (drop (s.positions + 8) (map B.value s.row.items)) };
 
-    fn fixed(
-        alloc: Global,
-        all_times: &[u64],
-        all_tails: &[u64],
-    ) -> Result<FixedBlocks<B>, NoMemory> {
-        Ok(FixedBlocks {
-            times: copied::<B>(alloc, all_times)?,
-            tails: copied::<B>(alloc, all_tails)?,
-        })
+    fn in_lanes(alloc: Global, numbers: &[u64]) -> Result<Vec<B::Number>, NoMemory> {
+        copied::<B>(alloc, numbers)
     }
 
     fn new(alloc: Global, positions: usize, jobs: usize) -> Result<Self, NoMemory> {
@@ -185,11 +165,15 @@ impl<B: Block, const EACH: usize> StateLanes for BlockLanes<B, EACH> {
     }
 
     #[inline(always)]
-    fn rows<'a>(&'a self, fixed: &'a FixedBlocks<B>) -> LaneRows<'a, B::Number> {
+    fn rows<'a>(
+        &'a self,
+        times: &'a [B::Number],
+        tails: &'a [B::Number],
+    ) -> LaneRows<'a, B::Number> {
         LaneRows {
             heads: self.heads(),
-            times: &fixed.times,
-            tails: &fixed.tails,
+            times,
+            tails,
         }
     }
 
@@ -218,7 +202,14 @@ impl<B: Block, const EACH: usize> StateLanes for BlockLanes<B, EACH> {
     }
 
     #[inline(always)]
-    fn own_spans(&self, fixed: &FixedBlocks<B>, from: usize, to: usize, owns: &mut [B::Number]) {
-        own_spans::<B, EACH>(&self.rows(fixed).blocks(from, to), owns)
+    fn own_spans(
+        &self,
+        times: &[B::Number],
+        tails: &[B::Number],
+        from: usize,
+        to: usize,
+        owns: &mut [B::Number],
+    ) {
+        own_spans::<B, EACH>(&self.rows(times, tails).blocks(from, to), owns)
     }
 }

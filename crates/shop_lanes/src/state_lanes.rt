@@ -13,9 +13,6 @@ use std::alloc::{AllocError as NoMemory, Global};
 /// Positions come in blocks of eight, read and added up together. Ranks run down the first lanes of all blocks of a
 /// machine, then down their second lanes, and so on.
 pub trait StateLanes: Drop {
-    /// The time and the tail of the operation at each position, equal in all states.
-    type Fixed: Drop;
-
     /// The type of the number in a lane.
     type Number: Copy + Drop;
 
@@ -31,21 +28,15 @@ pub trait StateLanes: Drop {
 
     ghost value: { Self.Number → ℕ };
 
-    ghost times: { Self.Fixed → List ℕ };
-
-    ghost tails: { Self.Fixed → List ℕ };
-
     ghost heads: { Self → List ℕ };
 
     ghost ends: { Self → List ℕ };
 
-    /// Puts the time and the tail of the operation at each position into lanes. Fails with `NoMemory` if memory runs
-    /// out.
-    fn fixed(alloc: Global, all_times: &[u64], all_tails: &[u64]) -> Result<Self::Fixed, NoMemory>
-        requires fitting_times { All (λ t. t ≤ GREATEST) all_times.now }
-        requires fitting_tails { All (λ q. q ≤ GREATEST) all_tails.now }
-        ensures times { IfOk result (λ made. times made ≡ all_times.now) }
-        ensures tails { IfOk result (λ made. tails made ≡ all_tails.now) };
+    /// Puts numbers, as the times or tails of the operations at all positions, into lanes. Fails with `NoMemory` if memory
+    /// runs out.
+    fn in_lanes(alloc: Global, numbers: &[u64]) -> Result<Vec<Self::Number>, NoMemory>
+        requires { All (λ n. n ≤ GREATEST) numbers.now }
+        ensures { IfOk result (λ row. map value row.items ≡ numbers.now) };
 
     /// Makes a state with each head 0, as no operation waits, and each end `GREATEST`, as no job has a next operation.
     /// Fails with `NoMemory` if memory runs out.
@@ -105,12 +96,16 @@ pub trait StateLanes: Drop {
 
     /// The head, the time and the tail of the operation at each position. Who bounds many machines looks the rows up
     /// once.
-    fn rows<'a>(&'a self, fixed: &'a Self::Fixed) -> LaneRows<'a, Self::Number>
-        requires times { length (times fixed.now) ≡ length (heads self.now) }
-        requires tails { length (tails fixed.now) ≡ length (heads self.now) }
+    fn rows<'a>(
+        &'a self,
+        times: &'a [Self::Number],
+        tails: &'a [Self::Number],
+    ) -> LaneRows<'a, Self::Number>
+        requires times { length times.now ≡ length (heads self.now) }
+        requires tails { length tails.now ≡ length (heads self.now) }
         ensures heads { map value result.heads.now ≡ heads self.now }
-        ensures times { map value result.times.now ≡ times fixed.now }
-        ensures tails { map value result.tails.now ≡ tails fixed.now };
+        ensures times { result.times.now ≡ times.now }
+        ensures tails { result.tails.now ≡ tails.now };
 
     /// Answers `most` or, if greater, the greatest span from a head in `range`. The span from a head is the greatest
     /// end, tail included, of the operations of `rows` with no lesser head, served by rank from that head on. Stops
@@ -141,10 +136,17 @@ pub trait StateLanes: Drop {
 
     /// Writes into `owns` the own span of each waiting operation in blocks `from` up to `to` (excluded): how late the
     /// operation, and the others with their tails, end if it starts first, at its head, and they follow by rank.
-    fn own_spans(&self, fixed: &Self::Fixed, from: usize, to: usize, owns: &mut [Self::Number])
-        requires blocks { AreBlocksOf (heads self.now) (times fixed.now) (tails fixed.now) from to }
+    fn own_spans(
+        &self,
+        times: &[Self::Number],
+        tails: &[Self::Number],
+        from: usize,
+        to: usize,
+        owns: &mut [Self::Number],
+    )
+        requires blocks { AreBlocksOf (heads self.now) (map value times.now) (map value tails.now) from to }
         requires room { length owns.old ≡ 8 * to - 8 * from }
-        requires fits { FitOwnSpans GREATEST (lanes_of (heads self.now) (times fixed.now) (tails fixed.now) from to) }
+        requires fits { FitOwnSpans GREATEST (lanes_of (heads self.now) (map value times.now) (map value tails.now) from to) }
         ensures long { length owns.new ≡ length owns.old }
-        ensures owns { AreOwnSpans (heads self.now) (times fixed.now) (tails fixed.now) from to (map value owns.new) };
+        ensures owns { AreOwnSpans (heads self.now) (map value times.now) (map value tails.now) from to (map value owns.new) };
 }

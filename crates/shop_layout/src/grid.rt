@@ -1,50 +1,46 @@
 // `Grid`: the operations of an instance by position, with their times and tails in lanes.
-ghost use Rattle.std.specs.Prelude.{◌≡◌, ◌<◌, IfOk, length, slice_index, slice_index_or, [], ◌≤◌, ◌+◌, ◌-◌, ◌*◌, ◌^◌};
-ghost use Rattle.std.specs.Prelude.{map};
-ghost use Rattle.shop_model.specs.Shop.{Shop};
+ghost use Rattle.std.specs.Prelude.{◌≡◌, ◌<◌, length, slice_index, slice_index_or, [], ◌≤◌, ◌+◌, ◌-◌, ◌*◌, ◌^◌, map};
 ghost use Rattle.shop_lanes.specs.{Rows.{AreBlocks, lanes_between}, Spans.{AreOwnSpans, FitOwnSpans}};
-ghost use Rattle.shop_layout.specs.{Lanes.rows_of, LaidOuts.IsReady, Positions.{AreEven, HoldsMachines}};
+ghost use Rattle.shop_layout.specs.{Lanes.rows_of, Positions.{AreEven, HoldsMachines}};
 
-use crate::legs::{Leg, Legs, Routes, behind_of, legs_of};
+use crate::fixed_rows::Rows;
+use crate::layouts::Layout;
+use crate::legs::{Leg, Routes};
 use crate::positions::Positions;
 use shop_lanes::{LaneRows, StateLanes};
-use std::alloc::{AllocError as NoMemory, Global};
 use std::marker::Model;
-
-/// The most machines for which lanes have code of their own for a number of blocks.
-const MOST_MACHINES: usize = 64;
 
 /// The layout of an instance, with times and tails in lanes. Contracts see the layout without lanes.
 #[derive(Drop)]
-pub struct Grid<L: StateLanes> {
-    positions: Positions,
-    fixed: L::Fixed,
+pub struct Grid<'l, L: StateLanes> {
+    positions: &'l Positions,
+    /// the legs of all routes
+    legs: &'l [Leg],
+    /// at each position, where the legs behind its operation begin
+    behind: &'l [usize],
     /// the number of blocks of each machine, or 0 if not all machines have equally many
     blocks_each: usize,
-    /// the legs of all routes
-    legs: Vec<Leg>,
-    /// at each position, where the legs behind its operation begin
-    behind: Vec<usize>,
+    rows: &'l Rows<L::Number>,
 }
 
-impl<L: StateLanes> Model for Grid<L> {
-    ghost use Rattle.std.specs.Prelude.{◌≡◌};
+impl<'l, L: StateLanes> Model for Grid<'l, L> {
+    ghost use Rattle.std.specs.Prelude.{◌≡◌, map};
     ghost use Rattle.shop_layout.specs.{Positions.{AreEven, LayoutState}, Legs.all_legs, inner.RouteRows.IsBehind};
 
     ghost Value = { LayoutState };
 
-    ghost view = { λ g. g.positions };
+    ghost view = { λ g. g.positions.now };
 
-    ghost invariant = { λ g. (L.times g.fixed ≡ g.positions.times)
-        × (L.tails g.fixed ≡ g.positions.tails)
-        × AreEven g.positions.blocks g.blocks_each
-        × AreEven g.positions.blocks L.EACH
-        × (g.legs.items ≡ all_legs g.positions)
-        × IsBehind g.positions g.behind.items };
+    ghost invariant = { λ g. (map L.value g.rows.now.times.items ≡ g.positions.now.times)
+        × (map L.value g.rows.now.tails.items ≡ g.positions.now.tails)
+        × AreEven g.positions.now.blocks g.blocks_each
+        × AreEven g.positions.now.blocks L.EACH
+        × (g.legs.now ≡ all_legs g.positions.now)
+        × IsBehind g.positions.now g.behind.now };
 }
 
 /// Answers the number of blocks of each machine, or 0 if not all machines have equally many.
-fn even_blocks(blocks: &[u32]) -> usize
+pub(crate) fn even_blocks(blocks: &[u32]) -> usize
     ensures { AreEven blocks.now result }
 {
     if blocks.len() < 2 {
@@ -61,39 +57,22 @@ fn even_blocks(blocks: &[u32]) -> usize
     each
 }
 
-/// Answers the number of blocks of each machine if all of at most 64 machines have equally many, else 0.
-pub(crate) fn fixed_blocks(blocks: &[u32]) -> usize
-    ensures even { AreEven blocks.now result }
-    ensures few { 0 < result → length blocks.now ≤ 65 }
-{
-    if blocks.len() > MOST_MACHINES + 1 {
-        return 0;
-    }
-    even_blocks(blocks)
-}
-
-impl<L: StateLanes> Grid<L> {
-    /// Makes a grid of `positions`, with their times and tails in lanes, and the legs of all routes. Fails with
-    /// `NoMemory` if memory runs out.
-    pub(crate) fn of(alloc: Global, positions: Positions) -> Result<Grid<L>, NoMemory>
-        requires ready { (shop : Shop) × IsReady L.GREATEST shop positions }
-        requires even { AreEven positions.blocks L.EACH }
-        ensures { IfOk result (λ g. g ≡ positions) }
+impl<'l, L: StateLanes> Grid<'l, L> {
+    /// Makes a grid of `layout`, whose times and tails stand in the lanes of `rows`.
+    pub(crate) fn of(layout: &'l Layout<'_>, rows: &'l Rows<L::Number>) -> Grid<'l, L>
+        requires times { map L.value rows.now.times.items ≡ layout.now.layout.times }
+        requires tails { map L.value rows.now.tails.items ≡ layout.now.layout.tails }
+        requires even { AreEven layout.now.layout.blocks L.EACH }
+        ensures { result ≡ layout.now.layout }
     {
-        let (times, places) = (positions.times.as_slice(), positions.places.as_slice());
-        let fixed = L::fixed(alloc, times, positions.tails.as_slice())?;
-        let blocks_each = even_blocks(positions.blocks.as_slice());
-        let machines = positions.machines.as_slice();
-        let Legs { legs, firsts } = legs_of(alloc, places, machines, times, positions.end)?;
-        let (jobs, steps) = (positions.jobs.as_slice(), positions.steps.as_slice());
-        let behind = behind_of(alloc, jobs, steps, firsts.as_slice())?;
-        Ok(Grid {
+        let positions = &layout.positions;
+        Grid {
             positions,
-            fixed,
-            blocks_each,
-            legs,
-            behind,
-        })
+            legs: layout.legs.as_slice(),
+            behind: layout.behind.as_slice(),
+            blocks_each: layout.blocks_each,
+            rows,
+        }
     }
 
     /// The rows of the layout that a walk along a route reads.
@@ -101,29 +80,7 @@ impl<L: StateLanes> Grid<L> {
     pub fn routes(&self) -> Routes
         ensures { result ≡ self.now }
     {
-        Routes::of(
-            &self.positions,
-            self.legs.as_slice(),
-            self.behind.as_slice(),
-        )
-    }
-
-    /// The job of the operation at `position`.
-    #[inline(always)]
-    pub fn job(&self, position: usize) -> usize
-        requires { position < length self.now.jobs }
-        ensures { result ≡ slice_index self.now.jobs position }
-    {
-        self.positions.jobs[position] as usize
-    }
-
-    /// The time of the operation at `position`.
-    #[inline(always)]
-    pub fn time(&self, position: usize) -> u64
-        requires { position < length self.now.times }
-        ensures { result ≡ slice_index self.now.times position }
-    {
-        self.positions.times[position]
+        Routes::of(self.positions, self.legs, self.behind)
     }
 
     /// The position of each step of `job`.
@@ -132,7 +89,8 @@ impl<L: StateLanes> Grid<L> {
         requires { job < length self.now.places }
         ensures { result.now ≡ slice_index_or self.now.places job [] }
     {
-        self.positions.places[job].as_slice()
+        let positions = self.positions;
+        positions.places[job].as_slice()
     }
 
     /// The first block of `machine`; the number of all blocks if `machine` is the number of machines.
@@ -141,7 +99,8 @@ impl<L: StateLanes> Grid<L> {
         requires { machine < length self.now.blocks }
         ensures { result ≡ slice_index self.now.blocks machine }
     {
-        self.positions.blocks[machine] as usize
+        let positions = self.positions;
+        positions.blocks[machine] as usize
     }
 
     /// The number of blocks of each machine, or 0 if not all machines have equally many.
@@ -182,21 +141,14 @@ impl<L: StateLanes> Grid<L> {
         (first, first + each)
     }
 
-    /// The machine of each position.
-    #[inline(always)]
-    pub fn machines(&self) -> &[u32]
-        ensures { result.now ≡ self.now.machines }
-    {
-        self.positions.machines.as_slice()
-    }
-
     /// The next position on the route of the operation at `position`; the number of all positions at the route's end.
     #[inline(always)]
     pub fn next_behind(&self, position: usize) -> u32
         requires { position < length self.now.following }
         ensures { result ≡ slice_index self.now.following position }
     {
-        self.positions.following[position]
+        let positions = self.positions;
+        positions.following[position]
     }
 
     /// The number of all positions.
@@ -204,14 +156,16 @@ impl<L: StateLanes> Grid<L> {
     pub fn positions(&self) -> usize
         ensures { result ≡ length self.now.following }
     {
-        self.positions.following.len()
+        let positions = self.positions;
+        positions.following.len()
     }
 
     /// The number of positions of the machine that has the most of them.
     pub fn most_positions(&self) -> usize
         ensures { HoldsMachines self.now result }
     {
-        let blocks = self.positions.blocks.as_slice();
+        let positions = self.positions;
+        let blocks = positions.blocks.as_slice();
         let mut most = 0;
         for behind in 1..blocks.len() {
             // first blocks rise from machine to machine: nothing saturates
@@ -229,7 +183,8 @@ impl<L: StateLanes> Grid<L> {
         ensures times { map L.value result.times.now ≡ self.now.times }
         ensures tails { map L.value result.tails.now ≡ self.now.tails }
     {
-        lanes.rows(&self.fixed)
+        let rows = self.rows;
+        lanes.rows(rows.times.as_slice(), rows.tails.as_slice())
     }
 
     /// Writes to the start of `owns` the own span of each waiting operation in blocks `from` up to `to` (excluded): how
@@ -246,6 +201,7 @@ impl<L: StateLanes> Grid<L> {
         ensures owns { AreOwnSpans (L.heads lanes.now) self.now.times self.now.tails from to (map L.value owns.new) }
     {
         let owns = &mut owns[..8 * (to - from)];
-        lanes.own_spans(&self.fixed, from, to, owns);
+        let (times, tails) = (self.rows.times.as_slice(), self.rows.tails.as_slice());
+        lanes.own_spans(times, tails, from, to, owns);
     }
 }

@@ -18,13 +18,6 @@ pub struct Leg {
     pub time: u64,
 }
 
-/// The legs of all routes, route after route, each with its end, and where the legs of each job begin among them.
-#[derive(Drop)]
-pub(crate) struct Legs {
-    pub(crate) legs: Vec<Leg>,
-    pub(crate) firsts: Vec<usize>,
-}
-
 /// Adds the legs of the route whose steps stand at the positions `places`, in order, and then its end. There are `end`
 /// positions. Fails with `NoMemory` if memory runs out.
 fn add_route(
@@ -54,21 +47,22 @@ fn add_route(
     Ok(())
 }
 
-/// Makes the legs of all routes. `places` has the position of each step of each job; `machines` and `times` are by
-/// position, and there are `end` positions. A leg takes 16 bytes. Fails with `NoMemory` if memory runs out.
+/// Makes the legs of all routes, route after route, each with its end, and tells where the legs of each job begin.
+/// `places` has the position of each step of each job; `machines` and `times` are by position, and there are `end`
+/// positions. A leg takes 16 bytes. Fails with `NoMemory` if memory runs out.
 pub(crate) fn legs_of(
     alloc: Global,
     places: &[Vec<u32>],
     machines: &[u32],
     times: &[u64],
     end: u32,
-) -> Result<Legs, NoMemory>
+) -> Result<(Vec<Leg>, Vec<usize>), NoMemory>
     requires machines { All (AreBelow (length machines.now)) (items_in places.now) }
     requires times { All (AreBelow (length times.now)) (items_in places.now) }
-    ensures legs { IfOk result (λ v. v.legs.items
+    ensures legs { IfOk result (λ v. v.0.items
         ≡ flat_map (route_legs machines.now times.now end) (items_in places.now)) }
     ensures firsts { IfOk result (λ v. AreFirsts (route_legs machines.now times.now end)
-        (items_in places.now) v.firsts.items) }
+        (items_in places.now) v.1.items) }
 {
     let mut legs = Vec::with_capacity(alloc, machines.len().saturating_add(places.len()))?;
     let mut firsts = Vec::with_capacity(alloc, places.len())?;
@@ -76,7 +70,7 @@ pub(crate) fn legs_of(
         firsts.push(legs.len())?;
         add_route(&mut legs, places[j].as_slice(), machines, times, end)?;
     }
-    Ok(Legs { legs, firsts })
+    Ok((legs, firsts))
 }
 
 /// Finds, for each position, where the legs behind its operation begin. `jobs` and `steps` are by position, and

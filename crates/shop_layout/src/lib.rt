@@ -1,6 +1,7 @@
 // The layout of an instance: the position of each operation, and lanes as narrow as the instance allows.
 #![tactic(auto)]
 
+mod fixed_rows;
 mod grid;
 mod laid_outs;
 mod layouts;
@@ -9,7 +10,7 @@ mod positions;
 mod slots;
 
 pub use grid::Grid;
-pub use laid_outs::LaidOut;
-pub use layouts::{LaneLayout, Layout};
+pub use laid_outs::{LaidOut, LaneLayout, LayoutFor};
+pub use layouts::Layout;
 pub use legs::{Leg, Routes};
 pub use slots::Slot;

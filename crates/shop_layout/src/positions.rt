@@ -15,6 +15,7 @@ use std::marker::Model;
 /// The operations of an instance by position: machine after machine by rank, each in whole blocks of eight positions
 /// with padding. A machine's operations run by nonincreasing tail down the columns of its blocks. All rows call a
 /// machine by its rank.
+#[derive(Drop)]
 pub(crate) struct Positions {
     /// the job of the operation at each position, 0 at padding
     pub(crate) jobs: Vec<u32>,
@@ -34,23 +35,6 @@ pub(crate) struct Positions {
     pub(crate) following: Vec<u32>,
     /// the number of all positions
     pub(crate) end: u32,
-}
-
-// Not derived: a derived `Drop` would be compiled anew into each function that has positions.
-impl Drop for Positions {
-    fn drop(self) {
-        let Positions {
-            jobs: _,
-            steps: _,
-            times: _,
-            tails: _,
-            places: _,
-            blocks: _,
-            machines: _,
-            following: _,
-            end: _,
-        } = self;
-    }
 }
 
 impl Model for Positions {

@@ -74,9 +74,9 @@ pub(crate) fn layout_for<'r>(
     rounds: u64,
     pieces: &[Piece],
 ) -> Result<Layout<'r>, NoMemory>
-    requires kept { IfSome kept (λ l. l ≡ instance.now) }
+    requires kept { IfSome kept (λ l. l.asked ≡ instance.now) }
     requires pieces { ArePieces instance.now pieces.now }
-    ensures { IfOk result (λ l. l ≡ instance.now) }
+    ensures { IfOk result (λ l. l.asked ≡ instance.now) }
 {
     let is_ordered = instance.operations() <= MOST_OPERATIONS;
     if let Some(layout) = kept {

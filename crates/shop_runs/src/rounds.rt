@@ -29,7 +29,7 @@ pub struct Round<'r> {
     pub rounds: u64,
     pub nodes: u64,
     pub(crate) layout: Layout<'r>,
-    pub ghost layout_of: { layout ≡ instance.now },
+    pub ghost layout_of: { layout.asked ≡ instance.now },
     pub ghost numbered: { numbered 0 pieces.items ≡ true },
     pub ghost nodes_of_pieces: { ArePieces instance.now pieces.items },
     pub ghost nodes_of_rest: { AreNodes instance.now rest.items },
@@ -67,7 +67,7 @@ impl<'r> Round<'r> {
 
     /// Answers the layout of the instance, which all who search the pieces share.
     pub fn layout(&self) -> &Layout<'r>
-        ensures { result.now ≡ self.now.instance.now }
+        ensures { result.now.asked ≡ self.now.instance.now }
     {
         &self.layout
     }

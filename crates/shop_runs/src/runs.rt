@@ -82,7 +82,7 @@ impl OpenRun {
         kept: Option<Layout<'r>>,
         plan: &Plan,
     ) -> Result<Round<'r>, NoMemory>
-        requires layout { IfSome kept (λ l. l ≡ instance.now) }
+        requires layout { IfSome kept (λ l. l.asked ≡ instance.now) }
         requires rounds { self.old.rounds < plan.now.rounds }
         requires search { IsSearchOf instance.now plan.now.order self.old }
         ensures front { IfOk result (λ r. IsFront instance.now plan.now self.old r self.new.open) }
@@ -123,13 +123,13 @@ impl OpenRun {
         crew: &mut C,
     ) -> Result<Layout<'r>, NoMemory>
         requires ready { C.ready }
-        requires layout { IfSome kept (λ l. l ≡ instance.now) }
+        requires layout { IfSome kept (λ l. l.asked ≡ instance.now) }
         requires rounds { self.old.rounds < plan.now.rounds }
         requires search { IsRunOf instance.now (planned plan.now) self.old }
         ensures next { OnOk result ((s : Stand) → IsRunAt instance.now (planned plan.now) s self.old
             → IsStanding instance.now s
             → IsRunAt instance.now (planned plan.now) (next_round instance.now (planned plan.now) s) self.new) }
-        ensures layout { IfOk result (λ l. l ≡ instance.now) }
+        ensures layout { IfOk result (λ l. l.asked ≡ instance.now) }
     {
         let rounds_left = (plan.rounds - self.rounds - 1) as usize;
         let most = rounds_left * (MAX_PIECES * plan.piece) + 1;

@@ -45,7 +45,7 @@ pub(crate) fn set_next<L: StateLanes>(
     let ahead = behind as usize;
     let mut end = L::GREATEST;
     if ahead < grid.positions() {
-        end = lanes.head(ahead) + grid.time(ahead);
+        end = lanes.head(ahead) + grid.routes().time(ahead);
     }
     lanes.set_end(job, end);
 }

@@ -115,7 +115,7 @@ fn first_end<L: StateLanes>(state: &State<L>, grid: &Grid<L>) -> Option<FirstEnd
     if position >= grid.positions() {
         return None;
     }
-    let machine = grid.machines()[position] as usize;
+    let machine = grid.routes().machine(position) as usize;
     Some(FirstEnd {
         chosen,
         machine,

@@ -34,7 +34,7 @@ fn range_of(candidate: Candidate, bound: u64, limit: u64) -> BoundRange
     }
 }
 
-impl<'a, L: StateLanes> Dispatching<State<L>> for LaidOut<'a, L> {
+impl<'l, 'a, L: StateLanes> Dispatching<State<L>> for LaidOut<'l, 'a, L> {
     ghost use Rattle.shop_states.specs.inner.{Candidates.IsCandidateOf, Ceilings.AreChildCeilings};
     ghost use Rattle.shop_states.specs.inner.{Scratches.IsScratchOf, AskedStates.IsKeptFor, LaneStates.HasRoom};
     ghost use Rattle.shop_layout.specs.Lanes.{rows_of};

@@ -17,9 +17,8 @@ pub struct Candidate {
 }
 
 /// Fills and copies states of the words of one instance, and dispatches operations in them. A state holds the heads and
-/// next operations after a word, or is mere room for them. A dispatcher never changes, and all searches of a round
-/// share one.
-pub trait Dispatching<S: Drop> {
+/// next operations after a word, or is mere room for them. A dispatcher never changes.
+pub trait Dispatching<S: Drop>: Drop {
     /// Scratch room to fill states, list candidates and dispatch operations.
     type Scratch: Drop;
 

@@ -14,7 +14,7 @@ use shop_layout::Grid;
 #[derive(Drop)]
 pub(crate) struct LaidLanes<'a, L: StateLanes> {
     pub lanes: &'a L,
-    pub grid: &'a Grid<L>,
+    pub grid: &'a Grid<'a, L>,
 }
 
 /// Answers the greatest of `least` and the spans of the machine with these `rows` from its heads above `raise.from` and

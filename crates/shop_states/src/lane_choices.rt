@@ -34,7 +34,7 @@ fn gather_marked<const NUMBERS: usize, L: StateLanes>(
 {
     let mut left = marked;
     while let Some(position) = left.pop_first() {
-        jobs.put(grid.job(position));
+        jobs.put(grid.routes().job(position));
     }
 }
 

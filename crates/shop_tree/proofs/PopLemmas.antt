@@ -19,7 +19,7 @@ pub record HasCome {D S C : Type 0} {g : Ghosts D S C} (first now : Walker D S C
 module _ {D S C : Type 0} {g : Ghosts D S C} (w : Walker D S C g) (rest : List (Held S)) (h : Held S)
     (is : w.stack.items ≡ rest ++ h ∷ []) where
   pub states_below : HasStates w → KeepsStates g w.path.items rest w.states
-  states_below old = let own = IsHeld (g.IsStateOf w.states.dispatcher.now) w.path.items
+  states_below old = let own = IsHeld (g.IsStateOf w.states.dispatcher) w.path.items
       in let all = recursion_from_All own (rest ++ h ∷ []) (rw is at old.held)
       in record { held = All-from_recursion own rest (all_front own rest (h ∷ []) all); states = old.states }
 

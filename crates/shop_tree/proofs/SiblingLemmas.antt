@@ -124,12 +124,12 @@ put_given {S} is shop limit word old mid new n from e put (inr (child, (state, a
 
 -- slots that are kept in two steps
 pub kept_then : {D S C : Type 0} {g : Ghosts D S C} {r s t : WalkStates D S C} → KeepSlots g s t
-    → s.dispatcher.now ≡ r.dispatcher.now → KeepSlots g r t
+    → s.dispatcher ≡ r.dispatcher → KeepSlots g r t
 kept_then kept same = record { states = kept.states; dispatcher = kept.dispatcher ∙ same }
 
 -- what is known of the current word, once a trial left its state
 module _ {D S C : Type 0} {g : Ghosts D S C} {s t : WalkStates D S C} {b : Branching}
-    (same : t.dispatcher.now ≡ s.dispatcher.now) where
+    (same : t.dispatcher ≡ s.dispatcher) where
   pub branching_stays : t.current.value ≡ s.current.value → IsBranchingOf g s b → IsBranchingOf g t b
   branching_stays current at = record {
     state = rw (same, current) at.state;
@@ -137,8 +137,8 @@ module _ {D S C : Type 0} {g : Ghosts D S C} {s t : WalkStates D S C} {b : Branc
     listed = rw same at.listed;
   }
 
-  pub bounded_stays : {top : ℕ} → ((w : List ℕ) (j : ℕ) → g.KnowsChild s.dispatcher.now s.scratch w j
-      → g.KnowsChild s.dispatcher.now t.scratch w j) → AreBounded g s b top → AreBounded g t b top
+  pub bounded_stays : {top : ℕ} → ((w : List ℕ) (j : ℕ) → g.KnowsChild s.dispatcher s.scratch w j
+      → g.KnowsChild s.dispatcher t.scratch w j) → AreBounded g s b top → AreBounded g t b top
   bounded_stays {top} kept at = record {
     settled = rw same at.settled;
     known = λ k c within. subst (λ x. g.KnowsChild x t.scratch b.word.now (get_or b.candidates.now k c).job) (sym same)
@@ -149,10 +149,10 @@ module _ {D S C : Type 0} {g : Ghosts D S C} {s t : WalkStates D S C} {b : Branc
 pub bounded_together : {D S C : Type 0} {g : Ghosts D S C} {s : WalkStates D S C} {b : Branching}
     (t : WalkStates D S C) → IsBranchingOf g s b → (answer : Option ℕ)
     → IfSome answer (λ top. (w : List ℕ) (limit others : ℕ) → IsStateIn g s w
-    → b.bound ≡ lb (g.shop s.dispatcher.now) w → Lists g s w limit b.candidates.now others
-    → Settles (g.shop s.dispatcher.now) w b.bound top b.candidates.now
-    × All (λ c. g.KnowsChild s.dispatcher.now t.scratch w c.job) b.candidates.now)
-    → t.dispatcher.now ≡ s.dispatcher.now → IfSome answer (AreBounded g t b)
+    → b.bound ≡ lb (g.shop s.dispatcher) w → Lists g s w limit b.candidates.now others
+    → Settles (g.shop s.dispatcher) w b.bound top b.candidates.now
+    × All (λ c. g.KnowsChild s.dispatcher t.scratch w c.job) b.candidates.now)
+    → t.dispatcher ≡ s.dispatcher → IfSome answer (AreBounded g t b)
 bounded_together t at None bounded same = tt
 bounded_together {b = b} t at (Some top) bounded same =
     let of = bounded b.word.now b.limit b.closed at.state at.bound at.listed

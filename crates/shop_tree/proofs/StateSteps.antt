@@ -79,7 +79,7 @@ listed_stand {v} {w} s at = record {
 
 -- so they are, once they were listed
 pub listed_at : {D S C : Type 0} {g : Ghosts D S C} {v w : Walker D S C g} {b n : ℕ} → StandsAt v b
-    → stage_of w ≡ stage_of v → w.stack.items ≡ v.stack.items → w.states.dispatcher.now ≡ v.states.dispatcher.now
+    → stage_of w ≡ stage_of v → w.stack.items ≡ v.stack.items → w.states.dispatcher ≡ v.states.dispatcher
     → w.states.current.value ≡ v.states.current.value → HoldSlots g w.states
     → length w.path.items < w.operations
     → Lists g v.states w.path.items w.best w.candidates.items n → IsListedAt w b n

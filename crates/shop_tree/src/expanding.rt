@@ -16,13 +16,13 @@ use std::alloc::{AllocError as NoMemory, Global};
 /// no state is left, those that are walked later have none.
 const MOST_WANTED: usize = 3;
 
-impl<'l, 'a, D: Dispatching<S>, S: Drop> Walker<'l, 'a, D, S> {
+impl<'a, D: Dispatching<S>, S: Drop> Walker<'a, D, S> {
     /// Appends `job` to the current word and spends one unit of the budget.
     #[inline(always)]
     fn take_job(&mut self, job: u16)
         requires some { 0 < self.old.budget }
         requires short { length self.old.path.items < self.old.operations }
-        requires held { AreHeld (D.IsStateOf self.old.states.dispatcher.now)
+        requires held { AreHeld (D.IsStateOf self.old.states.dispatcher)
             (self.old.path.items ++ job ∷ []) self.old.stack.items }
         requires slots { HoldSlots D.Dispatching self.old.states }
         requires state { IsStateIn D.Dispatching self.old.states (self.old.path.items ++ job ∷ []) }

@@ -5,7 +5,7 @@ ghost use Rattle.shop_tree.specs.{Searches.Searches, inner.StateWalkers.HasState
 
 use crate::walkers::Walker;
 use shop_lanes::{Lanes16, Lanes32, Lanes64, StateLanes};
-use shop_layout::{LaidOut, LaneLayout, Layout};
+use shop_layout::{LaidOut, LaneLayout, Layout, LayoutFor};
 use shop_model::Instance;
 use shop_nodes::{Piece, Sheet};
 use shop_states::State;
@@ -13,7 +13,7 @@ use std::alloc::{AllocError as NoMemory, Global};
 use std::marker::Model;
 
 /// A walk over states in lanes of the type `L`.
-type WalkerIn<'l, 'a, L> = Walker<'l, 'a, LaidOut<'a, L>, State<L>>;
+type WalkerIn<'l, 'a, L> = Walker<'a, LaidOut<'l, 'a, L>, State<L>>;
 
 // `LaneWalker` calls these for each of its lanes, and not the walk's own functions: so what a walk needs of its states,
 // letting go of them included, is proved once for any lanes, not once for each.
@@ -23,14 +23,14 @@ type WalkerIn<'l, 'a, L> = Walker<'l, 'a, LaidOut<'a, L>, State<L>>;
 fn walker_in<'l, 'a, L: StateLanes>(
     alloc: Global,
     instance: &'a Instance,
-    lanes: &'l LaidOut<'a, L>,
+    layout: LayoutFor<'l, 'a, L>,
     most: usize,
 ) -> Result<WalkerIn<'l, 'a, L>, NoMemory>
-    requires { lanes.now.asked ≡ instance.now }
+    requires { layout.asked ≡ instance.now }
     ensures instance { IfOk result (λ w. w.instance.now ≡ instance.now) }
     ensures states { IfOk result HasStates }
 {
-    Walker::new(alloc, instance, lanes, most)
+    Walker::new(alloc, instance, layout.laid_out(), most)
 }
 
 /// Searches `piece` like `Walker::search`.
@@ -89,16 +89,16 @@ impl<'l, 'a> LaneWalker<'l, 'a> {
         layout: &'l Layout<'a>,
         most: usize,
     ) -> Result<LaneWalker<'l, 'a>, NoMemory>
-        requires { layout.now ≡ instance.now }
+        requires { layout.now.asked ≡ instance.now }
         ensures { IfOk result (IsWalkOf instance.now) }
     {
         Ok(match layout.lanes() {
-            LaneLayout::In16By2(lanes) => Self::In16By2(walker_in(alloc, instance, lanes, most)?),
-            LaneLayout::In16By3(lanes) => Self::In16By3(walker_in(alloc, instance, lanes, most)?),
-            LaneLayout::In16By4(lanes) => Self::In16By4(walker_in(alloc, instance, lanes, most)?),
-            LaneLayout::In16(lanes) => Self::In16(walker_in(alloc, instance, lanes, most)?),
-            LaneLayout::In32(lanes) => Self::In32(walker_in(alloc, instance, lanes, most)?),
-            LaneLayout::In64(lanes) => Self::In64(walker_in(alloc, instance, lanes, most)?),
+            LaneLayout::In16By2(layout) => Self::In16By2(walker_in(alloc, instance, layout, most)?),
+            LaneLayout::In16By3(layout) => Self::In16By3(walker_in(alloc, instance, layout, most)?),
+            LaneLayout::In16By4(layout) => Self::In16By4(walker_in(alloc, instance, layout, most)?),
+            LaneLayout::In16(layout) => Self::In16(walker_in(alloc, instance, layout, most)?),
+            LaneLayout::In32(layout) => Self::In32(walker_in(alloc, instance, layout, most)?),
+            LaneLayout::In64(layout) => Self::In64(walker_in(alloc, instance, layout, most)?),
         })
     }
 
@@ -179,7 +179,8 @@ impl<'l, 'a> Model for Searcher<'l, 'a> {
 
     ghost view = { λ s. s.instance.now };
 
-    ghost invariant = { λ s. (s.layout.now ≡ s.instance.now) × IfSome s.walker (λ b. IsWalkOf s.instance.now b.value) };
+    ghost invariant = { λ s. (s.layout.now.asked ≡ s.instance.now)
+        × IfSome s.walker (λ b. IsWalkOf s.instance.now b.value) };
 }
 
 impl<'l, 'a> Searcher<'l, 'a> {
@@ -187,7 +188,7 @@ impl<'l, 'a> Searcher<'l, 'a> {
 
     /// Makes a searcher for pieces of `instance`, over its layout. Takes no memory.
     pub fn over(instance: &'a Instance, layout: &'l Layout<'a>) -> Searcher<'l, 'a>
-        requires { layout.now ≡ instance.now }
+        requires { layout.now.asked ≡ instance.now }
         ensures { result ≡ instance.now }
     {
         instance.keeps_limits();
@@ -203,7 +204,7 @@ impl<'l, 'a> Searcher<'l, 'a> {
         layout: &'l Layout<'a>,
         most: usize,
     ) -> Searcher<'l, 'a>
-        requires { layout.now ≡ instance.now }
+        requires { layout.now.asked ≡ instance.now }
         ensures { result ≡ instance.now }
     {
         Searcher {

@@ -30,8 +30,8 @@ pub(crate) struct Branching<'w> {
 
 /// The states of a walk: that of its current word, one in which it tries children, and spare ones for waiting children.
 #[derive(Drop)]
-pub(crate) struct WalkStates<'l, D: Dispatching<S>, S: Drop> {
-    pub(crate) dispatcher: &'l D,
+pub(crate) struct WalkStates<D: Dispatching<S>, S: Drop> {
+    pub(crate) dispatcher: D,
     scratch: D::Scratch,
     pub(crate) current: Box<S>,
     trial: Box<S>,
@@ -40,22 +40,22 @@ pub(crate) struct WalkStates<'l, D: Dispatching<S>, S: Drop> {
     unmade: usize,
 }
 
-impl<'l, D: Dispatching<S>, S: Drop> WalkStates<'l, D, S> {
+impl<D: Dispatching<S>, S: Drop> WalkStates<D, S> {
     /// Makes the current state and the trial's. Allows at most `most` further states, for waiting children, which are
     /// allocated when they are needed. Fails with `NoMemory` if memory runs out.
     pub(crate) fn new(
         alloc: Global,
-        dispatcher: &'l D,
+        dispatcher: D,
         most: usize,
-    ) -> Result<WalkStates<'l, D, S>, NoMemory>
+    ) -> Result<WalkStates<D, S>, NoMemory>
         ensures sound { IfOk result (HoldSlots D.Dispatching) }
-        ensures dispatcher { IfOk result (λ s. s.dispatcher.now ≡ dispatcher.now) }
+        ensures dispatcher { IfOk result (λ s. s.dispatcher ≡ dispatcher) }
     {
         Ok(WalkStates {
-            dispatcher,
             scratch: dispatcher.scratch(alloc)?,
             current: Box::new(alloc, dispatcher.slot(alloc)?)?,
             trial: Box::new(alloc, dispatcher.slot(alloc)?)?,
+            dispatcher,
             spare: Vec::new(alloc),
             unmade: most,
         })
@@ -64,7 +64,7 @@ impl<'l, D: Dispatching<S>, S: Drop> WalkStates<'l, D, S> {
     /// Fills the current state from the word `path`.
     pub(crate) fn fill(&mut self, path: &[u16])
         requires sound { HoldSlots D.Dispatching self.old }
-        requires word { IsWord (D.shop self.old.dispatcher.now) path.now }
+        requires word { IsWord (D.shop self.old.dispatcher) path.now }
         ensures sound { KeepSlots D.Dispatching self.old self.new }
         ensures state { IsStateIn D.Dispatching self.new path.now }
     {
@@ -77,7 +77,7 @@ impl<'l, D: Dispatching<S>, S: Drop> WalkStates<'l, D, S> {
     pub(crate) fn list_candidates(&mut self, limit: u64, candidates: &mut Vec<Candidate>) -> usize
         requires sound { HoldSlots D.Dispatching self.old }
         requires state { IsOfSomeWord (IsStateIn D.Dispatching self.old) }
-        requires room { length (D.shop self.old.dispatcher.now).jobs ≤ vec_capacity candidates.old }
+        requires room { length (D.shop self.old.dispatcher).jobs ≤ vec_capacity candidates.old }
         ensures sound { KeepSlots D.Dispatching self.old self.new }
         ensures listed { (w : List ℕ) → IsStateIn D.Dispatching self.old w
             → Lists D.Dispatching self.old w limit candidates.new.items result }
@@ -91,10 +91,10 @@ impl<'l, D: Dispatching<S>, S: Drop> WalkStates<'l, D, S> {
     /// Dispatches, in the current state, the next operation of `job`, the only job in the conflict set.
     pub(crate) fn strike(&mut self, job: u16)
         requires sound { HoldSlots D.Dispatching self.old }
-        requires sole { HasSoleCandidate (D.shop self.old.dispatcher.now) (IsStateIn D.Dispatching self.old) job }
+        requires sole { HasSoleCandidate (D.shop self.old.dispatcher) (IsStateIn D.Dispatching self.old) job }
         ensures sound { KeepSlots D.Dispatching self.old self.new }
         ensures state { (w : List ℕ) → IsStateIn D.Dispatching self.old w
-            → conflict (D.shop self.old.dispatcher.now) w ≡ job ∷ []
+            → conflict (D.shop self.old.dispatcher) w ≡ job ∷ []
             → IsStateIn D.Dispatching self.new (w ++ job ∷ []) }
     {
         self.dispatcher.strike(&mut self.current, job);
@@ -127,7 +127,7 @@ impl<'l, D: Dispatching<S>, S: Drop> WalkStates<'l, D, S> {
     /// Keeps `state`, if there is one, as a spare state. Fails with `NoMemory` if memory runs out.
     pub(crate) fn give_back(&mut self, state: Option<Box<S>>) -> Result<(), NoMemory>
         requires sound { HoldSlots D.Dispatching self.old }
-        requires slot { IsHeldOf (λ _ s. D.IsSlot self.old.dispatcher.now s) [] state }
+        requires slot { IsHeldOf (λ _ s. D.IsSlot self.old.dispatcher s) [] state }
         ensures sound { KeepSlots D.Dispatching self.old self.new }
         ensures stayed { OnOk result (HaveStayed self.old self.new) }
     {
@@ -142,8 +142,8 @@ impl<'l, D: Dispatching<S>, S: Drop> WalkStates<'l, D, S> {
     /// state from `word`. Fails with `NoMemory` if memory runs out.
     pub(crate) fn go_on_in(&mut self, state: Option<Box<S>>, word: &[u16]) -> Result<(), NoMemory>
         requires sound { HoldSlots D.Dispatching self.old }
-        requires word { IsWord (D.shop self.old.dispatcher.now) word.now }
-        requires state { IsHeldOf (D.IsStateOf self.old.dispatcher.now) word.now state }
+        requires word { IsWord (D.shop self.old.dispatcher) word.now }
+        requires state { IsHeldOf (D.IsStateOf self.old.dispatcher) word.now state }
         ensures sound { KeepSlots D.Dispatching self.old self.new }
         ensures state { OnOk result (IsStateIn D.Dispatching self.new word.now) }
     {
@@ -162,7 +162,7 @@ impl<'l, D: Dispatching<S>, S: Drop> WalkStates<'l, D, S> {
     fn spare_state(&mut self, alloc: Global) -> Result<Option<Box<S>>, NoMemory>
         requires sound { HoldSlots D.Dispatching self.old }
         ensures sound { KeepSlots D.Dispatching self.old self.new }
-        ensures slot { IfOk result (IsHeldOf (λ _ s. D.IsSlot self.old.dispatcher.now s) []) }
+        ensures slot { IfOk result (IsHeldOf (λ _ s. D.IsSlot self.old.dispatcher s) []) }
         ensures stayed { HaveStayed self.old self.new }
     {
         if let Some(state) = self.spare.pop() {
@@ -176,7 +176,7 @@ impl<'l, D: Dispatching<S>, S: Drop> WalkStates<'l, D, S> {
     fn new_state(&mut self, alloc: Global) -> Result<Option<Box<S>>, NoMemory>
         requires sound { HoldSlots D.Dispatching self.old }
         ensures sound { KeepSlots D.Dispatching self.old self.new }
-        ensures slot { IfOk result (IsHeldOf (λ _ s. D.IsSlot self.old.dispatcher.now s) []) }
+        ensures slot { IfOk result (IsHeldOf (λ _ s. D.IsSlot self.old.dispatcher s) []) }
         ensures stayed { HaveStayed self.old self.new }
     {
         if self.unmade == 0 {

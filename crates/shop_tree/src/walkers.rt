@@ -21,7 +21,7 @@ const TOGETHER: usize = 36;
 /// A walk: the word found last, the best makespan, and how many more nodes it may take (`budget`); its states, path to
 /// the current word, stack of waiting children, and room for candidates.
 #[derive(Drop)]
-pub(crate) struct Walker<'l, 'a, D: Dispatching<S>, S: Drop> {
+pub(crate) struct Walker<'a, D: Dispatching<S>, S: Drop> {
     pub(crate) instance: &'a Instance,
     pub(crate) operations: usize,
     /// `TOGETHER` times the number of machines, to compare with candidates times operations left on all machines
@@ -29,19 +29,19 @@ pub(crate) struct Walker<'l, 'a, D: Dispatching<S>, S: Drop> {
     pub(crate) found: Option<Word>,
     pub(crate) best: u64,
     pub(crate) budget: u64,
-    pub(crate) states: WalkStates<'l, D, S>,
+    pub(crate) states: WalkStates<D, S>,
     pub(crate) path: Vec<u16>,
     pub(crate) stack: Vec<Held<S>>,
     pub(crate) candidates: Vec<Candidate>,
     /// entries of the stack below this index have no states any more
     pub(crate) stripped: usize,
     pub ghost counted: { operations ≡ operation_count instance.now },
-    pub ghost same_shop: { D.shop states.dispatcher.now ≡ instance.now },
+    pub ghost same_shop: { D.shop states.dispatcher ≡ instance.now },
     pub ghost room: { length instance.now.jobs ≤ vec_capacity candidates },
     pub ghost path_room: { operation_count instance.now ≤ vec_capacity path },
 }
 
-impl<'l, 'a, D: Dispatching<S>, S: Drop> Walker<'l, 'a, D, S> {
+impl<'a, D: Dispatching<S>, S: Drop> Walker<'a, D, S> {
     ghost use Rattle.shop_nodes.specs.declared.halts.Waiting.TheVariants.{Rest};
     ghost use Rattle.shop_nodes.specs.Halts.{open_child, halted_words, AreHalted, stack_words, word_at};
     ghost use Rattle.shop_tree.specs.inner.{Walkers.IsTurn, StateWalkers.{stage_of, HasStates}, Held.IsHeldOf};
@@ -54,10 +54,10 @@ impl<'l, 'a, D: Dispatching<S>, S: Drop> Walker<'l, 'a, D, S> {
     pub(crate) fn new(
         alloc: Global,
         instance: &'a Instance,
-        dispatcher: &'l D,
+        dispatcher: D,
         most: usize,
-    ) -> Result<Walker<'l, 'a, D, S>, NoMemory>
-        requires shop { D.shop dispatcher.now ≡ instance.now }
+    ) -> Result<Walker<'a, D, S>, NoMemory>
+        requires shop { D.shop dispatcher ≡ instance.now }
         ensures instance { IfOk result (λ w. w.instance.now ≡ instance.now) }
         ensures states { IfOk result HasStates }
     {
@@ -87,7 +87,7 @@ impl<'l, 'a, D: Dispatching<S>, S: Drop> Walker<'l, 'a, D, S> {
     ) -> Result<(), NoMemory>
         requires some { 0 < self.old.budget }
         requires on { IsInOrder (on_top (stage_of self.old) (open_child child)) }
-        requires state { IsHeldOf (D.IsStateOf self.old.states.dispatcher.now)
+        requires state { IsHeldOf (D.IsStateOf self.old.states.dispatcher)
             (word_at self.old.path.items child) state }
         requires states { HasStates self.old }
         ensures turn { OnOk result (IsTurn (stage_of self.old) (open_child child) (stage_of self.new)) }

@@ -12,11 +12,11 @@ use Rattle.shop_states.specs.{declared.lane_bounds.LaidLanes.LaidLanes, declared
 use Rattle.shop_states.specs.{inner.HeadRaises.Raise, inner.LaneStates.IsKeptInLanes, inner.RaiseCalls.HasRaised}
 use Rattle.shop_states.specs.inner.{MachineRaises.{CanTakeSpansUnder, TakesSpans}, Raises.Raises}
 
-module _ {L F N : Type 0} (g : Ghosts L F N) (l : LayoutState) where
+module _ {L N : Type 0} (g : Ghosts L N) (l : LayoutState) where
   abbrev pub rows_in : L → Rows
   rows_in lanes = rows_of l (g.heads lanes) (g.ends lanes)
 
-  abbrev pub KeepsWord : State L F N → Shop → List ℕ → Type 0
+  abbrev pub KeepsWord : State L N → Shop → List ℕ → Type 0
   KeepsWord s shop w = IsKeptInLanes g.GREATEST shop w l (rows_in s.lanes) s.next.items
 
   abbrev pub RaisesIn : List ℕ → (ℕ → Type 0) → ℕ → L → L → Type 0
@@ -25,10 +25,10 @@ module _ {L F N : Type 0} (g : Ghosts L F N) (l : LayoutState) where
   abbrev pub HasRaisedIn : List ℕ → (ℕ → Type 0) → ℕ → L → L → List Raise → List Raise → List ℕ → Type 0
   HasRaisedIn nexts among e old new = HasRaised g.GREATEST l nexts among e (rows_in old) (rows_in new)
 
-abbrev pub laid_rows : {L M N : Type 0} → (L → List ℕ) → (L → List ℕ) → LaidLanes L M N → Rows
+abbrev pub laid_rows : {L N : Type 0} → (L → List ℕ) → (L → List ℕ) → LaidLanes L N → Rows
 laid_rows heads ends laid = rows_of laid.grid.now (heads laid.lanes.now) (ends laid.lanes.now)
 
-module _ {L F N : Type 0} (g : Ghosts L F N) (laid : LaidLanes L F N) where
+module _ {L N : Type 0} (g : Ghosts L N) (laid : LaidLanes L N) where
   abbrev pub CanTakeSpansIn : List ℕ → List Raise → List ℕ → ℕ → Type 0
   CanTakeSpansIn ceilings raises raised least =
       CanTakeSpansUnder g.GREATEST ceilings raises raised laid.grid.now (laid_rows g.heads g.ends laid) least

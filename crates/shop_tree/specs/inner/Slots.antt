@@ -27,7 +27,7 @@ pub record HaveStayed {D S C : Type 0} (old new : WalkStates D S C) : Type 0 whe
 
 module _ {D S C : Type 0} (g : Ghosts D S C) (s : WalkStates D S C) where
   abbrev d : D
-  d = s.dispatcher.now
+  d = s.dispatcher
 
   abbrev pub HoldSlots : Type 0
   HoldSlots = AreStates (g.IsSlot d) (g.IsScratch d) s.scratch s.current.value s.trial.value s.spare.items
@@ -65,4 +65,4 @@ module _ {D S C : Type 0} (g : Ghosts D S C) (s : WalkStates D S C) where
 
 pub record KeepSlots {D S C : Type 0} (g : Ghosts D S C) (old new : WalkStates D S C) : Type 0 where
   pub states : HoldSlots g new
-  pub dispatcher : new.dispatcher.now ≡ old.dispatcher.now
+  pub dispatcher : new.dispatcher ≡ old.dispatcher

@@ -25,7 +25,7 @@ AreHeld is word hs = All (IsHeld is word) hs
 
 pub record KeepsStates {D S C : Type 0} (g : Ghosts D S C) (word : List ℕ) (hs : List (Held S))
     (s : WalkStates D S C) : Type 0 where
-  pub held : AreHeld (g.IsStateOf s.dispatcher.now) word hs
+  pub held : AreHeld (g.IsStateOf s.dispatcher) word hs
   pub states : HoldSlots g s
 
 module _ {D S C : Type 0} {g : Ghosts D S C} where
@@ -46,7 +46,7 @@ module _ {D S C : Type 0} {g : Ghosts D S C} where
 pub record StandsAs {D S C : Type 0} {g : Ghosts D S C} (v w : Walker D S C g) : Type 0 where
   pub stage : stage_of w ≡ stage_of v
   pub candidates : w.candidates.items ≡ v.candidates.items
-  pub dispatcher : w.states.dispatcher.now ≡ v.states.dispatcher.now
+  pub dispatcher : w.states.dispatcher ≡ v.states.dispatcher
   pub current : w.states.current.value ≡ v.states.current.value
   pub states : HasStates w
 

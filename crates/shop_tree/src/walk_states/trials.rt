@@ -12,7 +12,7 @@ use shop_states::{Candidate, Dispatching};
 use std::alloc::{AllocError as NoMemory, Global};
 use std::mem;
 
-impl<'l, D: Dispatching<S>, S: Drop> WalkStates<'l, D, S> {
+impl<D: Dispatching<S>, S: Drop> WalkStates<D, S> {
     /// Dispatches `candidate` in the trial's state, and answers the child's bound if it is below `limit`. That state is
     /// a copy of the current one or, for the last trial, the current state itself, which the walk no longer needs.
     /// `bound` is the bound of the current word.
@@ -66,8 +66,8 @@ impl<'l, D: Dispatching<S>, S: Drop> WalkStates<'l, D, S> {
         requires can { CanTakeKnown D.Dispatching self.old candidate bound }
         ensures sound { KeepSlots D.Dispatching self.old self.new }
         ensures taken { HasTaken D.Dispatching self.old candidate bound limit result self.new.trial.value }
-        ensures kept { (w : List ℕ) (j : ℕ) → D.KnowsChild self.old.dispatcher.now self.old.scratch w j
-            → D.KnowsChild self.old.dispatcher.now self.new.scratch w j }
+        ensures kept { (w : List ℕ) (j : ℕ) → D.KnowsChild self.old.dispatcher self.old.scratch w j
+            → D.KnowsChild self.old.dispatcher self.new.scratch w j }
         ensures current { self.new.current.value ≡ self.old.current.value }
     {
         let (scratch, trial) = (&mut self.scratch, &mut self.trial);
@@ -84,7 +84,7 @@ impl<'l, D: Dispatching<S>, S: Drop> WalkStates<'l, D, S> {
             branching.now.candidates.now }
         ensures sound { KeepSlots D.Dispatching self.old self.new }
         ensures state { IsTrue result → (w : List ℕ) → IsStateIn D.Dispatching self.old w
-            → All (D.IsCandidate self.old.dispatcher.now w) branching.now.candidates.now
+            → All (D.IsCandidate self.old.dispatcher w) branching.now.candidates.now
             → IsStateIn D.Dispatching self.new (w ++ job ∷ []) }
     {
         let bound = branching.bound;
@@ -115,7 +115,7 @@ impl<'l, D: Dispatching<S>, S: Drop> WalkStates<'l, D, S> {
         child: Open,
     ) -> Result<(), NoMemory>
         requires sound { HoldSlots D.Dispatching self.old }
-        requires slots { AreSlotsFrom (D.IsSlot self.old.dispatcher.now) from stack.old.items }
+        requires slots { AreSlotsFrom (D.IsSlot self.old.dispatcher) from stack.old.items }
         requires from { from ≤ length stack.old.items }
         ensures sound { KeepSlots D.Dispatching self.old self.new }
         ensures put { OnOk result (HasPutTried from child self.old.trial.value stack.old.items stack.new.items) }
@@ -185,10 +185,10 @@ impl<'l, D: Dispatching<S>, S: Drop> WalkStates<'l, D, S> {
     ) -> Result<(), NoMemory>
         requires sound { HoldSlots D.Dispatching self.old }
         requires branching { IsBranchingOf D.Dispatching self.old branching.now }
-        requires known { All (λ c. D.KnowsChild self.old.dispatcher.now self.old.scratch
+        requires known { All (λ c. D.KnowsChild self.old.dispatcher self.old.scratch
             branching.now.word.now c.job) branching.now.candidates.now }
         ensures sound { KeepSlots D.Dispatching self.old self.new }
-        ensures given { OnOk result (HasGiven (D.IsStateOf self.old.dispatcher.now)
+        ensures given { OnOk result (HasGiven (D.IsStateOf self.old.dispatcher)
             branching.now.word.now from stack.old.items stack.new.items) }
     {
         if self.free() == 0 {

@@ -1,4 +1,5 @@
 use Rattle.std.proofs.Common.{◌≡◌, ℕ, List, get_or, length, ◌∙◌, ap, sym, subst, arith}
+use Rattle.shop_layout.specs.Positions.{LayoutState}
 use Rattle.shop_states.{specs.inner.Raises.HasBlocks, proofs.{Candidates.choosable, LaneConflicts.chosen_at}}
 use Rattle.shop_states.proofs.LaneConflicts.{chosen_in, chosen_job, is_conflict, none_open}
 use Rattle.shop_states.proofs.candidate_lists.first_end.Goals as goal
@@ -19,10 +20,9 @@ returns-clause-is g c = λ shop w kept.
     in let can = choosable kept
     in let next = ap (λ (xs : List ℕ). get_or xs r 0) c.as_slice-next.ensures.value
     in let at = chosen_at can r is c.positions.ensures (let below = c.if-position-positions.false in omega arith)
-    in let read : get_or c.machines.result.now (get_or c.as_slice-next.result.now r 0) 0
-    ≡ get_or l.machines (get_or nexts r 0) 0 =
-    ap (λ (xs : List ℕ). get_or xs (get_or c.as_slice-next.result.now r 0) 0) c.machines.ensures
-    ∙ ap (λ (x : ℕ). get_or l.machines x 0) next
+    in let read : c.machine-machine.result ≡ get_or l.machines (get_or nexts r 0) 0 = c.machine-machine.ensures
+    ∙ (ap (λ (x : LayoutState). get_or x.machines (get_or c.as_slice-next.result.now r 0) 0) c.routes.ensures
+    ∙ ap (λ (x : ℕ). get_or l.machines x 0) next)
     in let end = kept.ends.next r at.operation in let told = c.first_least_end-chosen.ensures.end in let fits = at.fits
     in record {
       known = grind (arith, chosen_job);

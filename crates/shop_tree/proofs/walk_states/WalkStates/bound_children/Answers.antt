@@ -18,11 +18,11 @@ bound_children-requires-clause-can g c =
 
 pub returns-clause-bounded : goal.returns-clause-bounded
 returns-clause-bounded g c =
-    let s = c.args.self.now in let b = c.args.branching.now in let shop = g.D.Dispatching.shop s.dispatcher.now
-    in let is = g.D.Dispatching.IsStateOf s.dispatcher.now
+    let s = c.args.self.now in let b = c.args.branching.now in let shop = g.D.Dispatching.shop s.dispatcher
+    in let is = g.D.Dispatching.IsStateOf s.dispatcher
     in let bounded = subst (λ now. IfSome c.bound_children.result (λ top. (w : List ℕ) (limit others : ℕ)
     → is w now → b.bound ≡ lb shop w → Lists g.D.Dispatching s w limit b.candidates.now others
     → Settles shop w b.bound top b.candidates.now
-    × All (λ c'. g.D.Dispatching.KnowsChild s.dispatcher.now c.bound_children.new.scratch w c'.job)
+    × All (λ c'. g.D.Dispatching.KnowsChild s.dispatcher c.bound_children.new.scratch w c'.job)
     b.candidates.now)) c.deref.ensures c.bound_children.ensures.bounded
     in bounded_together _ c.requires.branching c.bound_children.result bounded refl

@@ -12,5 +12,5 @@ returns-then-candidate-job-clause-sound g c =
         trial_is = old.trial_is;
         spare_are = old.spare_are;
       };
-      dispatcher = ap (λ s. s.dispatcher.now) c.loop-index.invariant;
+      dispatcher = ap (λ s. s.dispatcher) c.loop-index.invariant;
     }

@@ -3,7 +3,7 @@ use Rattle.shop_tree.proofs.walk_states.WalkStates.go_on_in.Goals as goal
 
 pub returns-in_err-push-clause-sound : goal.returns-in_err-push-clause-sound
 returns-in_err-push-clause-sound g c =
-    let old = c.requires.sound in let d = c.args.self.now.dispatcher.now in let slot = g.D.Dispatching.IsSlot d
+    let old = c.requires.sound in let d = c.args.self.now.dispatcher in let slot = g.D.Dispatching.IsSlot d
     in let own = rw c.in-Some.is at c.requires.state
     in record {
       states = record {
@@ -18,7 +18,7 @@ returns-in_err-push-clause-sound g c =
 
 pub returns-clause-sound : goal.returns-clause-sound
 returns-clause-sound g c =
-    let old = c.requires.sound in let d = c.args.self.now.dispatcher.now in let slot = g.D.Dispatching.IsSlot d
+    let old = c.requires.sound in let d = c.args.self.now.dispatcher in let slot = g.D.Dispatching.IsSlot d
     in let own = rw c.in-Some.is at c.requires.state in let before = c.replace-before.result
     in let kept = subst (λ b. slot b.value) (sym c.replace-before.ensures.value) old.current_is
     in record {

@@ -27,21 +27,21 @@ loop-index-init g c = record {
 
 pub overflow_add-closed : goal.overflow_add-closed
 overflow_add-closed g c =
-    let d = c.loop-index.self.dispatcher.now in let now = c.loop-index.invariant in let a = now.trying.few
+    let d = c.loop-index.self.dispatcher in let now = c.loop-index.invariant in let a = now.trying.few
     in let limits = g.met.D.Dispatching.state_is_within_limits d c.args.branching.now.word.now _ now.branching.state
     in let b = conflict_few (g.D.Dispatching.shop d) c.args.branching.now.word.now in let e = limits.jobs
     in let some = c.loop-index-test.true in omega arith
 
 pub overflow_add-closed-in_default : goal.overflow_add-closed-in_default
 overflow_add-closed-in_default g c =
-    let d = c.loop-index.self.dispatcher.now in let now = c.loop-index.invariant in let a = now.trying.few
+    let d = c.loop-index.self.dispatcher in let now = c.loop-index.invariant in let a = now.trying.few
     in let limits = g.met.D.Dispatching.state_is_within_limits d c.args.branching.now.word.now _ now.branching.state
     in let b = conflict_few (g.D.Dispatching.shop d) c.args.branching.now.word.now in let e = limits.jobs
     in let some = c.loop-index-test.true in omega arith
 
 pub loop-index-preserved-in_ok-put : goal.loop-index-preserved-in_ok-put
 loop-index-preserved-in_ok-put g c =
-    let now = c.loop-index.invariant in let d = c.loop-index.self.dispatcher.now
+    let now = c.loop-index.invariant in let d = c.loop-index.self.dispatcher
     in let is = g.D.Dispatching.IsStateOf d in let shop = g.D.Dispatching.shop d
     in let at = c.args.branching.now in let word = at.word.now in let cs = at.candidates.now
     in let i = c.loop-index.index
@@ -71,7 +71,7 @@ loop-index-preserved-in_ok-put g c =
 
 pub loop-index-preserved-else-least-limit : goal.loop-index-preserved-else-least-limit
 loop-index-preserved-else-least-limit g c =
-    let now = c.loop-index.invariant in let d = c.loop-index.self.dispatcher.now
+    let now = c.loop-index.invariant in let d = c.loop-index.self.dispatcher
     in let shop = g.D.Dispatching.shop d in let at = c.args.branching.now in let word = at.word.now
     in let cs = at.candidates.now in let i = c.loop-index.index
     in let some : 0 < i = (let a = c.loop-index-test.true in omega arith)
@@ -103,13 +103,13 @@ try_child-requires-clause-can g c =
       word = word;
       is = (now.branching.state, next_own some now.trying, now.bounded.known (i - 1) none within);
       fits = next_fits some now.trying
-          (g.met.D.Dispatching.state_is_of_word c.loop-index.self.dispatcher.now word _ now.branching.state);
+          (g.met.D.Dispatching.state_is_of_word c.loop-index.self.dispatcher word _ now.branching.state);
       bound_is = now.branching.bound;
     }
 
 pub loop-index-preserved-in_default : goal.loop-index-preserved-in_default
 loop-index-preserved-in_default g c =
-    let now = c.loop-index.invariant in let d = c.loop-index.self.dispatcher.now
+    let now = c.loop-index.invariant in let d = c.loop-index.self.dispatcher
     in let at = c.args.branching.now in let word = at.word.now in let cs = at.candidates.now
     in let i = c.loop-index.index
     in let some : 0 < i = (let a = c.loop-index-test.true in omega arith)
@@ -135,7 +135,7 @@ put_tried-requires-clause-sound g c = c.try_child.ensures.sound.states
 
 pub put_tried-requires-clause-slots : goal.put_tried-requires-clause-slots
 put_tried-requires-clause-slots g c =
-    let now = c.loop-index.invariant in let d = c.loop-index.self.dispatcher.now in let slot = g.D.Dispatching.IsSlot
+    let now = c.loop-index.invariant in let d = c.loop-index.self.dispatcher in let slot = g.D.Dispatching.IsSlot
     in let a = c.len-from.ensures in let b = c.args.stack.now.ok.0
     in subst (λ x. AreSlotsFrom (slot x) c.len-from.result c.loop-index.stack.items)
     (sym c.try_child.ensures.sound.dispatcher)
@@ -150,7 +150,7 @@ put_tried-requires-clause-from g c =
 
 pub loop-index-preserved : goal.loop-index-preserved
 loop-index-preserved g c =
-    let now = c.loop-index.invariant in let d = c.loop-index.self.dispatcher.now
+    let now = c.loop-index.invariant in let d = c.loop-index.self.dispatcher
     in let at = c.args.branching.now in let word = at.word.now in let cs = at.candidates.now
     in let i = c.loop-index.index
     in let some : 0 < i = (let a = c.loop-index-test.true in omega arith)
@@ -182,7 +182,7 @@ pub returns-clause-children : goal.returns-clause-children
 returns-clause-children g c =
     let at = c.args.branching.now in let word = at.word.now in let old = c.args.stack.now.items
     in let mid = c.loop-index.stack.items in let new = c.give_current.new.stack.items
-    in let now = c.loop-index.invariant in let d = c.loop-index.self.dispatcher.now
+    in let now = c.loop-index.invariant in let d = c.loop-index.self.dispatcher
     in let is = g.D.Dispatching.IsStateOf d
     in let e : c.len-from.result ≡ length old =
     (let a = c.len-from.ensures in let b = c.args.stack.now.ok.0 in omega arith)

@@ -7,13 +7,13 @@ abbrev pub invariant-loop-index : goal.invariant-loop-index
 invariant-loop-index g l = record {
   kids : List (Kept g.row.S.Denot);
   stack : l.stack.items ≡ l.fn.stack.items ++ map held kids;
-  trying : IsTrying (g.D.Dispatching.IsStateOf l.self.dispatcher.now)
-      (g.D.Dispatching.IsCandidate l.self.dispatcher.now l.branching.word.now)
-      (g.D.Dispatching.shop l.self.dispatcher.now) l.branching.limit l.branching.word.now
+  trying : IsTrying (g.D.Dispatching.IsStateOf l.self.dispatcher)
+      (g.D.Dispatching.IsCandidate l.self.dispatcher l.branching.word.now)
+      (g.D.Dispatching.shop l.self.dispatcher) l.branching.limit l.branching.word.now
       l.branching.candidates.now l.index kids l.closed l.self.current.value;
   branching : IsBranchingOf g.D.Dispatching l.self l.branching;
   bounded : AreBounded g.D.Dispatching l.self l.branching l.top;
   more : l.branching.closed ≤ l.closed;
   sound : HoldSlots g.D.Dispatching l.self;
-  same : l.self.dispatcher.now ≡ l.fn.self.dispatcher.now;
+  same : l.self.dispatcher ≡ l.fn.self.dispatcher;
 }

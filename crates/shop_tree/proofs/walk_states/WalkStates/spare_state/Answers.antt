@@ -3,7 +3,7 @@ use Rattle.shop_tree.proofs.walk_states.WalkStates.spare_state.Goals as goal
 
 pub returns-in-Some-clause-sound : goal.returns-in-Some-clause-sound
 returns-in-Some-clause-sound g c =
-    let old = c.requires.sound in let s = c.args.self.now in let slot = g.D.Dispatching.IsSlot s.dispatcher.now
+    let old = c.requires.sound in let s = c.args.self.now in let slot = g.D.Dispatching.IsSlot s.dispatcher
     in record {
       states = record {
         scratch_is = old.scratch_is;

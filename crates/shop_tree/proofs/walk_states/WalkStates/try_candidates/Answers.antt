@@ -28,7 +28,7 @@ loop-index-init g c =
 
 pub overflow_add-closed : goal.overflow_add-closed
 overflow_add-closed g c =
-    let d = c.loop-index.self.dispatcher.now in let now = c.loop-index.invariant in let a = now.trying.few
+    let d = c.loop-index.self.dispatcher in let now = c.loop-index.invariant in let a = now.trying.few
     in let some : 0 < c.loop-index.index = (let a = c.loop-index-test.true in omega arith)
     in let word = c.args.branching.now.word.now
     in let limits = g.met.D.Dispatching.state_is_within_limits d word _ (now.trying.wanted some)
@@ -43,13 +43,13 @@ try_candidate-requires-clause-can g c =
       word = word;
       is = (state, next_own some now.trying);
       fits = next_fits some now.trying
-          (g.met.D.Dispatching.state_is_of_word c.loop-index.self.dispatcher.now word _ state);
+          (g.met.D.Dispatching.state_is_of_word c.loop-index.self.dispatcher word _ state);
       bound_is = now.bound;
     }
 
 pub loop-index-preserved-in_default-try_candidate : goal.loop-index-preserved-in_default-try_candidate
 loop-index-preserved-in_default-try_candidate g c =
-    let now = c.loop-index.invariant in let d = c.loop-index.self.dispatcher.now
+    let now = c.loop-index.invariant in let d = c.loop-index.self.dispatcher
     in let at = c.args.branching.now in let word = at.word.now in let cs = at.candidates.now
     in let i = c.loop-index.index
     in let some : 0 < i = (let a = c.loop-index-test.true in omega arith)
@@ -74,7 +74,7 @@ put_tried-requires-clause-sound g c = c.try_candidate.ensures.sound.states
 
 pub put_tried-requires-clause-slots : goal.put_tried-requires-clause-slots
 put_tried-requires-clause-slots g c =
-    let now = c.loop-index.invariant in let d = c.loop-index.self.dispatcher.now in let slot = g.D.Dispatching.IsSlot
+    let now = c.loop-index.invariant in let d = c.loop-index.self.dispatcher in let slot = g.D.Dispatching.IsSlot
     in let a = c.len-from.ensures in let b = c.args.stack.now.ok.0
     in subst (λ x. AreSlotsFrom (slot x) c.len-from.result c.loop-index.stack.items)
     (sym c.try_candidate.ensures.sound.dispatcher)
@@ -89,7 +89,7 @@ put_tried-requires-clause-from g c =
 
 pub loop-index-preserved : goal.loop-index-preserved
 loop-index-preserved g c =
-    let now = c.loop-index.invariant in let d = c.loop-index.self.dispatcher.now
+    let now = c.loop-index.invariant in let d = c.loop-index.self.dispatcher
     in let is = g.D.Dispatching.IsStateOf d in let at = c.args.branching.now in let word = at.word.now
     in let i = c.loop-index.index
     in let some : 0 < i = (let a = c.loop-index-test.true in omega arith)

@@ -7,12 +7,12 @@ abbrev pub invariant-loop-index : goal.invariant-loop-index
 invariant-loop-index g l = record {
   kids : List (Kept g.row.S.Denot);
   stack : l.stack.items ≡ l.fn.stack.items ++ map held kids;
-  trying : IsTrying (g.D.Dispatching.IsStateOf l.self.dispatcher.now)
-      (g.D.Dispatching.IsCandidate l.self.dispatcher.now l.branching.word.now)
-      (g.D.Dispatching.shop l.self.dispatcher.now) l.branching.limit l.branching.word.now
+  trying : IsTrying (g.D.Dispatching.IsStateOf l.self.dispatcher)
+      (g.D.Dispatching.IsCandidate l.self.dispatcher l.branching.word.now)
+      (g.D.Dispatching.shop l.self.dispatcher) l.branching.limit l.branching.word.now
       l.branching.candidates.now l.index kids l.closed l.self.current.value;
-  bound : l.branching.bound ≡ lb (g.D.Dispatching.shop l.self.dispatcher.now) l.branching.word.now;
+  bound : l.branching.bound ≡ lb (g.D.Dispatching.shop l.self.dispatcher) l.branching.word.now;
   more : l.branching.closed ≤ l.closed;
   sound : HoldSlots g.D.Dispatching l.self;
-  same : l.self.dispatcher.now ≡ l.fn.self.dispatcher.now;
+  same : l.self.dispatcher ≡ l.fn.self.dispatcher;
 }

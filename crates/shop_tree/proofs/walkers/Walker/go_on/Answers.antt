@@ -20,7 +20,7 @@ strike-requires-clause-sole g c = record {
 
 pub take_job-requires-clause-held : goal.take_job-requires-clause-held
 take_job-requires-clause-held g c =
-    let self = c.args.self.now in let e = c.strike.new.self.dispatcher.now
+    let self = c.args.self.now in let e = c.strike.new.self.dispatcher
     in held_on (g.D.Dispatching.IsStateOf e) self.instance.now self.best self.path.items
     c.index-candidate.result.now.job self.stack.items c.requires.listed.at.in_order
     (subst (λ x. AreHeld (g.D.Dispatching.IsStateOf x) self.path.items self.stack.items)
@@ -33,7 +33,7 @@ take_job-requires-clause-state g c = c.strike.ensures.state c.args.self.now.path
 
 pub returns-then-closed-eq0 : goal.returns-then-closed-eq0
 returns-then-closed-eq0 g c =
-    let self = c.args.self.now in let d = self.states.dispatcher.now in let shop = self.instance.now
+    let self = c.args.self.now in let d = self.states.dispatcher in let shop = self.instance.now
     in let word = self.path.items in let job = c.index-candidate.result.now.job in let at = c.requires.listed.at
     in let alone = sole_listed self.candidates.items c.index-candidate.result.now _ c.requires.one
     c.index-candidate.ensures c.if-closed-eq0.true c.requires.listed.candidates
@@ -51,7 +51,7 @@ returns-then-closed-eq0 g c =
 
 pub dispatch_below-requires-clause-can : goal.dispatch_below-requires-clause-can
 dispatch_below-requires-clause-can g c =
-    let self = c.args.self.now in let d = self.states.dispatcher.now in let word = self.path.items
+    let self = c.args.self.now in let d = self.states.dispatcher in let word = self.path.items
     in let cand = c.index-candidate.result.now
     in let one = one_listed self.candidates.items cand _ c.requires.one c.index-candidate.ensures
     in let at = c.requires.listed.at
@@ -69,24 +69,24 @@ dispatch_below-requires-clause-can g c =
 pub overflow_add-closed : goal.overflow_add-closed
 overflow_add-closed g c =
     let self = c.args.self.now in let few = few_closed c.requires.listed.candidates
-    in let limits = (g.met.D.Dispatching.state_is_within_limits self.states.dispatcher.now self.path.items _
+    in let limits = (g.met.D.Dispatching.state_is_within_limits self.states.dispatcher self.path.items _
     c.requires.listed.at.state).jobs
     in omega arith
 
 pub close-requires-clause-word : goal.close-requires-clause-word
 close-requires-clause-word g c = let self = c.args.self.now in subst (λ x. IsWord x self.path.items) self.same_shop
-    (g.met.D.Dispatching.state_is_of_word self.states.dispatcher.now self.path.items _ c.requires.listed.at.state)
+    (g.met.D.Dispatching.state_is_of_word self.states.dispatcher self.path.items _ c.requires.listed.at.state)
 
 pub close-requires-clause-limits : goal.close-requires-clause-limits
 close-requires-clause-limits g c = let self = c.args.self.now in subst IsWithinLimits self.same_shop
-    (g.met.D.Dispatching.state_is_within_limits self.states.dispatcher.now self.path.items _ c.requires.listed.at.state)
+    (g.met.D.Dispatching.state_is_within_limits self.states.dispatcher self.path.items _ c.requires.listed.at.state)
 
 pub close-requires-clause-short : goal.close-requires-clause-short
 close-requires-clause-short g c = c.requires.listed.short
 
 pub close-requires-clause-closed : goal.close-requires-clause-closed
 close-requires-clause-closed g c =
-    let self = c.args.self.now in let shop = g.D.Dispatching.shop self.states.dispatcher.now
+    let self = c.args.self.now in let shop = g.D.Dispatching.shop self.states.dispatcher
     in let word = self.path.items in let cand = c.index-candidate.result.now in let at = c.requires.listed.at
     in let one = one_listed self.candidates.items cand _ c.requires.one c.index-candidate.ensures
     in let bound = at.bound ∙ ap (λ (x : Shop). lb x word) (sym self.same_shop)
@@ -106,7 +106,7 @@ close-requires-clause-states g c = let self = c.args.self.now
 
 pub put_rest-requires : goal.put_rest-requires
 put_rest-requires g c =
-    let self = c.args.self.now in let d = self.states.dispatcher.now in let word = self.path.items
+    let self = c.args.self.now in let d = self.states.dispatcher in let word = self.path.items
     in let state = c.requires.listed.at.state
     in let limits = g.met.D.Dispatching.state_is_within_limits d word self.states.current.value state
     in let most = word_length (g.D.Dispatching.shop d) word limits
@@ -123,7 +123,7 @@ take_job-requires-2-clause-short g c = c.requires.listed.short
 
 pub take_job-requires-2-clause-held : goal.take_job-requires-2-clause-held
 take_job-requires-2-clause-held g c =
-    let self = c.args.self.now in let is = g.D.Dispatching.IsStateOf self.states.dispatcher.now
+    let self = c.args.self.now in let is = g.D.Dispatching.IsStateOf self.states.dispatcher
     in let next = self.path.items ++ c.index-candidate.result.now.job ∷ [] in let at = c.requires.listed.at
     in let longer = held_on is self.instance.now self.best self.path.items c.index-candidate.result.now.job
     self.stack.items at.in_order at.states.held
@@ -140,13 +140,13 @@ take_job-requires-2-clause-state g c =
     in let one = one_listed self.candidates.items cand _ c.requires.one c.index-candidate.ensures
     in let is = g.D.Dispatching.IsStateOf in let after = c.dispatch_below.new.self.current.value
     in subst (λ x. is x (word ++ cand.job ∷ []) after) (sym c.dispatch_below.ensures.sound.dispatcher)
-    (told_state (is self.states.dispatcher.now (word ++ cand.job ∷ []) after) c.in-Some.bound c.dispatch_below.result
+    (told_state (is self.states.dispatcher (word ++ cand.job ∷ []) after) c.in-Some.bound c.dispatch_below.result
     c.in-Some.is (c.dispatch_below.ensures.taken.state word c.requires.listed.at.state
     (alone_own one c.requires.listed.candidates)))
 
 pub returns : goal.returns
 returns g c =
-    let self = c.args.self.now in let d = self.states.dispatcher.now in let shop = g.D.Dispatching.shop d
+    let self = c.args.self.now in let d = self.states.dispatcher in let shop = g.D.Dispatching.shop d
     in let word = self.path.items in let cand = c.index-candidate.result.now
     in let one = one_listed self.candidates.items cand _ c.requires.one c.index-candidate.ensures
     in let at = c.requires.listed.at

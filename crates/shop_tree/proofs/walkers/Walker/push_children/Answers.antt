@@ -10,7 +10,7 @@ use Rattle.shop_tree.proofs.walkers.Walker.push_children.Goals as goal
 
 pub put_rest-requires : goal.put_rest-requires
 put_rest-requires g c =
-    let self = c.args.self.now in let d = self.states.dispatcher.now in let word = self.path.items
+    let self = c.args.self.now in let d = self.states.dispatcher in let word = self.path.items
     in let limits = g.met.D.Dispatching.state_is_within_limits d word self.states.current.value
     c.requires.listed.at.state
     in let most = word_length (g.D.Dispatching.shop d) word limits
@@ -21,7 +21,7 @@ put_rest-requires g c =
 
 pub set_rest_below-requires : goal.set_rest_below-requires
 set_rest_below-requires g c =
-    let self = c.args.self.now in let d = self.states.dispatcher.now in let word = self.path.items
+    let self = c.args.self.now in let d = self.states.dispatcher in let word = self.path.items
     in let old = self.stack.items in let put = c.in_ok-all.ensures.children.put
     in let a = ap (λ (hs : List (Held g.row.S.Denot)). length hs) put.stack
     in let b = length-append c.put_rest.new.stack.items (map held put.kids)
@@ -43,7 +43,7 @@ set_rest_below-requires g c =
 
 pub returns-clause-branched : goal.returns-clause-branched
 returns-clause-branched g c =
-    let self = c.args.self.now in let d = self.states.dispatcher.now in let word = self.path.items
+    let self = c.args.self.now in let d = self.states.dispatcher in let word = self.path.items
     in let best = self.best in let put = c.in_ok-all.ensures.children.put in let opens = opens_in put.kids
     in let n = c.in_ok-all.all
     in let kids = rw (self.same_shop, c.as_slice.ensures.value) at put.children
@@ -74,7 +74,7 @@ try_candidates-requires-clause-branching g c =
     in record {
       state = subst (IsStateIn is s) word at.state;
       bound = at.bound ∙ (ap (λ x. lb x self.path.items) (sym self.same_shop)
-          ∙ ap (lb (is.shop s.dispatcher.now)) word);
+          ∙ ap (lb (is.shop s.dispatcher)) word);
       listed = subst (λ v. Lists is s v self.best c.as_slice-2.result.now c.args.closed) word
           (subst (λ cs. Lists is s self.path.items self.best cs c.args.closed) (sym c.as_slice-2.ensures.value)
           c.requires.listed.candidates);

@@ -32,7 +32,7 @@ go_on_in-requires-clause-word g c =
 
 pub expand-requires : goal.expand-requires
 expand-requires g c =
-    let self = c.args.self.now in let o = c.args.child in let d = self.states.dispatcher.now
+    let self = c.args.self.now in let o = c.args.child in let d = self.states.dispatcher
     in let word = self.path.items in let hs = self.stack.items
     in let own = (popped (waiting_in hs) (open_child o) c.requires.on).own
     in let went : c.push.new.self.items ≡ word_at word o =
