@@ -1,6 +1,6 @@
-// A dispatch in a copy of a state, by one call and by two: the same bounds, and states that behave alike. So too where
-// the children of a word were bounded together, and there without a bound as well.
-ghost use Rattle.std.specs.Prelude.{◌≡◌, ℕ, ◌++◌, ◌∷◌, [], All, IfSome, IsTrue, List, OnSome};
+// A dispatch in a copy of a state, by one call and by two, and without a bound: the bounds are equal, and the states
+// behave alike. So too where the children of a word were bounded together.
+ghost use Rattle.std.specs.Prelude.{◌≡◌, ℕ, ◌++◌, ◌∷◌, [], All, IfSome, List, OnSome};
 ghost use Rattle.shop_bound.specs.Bound.{lb};
 ghost use Rattle.shop_bound.specs.Conflicts.{conflict};
 ghost use Rattle.shop_states.specs.States.{CanDispatch, HasListed, ListsBelow};
@@ -89,44 +89,8 @@ fn dispatch_in_copy<D: Dispatching<S>, S: Drop>(
     }
 }
 
-/// Dispatches a candidate in a copy of the state as if its child were settled, if children were bounded together, and
-/// else by two calls. Answers whether the copy is the child's state.
-fn dispatch_unbounded<D: Dispatching<S>, S: Drop>(
-    dispatcher: &D,
-    scratch: &mut D::Scratch,
-    state: &S,
-    settled: &mut S,
-    trial: Trial,
-) -> bool
-    requires scratch { D.IsScratch dispatcher.now scratch.old }
-    requires settled { D.IsSlot dispatcher.now settled.old }
-    requires can { CanDispatch (D.shop dispatcher.now)
-        (λ w. D.IsStateOf dispatcher.now w state.now
-        × D.IsCandidate dispatcher.now w trial.candidate
-        × IfSome trial.together
-        (λ top. D.KnowsChild dispatcher.now scratch.old w trial.candidate.job))
-        trial.candidate.job trial.bound }
-    ensures state { IsTrue result → (w : List ℕ) → D.IsStateOf dispatcher.now w state.now
-        → D.IsCandidate dispatcher.now w trial.candidate
-        → D.IsStateOf dispatcher.now (w ++ trial.candidate.job ∷ []) settled.new }
-    ensures settled { D.IsSlot dispatcher.now settled.new }
-    ensures scratch { D.IsScratch dispatcher.now scratch.new }
-    ensures kept { (w : List ℕ) (j : ℕ) → D.KnowsChild dispatcher.now scratch.old w j
-        → D.KnowsChild dispatcher.now scratch.new w j }
-{
-    let (candidate, bound, limit) = (trial.candidate, trial.bound, trial.limit);
-    dispatcher.copy(state, settled);
-    match trial.together {
-        Some(_) => dispatcher.dispatch_settled(scratch, settled, candidate, bound, limit),
-        None => dispatcher
-            .dispatch_below(scratch, settled, candidate, bound, limit)
-            .is_some(),
-    }
-}
-
 /// Dispatches a candidate in a copy of the state by two calls, and in another copy by one, and asserts that both tell
-/// the same bound. Dispatches it in a third copy without a bound, and asserts that this leaves a state too, if the
-/// bound is told.
+/// the same bound. Dispatches it in a third copy without a bound.
 fn dispatch_twice<D: Dispatching<S>, S: Drop>(
     rt: &impl Abort,
     dispatcher: &D,
@@ -159,8 +123,7 @@ fn dispatch_twice<D: Dispatching<S>, S: Drop>(
         (D.IsStateOf dispatcher.now (w ++ trial.candidate.job ∷ []) rooms.new.direct) }
     ensures alike { (w : List ℕ) → D.IsStateOf dispatcher.now w rooms.old.state
         → D.IsCandidate dispatcher.now w trial.candidate
-        → OnSome result
-        (D.IsStateOf dispatcher.now (w ++ trial.candidate.job ∷ []) rooms.new.settled) }
+        → D.IsStateOf dispatcher.now (w ++ trial.candidate.job ∷ []) rooms.new.settled }
     ensures first { rooms.new.state ≡ rooms.old.state }
     ensures copied { D.IsSlot dispatcher.now rooms.new.copied }
     ensures direct { D.IsSlot dispatcher.now rooms.new.direct }
@@ -168,15 +131,14 @@ fn dispatch_twice<D: Dispatching<S>, S: Drop>(
     ensures scratch { D.IsScratch dispatcher.now scratch.new }
 {
     let (candidate, bound, limit) = (trial.candidate, trial.bound, trial.limit);
-    let is_child = dispatch_unbounded(dispatcher, scratch, &rooms.state, &mut rooms.settled, trial);
+    dispatcher.copy(&rooms.state, &mut rooms.settled);
+    dispatcher.dispatch_settled(&mut rooms.settled, candidate);
     dispatcher.copy(&rooms.state, &mut rooms.copied);
     let told = dispatcher.dispatch_below(scratch, &mut rooms.copied, candidate, bound, limit);
     let (state, direct) = (&rooms.state, &mut rooms.direct);
     let again = dispatch_in_copy(dispatcher, scratch, state, direct, trial);
     assert_eq!(rt; told, again);
-    let below = again?;
-    assert!(rt; is_child);
-    Some(below)
+    again
 }
 
 /// How children are dispatched in a walk: each alone, or after `bound_children`, where that bounds them together.

@@ -77,10 +77,7 @@ module _ (shop : Shop) (limits : IsWithinLimits shop) (lists : List (List Slot))
         | inr l ↦ grind (arith, jobs_known (omega arith))
       ]
 
-  -- the blocks of the machines stand one after another
-  pub blocks_rise : (m : ℕ) → m < shop.machines → get_or blocks m 0 ≤ get_or blocks (m + 1) 0
-  blocks_rise m known = let room = (laid.each m known).room in omega arith
-
+  -- there are few blocks
   pub blocks_few : All (λ b. b ≤ 10000800) blocks
   blocks_few k d here = grind (arith, get_or_default blocks k d 0 here)
 

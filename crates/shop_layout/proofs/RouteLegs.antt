@@ -1,6 +1,6 @@
 -- The legs of all routes, and where those of each route stand among them.
 use Rattle.std.proofs.Common.{◌≡◌, ℕ, ◌+◌, ◌*◌, ◌^◌, ◌≤◌, ◌<◌, List, [], ◌∷◌, ◌++◌, drop, get_or, length, map, take}
-use Rattle.std.proofs.{Common.{sym, ◌∙◌, ap, arith, rules}, lemmas.{Bool.cases_lt, List.flat_map_more}}
+use Rattle.std.proofs.{Common.{sym, ◌∙◌, ap, arith, rules}, lemmas.{List.flat_map_more}}
 use Rattle.std.proofs.lemmas.List.{get_or_append_left, get_or-map, get_or_default, get_or_push, length-append}
 use Rattle.std.proofs.lemmas.List.{length-map, take-append-drop, take_more, Concat.{flat_map-append, get_or-flat_map}}
 use Rattle.std.specs.{List.{All, flat_map}, Prelude.Vec, declared.alloc.Global.Global}
@@ -25,14 +25,6 @@ module _ (rows : List (Vec ℕ Global)) (j : ℕ) (row : Vec ℕ Global) (places
   pub legs_more : (f : List ℕ → List Leg) {old new : List Leg} → old ≡ flat_map f (take j (map (λ v. v.items) rows))
       → new ≡ old ++ f places → new ≡ flat_map f (take (j + 1) (map (λ v. v.items) rows))
   legs_more f so_far added = search (rules, take_more, length-map, there, flat_map_more)
-
--- where one more row begins
-pub firsts_more : (f : List ℕ → List Leg) (all : List (List ℕ)) (j : ℕ) {legs : List Leg} (old : List ℕ) {new : List ℕ}
-    {n : ℕ} → length old ≡ j → ((i : ℕ) → i < j → get_or old i 0 ≡ length (flat_map f (take i all)))
-    → legs ≡ flat_map f (take j all) → n ≡ length legs → new ≡ old ++ n ∷ []
-    → (i : ℕ) → i < j + 1 → get_or new i 0 ≡ length (flat_map f (take i all))
-firsts_more f all j {legs} old {new} {n} long each so_far count pushed i here =
-    grind (arith, cases_lt, get_or_append_left, get_or_push)
 
 module _ (l : LayoutState) where
   abbrev legs_on : List ℕ → List Leg

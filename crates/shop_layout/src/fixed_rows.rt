@@ -1,5 +1,5 @@
 // The times and tails of a layout, in lanes as narrow as it allows.
-ghost use Rattle.std.specs.Prelude.{◌≡◌, ◌<◌, ◌^◌, IfOk, map};
+ghost use Rattle.std.specs.Prelude.{◌≡◌, ◌<◌, ◌≤◌, ◌^◌, IfOk, map};
 ghost use Rattle.shop_model.specs.Shop.{Shop};
 ghost use Rattle.shop_layout.specs.{LaidOuts.IsReady, inner.{FixedRows.{greatest_in, HasRowsOf}, Widths.IsReadyAbove}};
 
@@ -15,7 +15,10 @@ pub(crate) struct Rows<N: Copy + Drop> {
 }
 
 /// Puts the times and tails of `positions` into lanes. Fails with `NoMemory` if memory runs out.
-fn rows_in<L: StateLanes>(alloc: Global, positions: &Positions) -> Result<Rows<L::Number>, NoMemory>
+fn put_in_lanes<L: StateLanes>(
+    alloc: Global,
+    positions: &Positions,
+) -> Result<Rows<L::Number>, NoMemory>
     requires { (shop : Shop) × IsReady L.GREATEST shop positions.now }
     ensures times { IfOk result (λ r. map L.value r.times.items ≡ positions.now.times) }
     ensures tails { IfOk result (λ r. map L.value r.tails.items ≡ positions.now.tails) }
@@ -42,14 +45,16 @@ impl FixedRows {
         requires small { most < 2 ^ 50 }
         ensures rows { IfOk result (HasRowsOf positions.now) }
         ensures above { IfOk result (λ r. most < greatest_in r) }
+        ensures narrow { IfOk result (λ r. 65535 < greatest_in r → 65535 ≤ most) }
+        ensures narrower { IfOk result (λ r. 4294967295 < greatest_in r → 4294967295 ≤ most) }
         ensures computable { IfOk result (λ r. greatest_in r < 2 ^ 64) }
     {
         if most < <Lanes16<0> as StateLanes>::GREATEST {
-            return Ok(FixedRows::In16(rows_in::<Lanes16<0>>(alloc, positions)?));
+            return Ok(FixedRows::In16(put_in_lanes::<Lanes16<0>>(alloc, positions)?));
         }
         if most < <Lanes32 as StateLanes>::GREATEST {
-            return Ok(FixedRows::In32(rows_in::<Lanes32>(alloc, positions)?));
+            return Ok(FixedRows::In32(put_in_lanes::<Lanes32>(alloc, positions)?));
         }
-        Ok(FixedRows::In64(rows_in::<Lanes64>(alloc, positions)?))
+        Ok(FixedRows::In64(put_in_lanes::<Lanes64>(alloc, positions)?))
     }
 }

@@ -1,8 +1,9 @@
 // `Leg`: a step of a route, as a walk along the route reads it. `Routes`: the rows of a layout that such a walk reads.
 ghost use Rattle.std.specs.Prelude.{◌≡◌, ◌+◌, ◌<◌, ◌^◌, ◌++◌, [], All, IfOk, OnOk, flat_map, length, slice_index};
 ghost use Rattle.std.specs.Prelude.{slice_index_or};
-ghost use Rattle.shop_layout.specs.{Legs.{all_legs, end_of, leg_index, route_legs}, inner.Vectors.items_in};
-ghost use Rattle.shop_layout.specs.inner.RouteRows.{AreBehind, AreBelow, AreFirsts, IsBehind};
+ghost use Rattle.shop_model.specs.{Limits.IsWithinLimits, Shop.Shop};
+ghost use Rattle.shop_layout.specs.{Legs.{all_legs, end_of, leg_index, route_legs}, Positions.IsLaidOut};
+ghost use Rattle.shop_layout.specs.inner.{RouteRows.{AreBehind, AreBelow, AreFirsts, IsBehind}, Vectors.items_in};
 
 use crate::positions::Positions;
 use std::alloc::{AllocError as NoMemory, Global};
@@ -50,7 +51,7 @@ fn add_route(
 /// Makes the legs of all routes, route after route, each with its end, and tells where the legs of each job begin.
 /// `places` has the position of each step of each job; `machines` and `times` are by position, and there are `end`
 /// positions. A leg takes 16 bytes. Fails with `NoMemory` if memory runs out.
-pub(crate) fn legs_of(
+fn legs_of(
     alloc: Global,
     places: &[Vec<u32>],
     machines: &[u32],
@@ -75,7 +76,7 @@ pub(crate) fn legs_of(
 
 /// Finds, for each position, where the legs behind its operation begin. `jobs` and `steps` are by position, and
 /// `firsts` tells for each job where its legs begin. Fails with `NoMemory` if memory runs out.
-pub(crate) fn behind_of(
+fn behind_of(
     alloc: Global,
     jobs: &[u32],
     steps: &[u32],
@@ -88,6 +89,24 @@ pub(crate) fn behind_of(
     (0..jobs.len())
         .map(|position| firsts[jobs[position] as usize].wrapping_add(steps[position] as usize + 1))
         .collect(alloc)
+}
+
+/// Makes the legs of all routes of the layout `positions`, and tells for each position where the legs behind its
+/// operation begin. Fails with `NoMemory` if memory runs out.
+pub(crate) fn legs_with_behind(
+    alloc: Global,
+    positions: &Positions,
+) -> Result<(Vec<Leg>, Vec<usize>), NoMemory>
+    requires { (shop : Shop) × IsWithinLimits shop × IsLaidOut shop positions.now }
+    ensures legs { IfOk result (λ v. v.0.items ≡ all_legs positions.now) }
+    ensures behind { IfOk result (λ v. IsBehind positions.now v.1.items) }
+{
+    let (times, places) = (positions.times.as_slice(), positions.places.as_slice());
+    let machines = positions.machines.as_slice();
+    let (legs, firsts) = legs_of(alloc, places, machines, times, positions.end)?;
+    let (jobs, steps) = (positions.jobs.as_slice(), positions.steps.as_slice());
+    let behind = behind_of(alloc, jobs, steps, firsts.as_slice())?;
+    Ok((legs, behind))
 }
 
 /// The rows of a layout that a walk along a route reads. Each row is looked up once, since a walk that writes would

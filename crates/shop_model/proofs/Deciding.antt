@@ -113,30 +113,3 @@ first_early_by_test shop starts j k op early h = record {
       (each_operation-true shop (λ i l. not (is_before i l j k) || is_in_time shop starts i l) i l h other)
       (is_before-true i l j k before));
 }
-
--- the pairs that stand before (j, k) with (i, l) are apart
-abbrev pub is_earlier_pair : ℕ → ℕ → ℕ → ℕ → ℕ → ℕ → ℕ → ℕ → Bool
-is_earlier_pair a b c d j k i l = is_before a b j k || (is_same a b j k && is_before c d i l)
-
-abbrev pub apart_before : Shop → Starts → ℕ → ℕ → ℕ → ℕ → Bool
-apart_before shop starts j k i l = each_operation shop (λ a b. each_operation shop (λ c d.
-    not (is_before a b c d && is_earlier_pair a b c d j k i l) || are_apart shop starts a b c d))
-
-module _ (shop : Shop) (starts : Starts) (j k i l : ℕ) (op : IsOperation shop j k) (other : IsOperation shop i l)
-    (before : IsBefore j k i l)
-    (same : machine_of shop j k ≡ machine_of shop i l) (second : starts i l < finish_of shop starts j k)
-    (first : starts j k < finish_of shop starts i l) (h : apart_before shop starts j k i l ≡ true) where
-  pair : (a b c d : ℕ) → IsOperation shop a b → IsOperation shop c d → IsBefore a b c d
-      → is_earlier_pair a b c d j k i l ≡ true
-      → AreApart shop starts a b c d
-  pair a b c d one two in_order earlier = are_apart-true shop starts a b c d
-      (unless (is_before a b c d && is_earlier_pair a b c d j k i l) (are_apart shop starts a b c d)
-      (each_operation-true shop (λ c d. not (is_before a b c d && is_earlier_pair a b c d j k i l)
-      || are_apart shop starts a b c d) c d
-      (each_operation-true shop (λ a b. each_operation shop
-      (λ c d. not (is_before a b c d && is_earlier_pair a b c d j k i l) || are_apart shop starts a b c d)) a b h
-      one) two)
-      (and_from (is_before a b c d) (is_earlier_pair a b c d j k i l) (is_before-true a b c d in_order) earlier))
-
-  pub first_overlap_by_test : IsFirstOverlap shop starts j k i l
-  first_overlap_by_test = search (rules, pair, or_right, and_from, eq-eqb, is_before-true, or_left)

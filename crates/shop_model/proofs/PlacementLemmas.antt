@@ -98,49 +98,6 @@ pub finish_small : (shop : Shop) (j : ℕ) (s : PlacementState) → IsWithinLimi
 finish_small shop j s limits next k o r f reads = grind arith
 
 -- the lists after the next step of j was written into them
-module _ (shop : Shop) (p : Placing) (s : PlacementState) (is : IsPlacement shop p s) (j : ℕ)
-    (job : j < length shop.jobs)
-    (k m finish : ℕ) (step : k ≡ p.steps j) (on_machine : m ≡ machine_of shop j k) (known : m < shop.machines)
-    (ends : finish ≡ max (p.ready j) (p.free m) + time_of shop j k) where
-  placed_next : IsPlacement shop (place_next shop p j) (record {
-    steps = set s.steps j (k + 1);
-    ready = set s.ready j finish;
-    free = set s.free m finish;
-  })
-  placed_next =
-      let n = place_next-is shop p j
-      in let begins = n.begins_here
-      in let here : m ≡ machine_of shop j (p.steps j) = on_machine ∙ ap (machine_of shop j) step
-      in let t : time_of shop j k ≡ time_of shop j (p.steps j) = ap (time_of shop j) step
-      in let fm : p.free m ≡ p.free (machine_of shop j (p.steps j)) = ap p.free here
-      in record {
-        places = record {
-          steps = length-set s.steps j (k + 1) ∙ is.places.steps;
-          ready = length-set s.ready j finish ∙ is.places.ready;
-          free = length-set s.free m finish ∙ is.places.free;
-        };
-        steps = λ i h. elim (cases_eq i j) [
-          | inl e ↦ (let a = get_or-set_at s.steps j i (k + 1) 0 e (let l = is.places.steps in omega arith)
-              in let b = n.steps_here in let d : (place_next shop p j).steps i ≡ (place_next shop p j).steps j =
-              ap (place_next shop p j).steps e
-              in omega arith)
-          | inr ne ↦ get_or-set_other s.steps j i (k + 1) 0 ne ∙ (is.steps i h ∙ sym (n.steps_other i ne))
-        ];
-        ready = λ i h. elim (cases_eq i j) [
-          | inl e ↦ (let a = get_or-set_at s.ready j i finish 0 e (let l = is.places.ready in omega arith)
-              in let b = n.ready_here in let d : (place_next shop p j).ready i ≡ (place_next shop p j).ready j =
-              ap (place_next shop p j).ready e
-              in omega arith)
-          | inr ne ↦ get_or-set_other s.ready j i finish 0 ne ∙ (is.ready i h ∙ sym (n.ready_other i ne))
-        ];
-        free = λ i h. elim (cases_eq i m) [
-          | inl e ↦ (let a = get_or-set_at s.free m i finish 0 e (let l = is.places.free in omega arith)
-              in let b = n.free_here i (e ∙ here) in omega arith)
-          | inr ne ↦ get_or-set_other s.free m i finish 0 ne
-              ∙ (is.free i h ∙ sym (n.free_other i (λ e. ne (e ∙ sym here))))
-        ];
-      }
-
 pub placed_by_reads : (shop : Shop) (j : ℕ) (s : PlacementState) → j < length shop.jobs → (k : ℕ) (o : Op) (r f : ℕ)
     → AreReads shop j s k o r f
     → (begin : ℕ) → begin ≡ max r f → (p : Placing) → IsPlacement shop p s

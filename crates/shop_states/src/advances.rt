@@ -9,18 +9,11 @@ ghost use Rattle.shop_states.specs.inner.StateCopies.{IsAsLong};
 
 use crate::delays::delay;
 use crate::dispatches::Dispatch;
-use crate::lane_bounds::LaidLanes;
+use crate::lane_bounds::{BoundRange, LaidLanes};
 use crate::machine_raises::MachineRaises;
 use crate::states::State;
 use shop_lanes::StateLanes;
 use shop_layout::Grid;
-
-/// Where the bound of an extended word is sought: it is no less than `least`, and is told only below `limit`.
-#[derive(Clone, Copy)]
-pub(crate) struct BoundRange {
-    pub least: u64,
-    pub limit: u64,
-}
 
 /// Makes the operation behind `position` on the route of `job` the job's next one, and sets that operation's end, plus
 /// one like heads in lanes: `GREATEST` if the job has no operation left.
@@ -54,26 +47,24 @@ pub(crate) fn set_next<L: StateLanes>(
 /// heads that its end delays. `next` has the word's next operations. Answers the bound of the extended word if it is
 /// below `range.limit`; then `set_next` completes its state. Else answers `None`. `range.least` is at most that bound,
 /// and at least the former word's bound and the operation's own span: how late the operation, and the others of its
-/// machine with their tails, end if it goes first. `ceilings` is empty, or has for each machine one more than a number
-/// that the extended word's bound there doesn't exceed.
+/// machine with their tails, end if it goes first.
 #[inline(always)]
 pub(crate) fn advance_below<L: StateLanes>(
     lanes: &mut L,
     raises: &mut MachineRaises<L>,
-    ceilings: &[u64],
     grid: &Grid<L>,
     next: &[u32],
     dispatch: Dispatch,
-    range: BoundRange,
+    range: &BoundRange,
 ) -> Option<u64>
     requires is { IsDispatchOf grid.now (L.heads lanes.old) next.now dispatch }
     requires can { CanAdvance L.GREATEST grid.now (rows_in L.StateLanes grid.now lanes.old) next.now
-        dispatch.job range.least (length raises.old) ceilings.now }
+        dispatch.job range.now.least (length raises.old) range.now.ceilings.now }
     requires at_rest { AreEmpty raises.old }
-    requires limit { range.limit < 2 ^ 63 }
+    requires limit { range.now.limit < 2 ^ 63 }
     ensures told { (shop : Shop) (w : List ℕ) → IsAdvancing L.GREATEST shop w grid.now
-        (rows_in L.StateLanes grid.now lanes.old) next.now dispatch.job range.least
-        → TellsBoundBelow range.limit (lb shop (w ++ dispatch.job ∷ [])) result }
+        (rows_in L.StateLanes grid.now lanes.old) next.now dispatch.job range.now.least
+        → TellsBoundBelow range.now.limit (lb shop (w ++ dispatch.job ∷ [])) result }
     ensures ready { OnSome result (IsRaisedFor L.GREATEST grid.now dispatch.position dispatch.job
         (rows_in L.StateLanes grid.now lanes.old) (rows_in L.StateLanes grid.now lanes.new) next.now) }
     ensures positions { length (L.heads lanes.new) ≡ length (L.heads lanes.old) }
@@ -87,7 +78,7 @@ pub(crate) fn advance_below<L: StateLanes>(
     lanes.set_head(dispatch.position, 0);
     let raised = raises.raise(lanes, grid, next, dispatch);
     let laid = LaidLanes { lanes, grid };
-    let bound = raises.take_bound(raised, ceilings, &laid, range.least, range.limit);
+    let bound = raises.take_bound(raised, &laid, range);
     if range.limit <= bound {
         return None;
     }
@@ -102,19 +93,18 @@ pub(crate) fn dispatch_in_copy<L: StateLanes>(
     from: &State<L>,
     to: &mut State<L>,
     raises: &mut MachineRaises<L>,
-    ceilings: &[u64],
     grid: &Grid<L>,
     job: usize,
-    range: BoundRange,
+    range: &BoundRange,
 ) -> Option<u64>
     requires can { CanAdvance L.GREATEST grid.now (rows_in L.StateLanes grid.now from.now.lanes) from.now.next.items
-        job range.least (length raises.old) ceilings.now }
+        job range.now.least (length raises.old) range.now.ceilings.now }
     requires long { IsAsLong L.heads L.ends from.now to.old }
     requires at_rest { AreEmpty raises.old }
-    requires limit { range.limit < 2 ^ 63 }
+    requires limit { range.now.limit < 2 ^ 63 }
     ensures told { (shop : Shop) (w : List ℕ) → IsAdvancing L.GREATEST shop w grid.now
-        (rows_in L.StateLanes grid.now from.now.lanes) from.now.next.items job range.least
-        → TellsBoundBelow range.limit (lb shop (w ++ job ∷ [])) result }
+        (rows_in L.StateLanes grid.now from.now.lanes) from.now.next.items job range.now.least
+        → TellsBoundBelow range.now.limit (lb shop (w ++ job ∷ [])) result }
     ensures state { (shop : Shop) (w : List ℕ) → KeepsWord L.StateLanes grid.now from.now shop w
         → IsWord shop (w ++ job ∷ []) → OnSome result (KeepsWord L.StateLanes grid.now to.new shop (w ++ job ∷ [])) }
     ensures room { IsAsLong L.heads L.ends from.now to.new }
@@ -125,7 +115,7 @@ pub(crate) fn dispatch_in_copy<L: StateLanes>(
     let dispatch = Dispatch::of(from, grid, job);
     let position = dispatch.position;
     to.lanes.copy_from(&from.lanes);
-    let bound = advance_below(&mut to.lanes, raises, ceilings, grid, next, dispatch, range)?;
+    let bound = advance_below(&mut to.lanes, raises, grid, next, dispatch, range)?;
     let copied = to.next.as_mut_slice();
     copied.copy_from_slice(next);
     set_next(&mut to.lanes, copied, grid, job, position);

@@ -1,14 +1,13 @@
 // Implements `Dispatching` for a layout, with states in lanes of one width.
 ghost use Rattle.std.specs.Prelude.{◌≡◌, ◌^◌, length, max, min};
 
-use crate::advances::{
-    BoundRange, advance_below, advance_unbounded, dispatch_in_copy, set_next, strike,
-};
+use crate::advances::{advance_below, advance_unbounded, dispatch_in_copy, set_next, strike};
 use crate::beginnings::Beginning;
 use crate::candidate_lists::list_candidates;
 use crate::dispatches::Dispatch;
 use crate::dispatching::{Candidate, Dispatching};
 use crate::fills::fill_state;
+use crate::lane_bounds::BoundRange;
 use crate::machine_raises::MachineRaises;
 use crate::siblings::bound_children;
 use crate::states::{Scratch, State};
@@ -24,13 +23,15 @@ const MANY: usize = 2;
 
 /// Answers where the bound of a word extended by `candidate` is sought, if `bound` is the bound of the word itself.
 #[inline(always)]
-fn range_of(candidate: Candidate, bound: u64, limit: u64) -> BoundRange
+fn range_of(candidate: Candidate, bound: u64, limit: u64, ceilings: &[u64]) -> BoundRange
     ensures least { result.least ≡ max bound candidate.own }
     ensures limit { result.limit ≡ min limit (2 ^ 50) }
+    ensures ceilings { result.ceilings.now ≡ ceilings.now }
 {
     BoundRange {
         least: bound.max(candidate.own),
         limit: limit.min(BOUNDS),
+        ceilings,
     }
 }
 
@@ -124,13 +125,13 @@ impl<'l, 'a, L: StateLanes> Dispatching<State<L>> for LaidOut<'l, 'a, L> {
         limit: u64,
     ) -> Option<u64> {
         let grid = self.grid();
-        let range = range_of(candidate, bound, limit);
+        let range = range_of(candidate, bound, limit, &[]);
         let job = candidate.job as usize;
         let dispatch = Dispatch::of(state, grid, job);
         let position = dispatch.position;
         let lanes = &mut state.lanes;
         let next = state.next.as_slice();
-        let told = advance_below(lanes, &mut scratch.raises, &[], grid, next, dispatch, range)?;
+        let told = advance_below(lanes, &mut scratch.raises, grid, next, dispatch, &range)?;
         set_next(lanes, state.next.as_mut_slice(), grid, job, position);
         Some(told)
     }
@@ -146,9 +147,9 @@ impl<'l, 'a, L: StateLanes> Dispatching<State<L>> for LaidOut<'l, 'a, L> {
         limit: u64,
     ) -> Option<u64> {
         let grid = self.grid();
-        let range = range_of(candidate, bound, limit);
+        let range = range_of(candidate, bound, limit, &[]);
         let job = candidate.job as usize;
-        dispatch_in_copy(from, to, &mut scratch.raises, &[], grid, job, range)
+        dispatch_in_copy(from, to, &mut scratch.raises, grid, job, &range)
     }
 
     fn bound_children(
@@ -181,25 +182,17 @@ impl<'l, 'a, L: StateLanes> Dispatching<State<L>> for LaidOut<'l, 'a, L> {
         limit: u64,
     ) -> Option<u64> {
         let grid = self.grid();
-        let range = range_of(candidate, bound, limit);
-        let job = candidate.job as usize;
         let ceilings = scratch.ceilings.as_slice();
-        dispatch_in_copy(from, to, &mut scratch.raises, ceilings, grid, job, range)
+        let range = range_of(candidate, bound, limit, ceilings);
+        let job = candidate.job as usize;
+        dispatch_in_copy(from, to, &mut scratch.raises, grid, job, &range)
     }
 
     #[inline(never)]
-    fn dispatch_settled(
-        &self,
-        _scratch: &mut Scratch<L>,
-        state: &mut State<L>,
-        candidate: Candidate,
-        _bound: u64,
-        _limit: u64,
-    ) -> bool {
+    fn dispatch_settled(&self, state: &mut State<L>, candidate: Candidate) {
         let grid = self.grid();
         let dispatch = Dispatch::of(state, grid, candidate.job as usize);
         advance_unbounded(state, grid, dispatch);
-        true
     }
 
     ghost state_is_slot = { λ d w s is. record {

@@ -1,6 +1,5 @@
 // The trait `Dispatching`: how a walk fills, copies and extends the states of words.
-ghost use Rattle.std.specs.Prelude.{◌≡◌, ℕ, ◌≤◌, List, [], ◌∷◌, ◌++◌, All, IfOk, IfSome, IsTrue, OnSome, length};
-ghost use Rattle.std.specs.Prelude.{vec_capacity};
+ghost use Rattle.std.specs.Prelude.{◌≡◌, ℕ, ◌≤◌, List, [], ◌∷◌, ◌++◌, All, IfOk, IfSome, OnSome, length, vec_capacity};
 ghost use Rattle.shop_model.specs.{Limits.IsWithinLimits, Shop.Shop, Word.IsWord};
 ghost use Rattle.shop_bound.specs.{Bound.lb, Conflicts.{conflict, SoleCandidateKeepsBound}};
 ghost use Rattle.shop_states.specs.States.{TellsBoundBelow, CanDispatch, HasListed, HasSoleCandidate, IsOfSomeWord};
@@ -183,26 +182,13 @@ pub trait Dispatching<S: Drop>: Drop {
         ensures kept { (w : List ℕ) (j : ℕ) → KnowsChild self.now scratch.old w j
             → KnowsChild self.now scratch.new w j };
 
-    /// Dispatches the next operation of `candidate.job` after `bound_children`, where the bound of the extended word is
-    /// known already, so that nothing need be bounded. Answers whether `state` is that of the extended word now; else
-    /// it is no word's state any more.
-    fn dispatch_settled(
-        &self,
-        scratch: &mut Self::Scratch,
-        state: &mut S,
-        candidate: Candidate,
-        bound: u64,
-        limit: u64,
-    ) -> bool
-        requires scratch { IsScratch self.now scratch.old }
-        requires can { CanDispatch (shop self.now) (λ w. IsStateOf self.now w state.old
-            × IsCandidate self.now w candidate × KnowsChild self.now scratch.old w candidate.job) candidate.job bound }
-        ensures state { IsTrue result → (w : List ℕ) → IsStateOf self.now w state.old
+    /// Dispatches the next operation of `candidate.job` where the bound of the extended word is known already, and so
+    /// bounds nothing.
+    fn dispatch_settled(&self, state: &mut S, candidate: Candidate)
+        requires { IsOfSomeWord (λ w. IsStateOf self.now w state.old × IsCandidate self.now w candidate) }
+        ensures state { (w : List ℕ) → IsStateOf self.now w state.old
             → IsCandidate self.now w candidate → IsStateOf self.now (w ++ candidate.job ∷ []) state.new }
-        ensures slot { IsSlot self.now state.new }
-        ensures scratch { IsScratch self.now scratch.new }
-        ensures kept { (w : List ℕ) (j : ℕ) → KnowsChild self.now scratch.old w j
-            → KnowsChild self.now scratch.new w j };
+        ensures slot { IsSlot self.now state.new };
 
     /// Law: the state of a word also has room for any other state.
     ghost state_is_slot: { (d : Self) (w : List ℕ) (s : S) → IsStateOf d w s → IsSlot d s };

@@ -10,6 +10,15 @@ use crate::machine_sets::MachineSet;
 use shop_lanes::{HeadRange, LaneRows, StateLanes, are_wide};
 use shop_layout::Grid;
 
+/// Where a bound is sought: it is no less than `least`, and a search for it may end once it reaches `limit`. `ceilings`
+/// is empty, or has for each machine one more than a number that the bound doesn't exceed there.
+#[derive(Clone, Copy)]
+pub(crate) struct BoundRange<'a> {
+    pub least: u64,
+    pub limit: u64,
+    pub ceilings: &'a [u64],
+}
+
 /// The heads and ends of a word in lanes, with the layout of its instance.
 #[derive(Drop)]
 pub(crate) struct LaidLanes<'a, L: StateLanes> {
@@ -50,9 +59,9 @@ fn is_ceiling_within(ceilings: &[u64], machine: usize, most: u64) -> bool
     machine < ceilings.len() && ceilings[machine] <= most
 }
 
-/// Answers the greatest of `least` and the spans, explained at `span_of_rows`, of the machines in `raised` from the
-/// heads within their raises. May stop once the bound reaches `limit`. Empties the raises. Skips a machine whose
-/// ceiling, if it has one, is at most the bound so far. `ceilings`, `least`, `limit` and the answer are one more than
+/// Answers the greatest of `range.least` and the spans, explained at `span_of_rows`, of the machines in `raised` from
+/// the heads within their raises. May stop once the bound reaches `range.limit`. Empties the raises. Skips a machine
+/// whose ceiling, if it has one, is at most the bound so far. All numbers of `range` and the answer are one more than
 /// the bounds that they stand for, like heads in lanes. The machines all have `each` blocks, or any numbers of blocks
 /// if `each` is 0: a number that is known lets the compiler unroll the passes over the blocks.
 #[inline(always)]
@@ -60,25 +69,24 @@ pub(crate) fn take_spans_of<L: StateLanes>(
     each: usize,
     raises: &mut [LaneRaise<L::Number>],
     raised: MachineSet,
-    ceilings: &[u64],
     laid: &LaidLanes<L>,
-    least: u64,
-    limit: u64,
+    range: &BoundRange,
 ) -> u64
     requires even { AreEven laid.now.grid.now.blocks each }
-    requires can { CanTakeSpansIn L.StateLanes laid.now ceilings.now (raises_in L.value raises.old) raised least }
-    ensures { TakesSpansIn L.StateLanes laid.now (raises_in L.value raises.old) (raises_in L.value raises.new) least
-        limit result }
+    requires can { CanTakeSpansIn L.StateLanes laid.now range.now.ceilings.now (raises_in L.value raises.old) raised
+        range.now.least }
+    ensures { TakesSpansIn L.StateLanes laid.now (raises_in L.value raises.old) (raises_in L.value raises.new)
+        range.now.least range.now.limit result }
 {
     // looked up once: an emptied raise is a write, behind which the rows would be looked up anew
     let rows = laid.grid.rows(laid.lanes);
-    let mut most = least;
+    let mut most = range.least;
     let mut left = raised;
     while let Some(machine) = left.pop_first() {
         let raise = take_raise::<L>(raises, machine);
-        if !is_ceiling_within(ceilings, machine, most) {
+        if !is_ceiling_within(range.ceilings, machine, most) {
             let (from, to) = laid.grid.blocks_of(each, machine);
-            most = span_of_rows::<L>(each, &rows.blocks(from, to), raise, most, limit);
+            most = span_of_rows::<L>(each, &rows.blocks(from, to), raise, most, range.limit);
         }
     }
     most
@@ -90,28 +98,27 @@ pub(crate) fn take_spans_of<L: StateLanes>(
 pub(crate) fn take_any_spans<L: StateLanes>(
     raises: &mut [LaneRaise<L::Number>],
     raised: MachineSet,
-    ceilings: &[u64],
     laid: &LaidLanes<L>,
-    least: u64,
-    limit: u64,
+    range: &BoundRange,
 ) -> u64
-    requires { CanTakeSpansIn L.StateLanes laid.now ceilings.now (raises_in L.value raises.old) raised least }
-    ensures { TakesSpansIn L.StateLanes laid.now (raises_in L.value raises.old) (raises_in L.value raises.new) least
-        limit result }
+    requires { CanTakeSpansIn L.StateLanes laid.now range.now.ceilings.now (raises_in L.value raises.old) raised
+        range.now.least }
+    ensures { TakesSpansIn L.StateLanes laid.now (raises_in L.value raises.old) (raises_in L.value raises.new)
+        range.now.least range.now.limit result }
 {
     if are_wide(L::GREATEST) {
-        return take_spans_of(0, raises, raised, ceilings, laid, least, limit);
+        return take_spans_of(0, raises, raised, laid, range);
     }
     match laid.grid.blocks_each() {
-        1 => take_spans_of(1, raises, raised, ceilings, laid, least, limit),
-        2 => take_spans_of(2, raises, raised, ceilings, laid, least, limit),
-        3 => take_spans_of(3, raises, raised, ceilings, laid, least, limit),
-        4 => take_spans_of(4, raises, raised, ceilings, laid, least, limit),
-        5 => take_spans_of(5, raises, raised, ceilings, laid, least, limit),
-        6 => take_spans_of(6, raises, raised, ceilings, laid, least, limit),
-        7 => take_spans_of(7, raises, raised, ceilings, laid, least, limit),
-        8 => take_spans_of(8, raises, raised, ceilings, laid, least, limit),
-        _ => take_spans_of(0, raises, raised, ceilings, laid, least, limit),
+        1 => take_spans_of(1, raises, raised, laid, range),
+        2 => take_spans_of(2, raises, raised, laid, range),
+        3 => take_spans_of(3, raises, raised, laid, range),
+        4 => take_spans_of(4, raises, raised, laid, range),
+        5 => take_spans_of(5, raises, raised, laid, range),
+        6 => take_spans_of(6, raises, raised, laid, range),
+        7 => take_spans_of(7, raises, raised, laid, range),
+        8 => take_spans_of(8, raises, raised, laid, range),
+        _ => take_spans_of(0, raises, raised, laid, range),
     }
 }
 

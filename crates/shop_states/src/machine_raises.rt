@@ -7,7 +7,9 @@ ghost use Rattle.shop_states.specs.inner.Siblings.{BoundsRaises, CanRaiseLate, H
 
 use crate::dispatches::{Dispatch, MOST_MARKED};
 use crate::head_raises::{LaneRaise, no_raise, take_raise};
-use crate::lane_bounds::{LaidLanes, kept_ceiling, span_of_rows, take_any_spans, take_spans_of};
+use crate::lane_bounds::{
+    BoundRange, LaidLanes, kept_ceiling, span_of_rows, take_any_spans, take_spans_of,
+};
 use crate::machine_sets::MachineSet;
 use crate::raises::{OpenRoutes, raise_any, raise_marked};
 use crate::siblings::{LateMachine, raise_late};
@@ -87,30 +89,35 @@ impl<L: StateLanes> MachineRaises<L> {
         raised
     }
 
-    /// Answers the greatest of `least` and the spans of the machines in `raised` from their raised heads. The span from
-    /// a head is the greatest end, tail included, of the machine's operations with no lesser head, served by rank from
-    /// that head on. May stop once the bound reaches `limit`. Empties the raises. Skips a machine whose entry in
-    /// `ceilings`, if it has one, is at most one more than the bound so far.
+    /// Answers the greatest of `range.least` and the spans of the machines in `raised` from their raised heads. The span
+    /// from a head is the greatest end, tail included, of the machine's operations with no lesser head, served by rank
+    /// from that head on. May stop once the bound reaches `range.limit`. Empties the raises. Skips a machine whose entry
+    /// in `range.ceilings`, if it has one, is at most one more than the bound so far.
     #[inline(always)]
     pub(crate) fn take_bound(
         &mut self,
         raised: MachineSet,
-        ceilings: &[u64],
         laid: &LaidLanes<L>,
-        least: u64,
-        limit: u64,
+        range: &BoundRange,
     ) -> u64
-        requires limit { limit < 2 ^ 63 }
-        requires below { least < limit }
-        requires can { CanTakeSpansIn L.StateLanes laid.now ceilings.now self.old raised (least + 1) }
-        ensures { TakesSpansIn L.StateLanes laid.now self.old self.new (least + 1) (limit + 1) (result + 1) }
+        requires limit { range.now.limit < 2 ^ 63 }
+        requires below { range.now.least < range.now.limit }
+        requires can { CanTakeSpansIn L.StateLanes laid.now range.now.ceilings.now self.old raised
+            (range.now.least + 1) }
+        ensures { TakesSpansIn L.StateLanes laid.now self.old self.new (range.now.least + 1) (range.now.limit + 1)
+            (result + 1) }
     {
         let raises = self.raises.as_mut_slice();
         let each = laid.grid.fixed_blocks_each();
+        let higher = BoundRange {
+            least: range.least + 1,
+            limit: range.limit + 1,
+            ceilings: range.ceilings,
+        };
         if each == 0 {
-            return take_any_spans(raises, raised, ceilings, laid, least + 1, limit + 1) - 1;
+            return take_any_spans(raises, raised, laid, &higher) - 1;
         }
-        take_spans_of(each, raises, raised, ceilings, laid, least + 1, limit + 1) - 1
+        take_spans_of(each, raises, raised, laid, &higher) - 1
     }
 
     /// Raises heads on the routes behind the operations that wait on a late machine, as `siblings::raise_late` does.

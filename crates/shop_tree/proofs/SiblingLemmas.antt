@@ -3,13 +3,12 @@ use Rattle.std.proofs.Common.{◌≡◌, ℕ, zero, suc, ◌-◌, ◌≤◌, ◌
 use Rattle.std.proofs.Common.{max, All, IfSome, None, Option, Some, inl, inr, sym, ◌∙◌, ap, subst, arith}
 use Rattle.std.proofs.{Math.Seq.{map-set_same, take-length}, lemmas.List.Elements.{All-set, All-from_recursion}}
 use Rattle.std.proofs.lemmas.List.{get_or-map, length-map, map-set, set-append_right}
-use Rattle.shop_model.specs.{Shop.Shop, Word.IsWord}
+use Rattle.shop_model.specs.Shop.{Shop}
 use Rattle.shop_bound.specs.Bound.{lb}
-use Rattle.shop_states.specs.States.{CanDispatch, ListsBelow, Settles, ListsBelow.{none, listed, closed}}
+use Rattle.shop_states.specs.States.{ListsBelow, Settles, ListsBelow.{none, listed, closed}}
 use Rattle.shop_states.specs.declared.dispatching.{Candidate.Candidate, Dispatching.Ghosts}
-use Rattle.shop_nodes.specs.{Branching.conflict, Halts.{open_child, word_at}}
+use Rattle.shop_nodes.specs.Halts.{open_child, word_at}
 use Rattle.shop_nodes.specs.declared.halts.{Open.Open, Waiting.{Waiting, TheVariants.{Child, Rest}}}
-use Rattle.shop_nodes.proofs.ChildrenLemmas.{child-word}
 use Rattle.shop_tree.specs.{declared.walk_states.{WalkStates.WalkStates, Branching.Branching}, inner.Opens.AreChildren}
 use Rattle.shop_tree.specs.{inner.Held.{IsHeldOf, IsKept, Kept, held, opens_in}, declared.held.Held.Held}
 use Rattle.shop_tree.specs.inner.{Slots.{AreBounded, IsBranchingOf, IsStateIn, KeepSlots, Lists}, Tried.HasGiven}
@@ -27,57 +26,13 @@ pub settled_child : {S : Type 0} (is : List ℕ → S → Type 0) (shop : Shop) 
     (record { «open» = record { depth = length word; job = job; bound = b }; state = None })
 settled_child is shop word limit job b told low = grind arith
 
--- a candidate among the jobs that are listed beside closed ones
-pub record IsListed (is : Candidate → Type 0) (js : List ℕ) (c : Candidate) : Type 0 where
-  pub front : List ℕ
-  pub back : List ℕ
-  pub jobs : js ≡ front ++ c.job ∷ back
-  pub own : is c
-
-pub listed_at : {shop : Shop} {word : List ℕ} {limit : ℕ} {is : Candidate → Type 0} {js : List ℕ} {cs : List Candidate}
-    {n : ℕ} → ListsBelow shop word limit is js cs n → (k : ℕ) (d : Candidate) → k < length cs
-    → IsListed is js (get_or cs k d)
-listed_at none k d within = absurd (omega arith)
-listed_at (listed {js = js} j c same own rest) zero d within = record {
-  front = [];
-  back = js;
-  jobs = ap (λ (i : ℕ). i ∷ js) (sym same);
-  own = own;
-}
-listed_at (listed {js = js} j c same own rest) (suc k) d within =
-    let s = listed_at rest k d (omega arith)
-    in record {
-      front = j ∷ s.front;
-      back = s.back;
-      jobs = ap (λ (ks : List ℕ). j ∷ ks) s.jobs;
-      own = s.own;
-    }
-listed_at (closed {js = js} j high rest) k d within =
-    let s = listed_at rest k d within
-    in record {
-      front = j ∷ s.front;
-      back = s.back;
-      jobs = ap (λ (ks : List ℕ). j ∷ ks) s.jobs;
-      own = s.own;
-    }
-
--- each listed candidate can be dispatched
-pub can_each : {shop : Shop} {word : List ℕ} {limit n bound : ℕ} {of : Candidate → Type 0} {cs : List Candidate}
-    (P : Candidate → List ℕ → Type 0) → ListsBelow shop word limit of (conflict shop word) cs n → IsWord shop word
-    → bound ≡ lb shop word → ((k : ℕ) (d : Candidate) → k < length cs → of (get_or cs k d) → P (get_or cs k d) word)
-    → All (λ c. CanDispatch shop (P c) c.job bound) cs
-can_each {shop} {word} {cs = cs} P lists is_word bound_is each k d within =
-    let s = listed_at lists k d within
-    in record {
-      word = word;
-      is = each k d within s.own;
-      fits = child-word shop word is_word s.front s.back (get_or cs k d).job (sym s.jobs);
-      bound_is = bound_is;
-    }
-
-pub own_each : {shop : Shop} {word : List ℕ} {limit n : ℕ} {of : Candidate → Type 0} {cs : List Candidate}
-    → ListsBelow shop word limit of (conflict shop word) cs n → All of cs
-own_each lists k d within = (listed_at lists k d within).own
+-- each listed candidate is what is said of it
+pub own_each : {shop : Shop} {word : List ℕ} {limit : ℕ} {is : Candidate → Type 0} {js : List ℕ} {cs : List Candidate}
+    {n : ℕ} → ListsBelow shop word limit is js cs n → (k : ℕ) (d : Candidate) → k < length cs → is (get_or cs k d)
+own_each none k d within = absurd (omega arith)
+own_each (listed j c same own rest) zero d within = own
+own_each (listed j c same own rest) (suc k) d within = own_each rest k d (omega arith)
+own_each (closed j high rest) k d within = own_each rest k d within
 
 -- the open child of an entry
 child_same : (o p : Open) → open_child o ≡ open_child p → o ≡ p

@@ -2,6 +2,7 @@
 ghost use Rattle.std.specs.Prelude.{◌≡◌, ◌<◌, length, All, IfOk, IsOk, OnOk, IfSome, vec_len};
 ghost use Rattle.shop_runs.specs.{Entries.told, Crews.{OneForEach, IsEntryOf}};
 ghost use Rattle.shop_workers.specs.{Entries.OfRound, inner.Gathered.{AllOfRound, Placed, Fills, StayFilled, AreKept}};
+ghost use Rattle.shop_workers.specs.inner.Gathered.{HasFilled};
 
 use shop_runs::{Entry, PieceSearch, Round};
 use std::alloc::{AllocError as NoMemory, Global};
@@ -60,6 +61,7 @@ pub fn place_all<'r>(
 ) -> Result<Vec<Option<Entry<'r>>>, NoMemory>
     requires { AllOfRound (told round.now) brought.items }
     ensures granted { OnOk result (All IsOk brought.entry.items) }
+    ensures filled { IfOk result (λ v. All (HasFilled v.items) brought.entry.items) }
     ensures len { IfOk result (λ v. vec_len v ≡ length round.now.pieces.items) }
     ensures placed { IfOk result (λ v. Placed (told round.now) v.items) }
 {

@@ -1,7 +1,7 @@
 // Lends the seats of a board to workers, and collects the entries that the workers bring back.
 ghost use Rattle.std.specs.Prelude.{◌≡◌, length, vec_len, All, IfOk, IsOk, OnOk, IfSome};
 ghost use Rattle.shop_runs.specs.{Entries.told, Hits.hits_of_round};
-ghost use Rattle.shop_workers.specs.{inner.Gathered.Placed, inner.Returns.AreReturned, inner.Turns.IsRestKnown};
+ghost use Rattle.shop_workers.specs.inner.{Gathered.{HasFilled, Placed}, Returns.AreReturned, Turns.IsRestKnown};
 ghost use Rattle.shop_workers.specs.Seats.{knows, hits_of, IsSeatOf};
 
 use crate::boards::{Board, Seat};
@@ -58,6 +58,7 @@ fn join_all<'r>(
 ) -> Result<(Option<Seat>, Vec<Option<Entry<'r>>>), NoMemory>
     requires { AreReturned board.now (told round.now) returned.items }
     ensures granted { OnOk result (All (λ w. IsOk w.entries) returned.entry.items) }
+    ensures filled { IfOk result (λ p. All (λ w. HasFilled p.1.items w.entries) returned.entry.items) }
     ensures seat { IfOk result (λ p. IfSome p.0 (IsSeatOf board.now)) }
     ensures len { IfOk result (λ p. vec_len p.1 ≡ length round.now.pieces.items) }
     ensures placed { IfOk result (λ p. Placed (told round.now) p.1.items) }
@@ -99,6 +100,7 @@ pub fn place_returned<'r>(
     requires round { hits_of board.now ≡ hits_of_round round.now }
     requires returned { AreReturned board.now (told round.now) returned.items }
     ensures granted { OnOk result (All (λ w. IsOk w.entries) returned.entry.items) }
+    ensures filled { IfOk result (λ v. All (λ w. HasFilled v.items w.entries) returned.entry.items) }
     ensures len { IfOk result (λ v. vec_len v ≡ length round.now.pieces.items) }
     ensures placed { IfOk result (λ v. Placed (told round.now) v.items) }
 {

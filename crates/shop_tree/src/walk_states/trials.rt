@@ -1,6 +1,7 @@
 // Trials of a word's children: each in a copy of the state of the word, or in this state itself. Where children are
 // bounded together first, settled ones go on the stack without a trial.
 ghost use Rattle.std.specs.Prelude.{◌≡◌, ℕ, ◌≤◌, false, IsTrue, List, [], ◌∷◌, ◌++◌, All, IfOk, IfSome, OnOk, length};
+ghost use Rattle.shop_states.specs.States.{IsOfSomeWord};
 ghost use Rattle.shop_tree.specs.inner.Slots.{AreBounded, CanTake, CanTakeKnown, HasPutAll, HasTaken};
 ghost use Rattle.shop_tree.specs.inner.Slots.{HoldSlots, IsBranchingOf, IsStateIn, KeepSlots};
 ghost use Rattle.shop_tree.specs.inner.Tried.{AreSlotsFrom, HasGiven, HasPutTried};
@@ -75,28 +76,24 @@ impl<D: Dispatching<S>, S: Drop> WalkStates<D, S> {
             .dispatch_child_in_copy(scratch, &self.current, trial, candidate, bound, limit)
     }
 
-    /// Dispatches the candidate of `branching` with this `job` in the current state itself, after `bound_children`. The
-    /// bound of its child is known already, and is below the limit. Answers whether the current state is the child's
-    /// now; else it may be no word's state any more.
+    /// Dispatches the candidate of `branching` with this `job`, whose child's bound is known already, in the current
+    /// state itself. Answers whether the current state is the child's now: false if no candidate has this job.
     pub(crate) fn dispatch_settled(&mut self, job: u16, branching: &Branching<'_>) -> bool
         requires sound { HoldSlots D.Dispatching self.old }
-        requires can { All (λ c. CanTakeKnown D.Dispatching self.old c branching.now.bound)
-            branching.now.candidates.now }
+        requires can { All (λ c. IsOfSomeWord (λ w. IsStateIn D.Dispatching self.old w
+            × D.IsCandidate self.old.dispatcher w c)) branching.now.candidates.now }
         ensures sound { KeepSlots D.Dispatching self.old self.new }
         ensures state { IsTrue result → (w : List ℕ) → IsStateIn D.Dispatching self.old w
             → All (D.IsCandidate self.old.dispatcher w) branching.now.candidates.now
             → IsStateIn D.Dispatching self.new (w ++ job ∷ []) }
     {
-        let bound = branching.bound;
-        let limit = branching.limit;
         let candidates = branching.candidates;
         for index in 0..candidates.len() {
             let candidate = candidates[index];
             if candidate.job == job {
-                let (scratch, state) = (&mut self.scratch, &mut self.current);
-                return self
-                    .dispatcher
-                    .dispatch_settled(scratch, state, candidate, bound, limit);
+                let state = &mut self.current;
+                self.dispatcher.dispatch_settled(state, candidate);
+                return true;
             }
         }
         false
@@ -185,8 +182,6 @@ impl<D: Dispatching<S>, S: Drop> WalkStates<D, S> {
     ) -> Result<(), NoMemory>
         requires sound { HoldSlots D.Dispatching self.old }
         requires branching { IsBranchingOf D.Dispatching self.old branching.now }
-        requires known { All (λ c. D.KnowsChild self.old.dispatcher self.old.scratch
-            branching.now.word.now c.job) branching.now.candidates.now }
         ensures sound { KeepSlots D.Dispatching self.old self.new }
         ensures given { OnOk result (HasGiven (D.IsStateOf self.old.dispatcher)
             branching.now.word.now from stack.old.items stack.new.items) }

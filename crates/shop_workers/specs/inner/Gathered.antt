@@ -3,6 +3,7 @@
 --     Placed round places      an entry that stands in a place is that of the piece of this number
 --     Fills places e           the place of this entry is filled, if there is one
 --     StayFilled before after  each place that was filled still is
+--     HasFilled places b       the entries of a worker that wasn't refused memory fill their places
 --     AreKept places entries   an entry that stands in a place is kept
 use Rattle.std.specs.Prelude.{◌≡◌, ℕ, ◌<◌, List, length, All, Option, Some, None, IsSome, IfSome, IfOk, slice_index_or}
 use Rattle.shop_runs.specs.{Round.Told, Crews.IsEntryOf, Entries.number_of, declared.entries.Entry.Entry}
@@ -23,6 +24,9 @@ Fills places e = IsFilled places (number_of e.kind)
 
 abbrev pub StayFilled : List (Option Entry) → List (Option Entry) → Type 0
 StayFilled before after = (n : ℕ) → IsFilled before n → IsFilled after n
+
+abbrev pub HasFilled : List (Option Entry) → Brought → Type 0
+HasFilled places b = IfOk b (λ v. All (Fills places) v.items)
 
 abbrev pub AreKept : List (Option Entry) → List Entry → Type 0
 AreKept places es = (n : ℕ) (e : Entry) → n < length places

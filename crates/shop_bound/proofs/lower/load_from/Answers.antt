@@ -1,4 +1,5 @@
 use Rattle.std.proofs.{Common.{◌≡◌, ◌+◌, max, List, get_or, take, sym, subst, arith, rules}, lemmas.List.take_more}
+use Rattle.std.proofs.lemmas.Grind.{common_steps}
 use Rattle.std.proofs.lemmas.List.Sums.{sum_by_more_le}
 use Rattle.shop_bound.specs.{declared.triples.Triple.Triple, inner.Thresholds.no_triple}
 use Rattle.shop_bound.proofs.{LeapTurns.{IsLoadOf, earlier, later}, Lists.get_or-le-greatest_of}
@@ -23,3 +24,6 @@ loop-t-preserved c =
       | else-from-t w ↦ rw (w.time-is, w.load-is)
           (earlier us x c.args.from c.loop-t.time c.loop-t.load is (let a = w.if-from-t.false in omega arith))
     ])
+
+pub overflow_add-time : goal.overflow_add-time
+overflow_add-time c = grind (arith, common_steps)

@@ -1,4 +1,4 @@
-use Rattle.std.proofs.{Common.arith, lemmas.List.take_all}
+use Rattle.std.proofs.{Common.arith, lemmas.{Grind.common_steps, List.take_all}}
 use Rattle.shop_bound.proofs.LowerBounds.{lists_few, lists_small, lists_bounds}
 use Rattle.shop_bound.proofs.lower.machine_bounds.Goals as goal
 
@@ -22,3 +22,6 @@ returns-clause-bounds c =
     lists_bounds c.args.instance.now c.keeps_limits.ensures c.args.word.now c.requires c.in_ok-placement.placement
     c.in_ok-placement.ensures c.list_unplaced.new.lists c.list_unplaced.ensures.room c.list_unplaced.ensures.unplaced
     c.loop-m.bounds.items (grind (arith, take_all))
+
+pub loop-m-preserved : goal.loop-m-preserved
+loop-m-preserved c = grind (arith, common_steps)

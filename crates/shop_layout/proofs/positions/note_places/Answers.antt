@@ -1,4 +1,5 @@
 use Rattle.std.proofs.Common.{◌≡◌, ℕ, ◌+◌, ◌<◌, List, [], length, get_or, set, map, refl, arith}
+use Rattle.std.proofs.lemmas.Grind.{common_steps}
 use Rattle.std.proofs.lemmas.List.{map-set, get_or-map, length-map}
 use Rattle.std.specs.{Prelude.Vec, Vec.with_item, declared.alloc.Global.Global}
 use Rattle.shop_lanes.specs.Rows.{place_at_rank}
@@ -20,3 +21,9 @@ loop-rank-preserved c =
     (items_set c.loop-rank.places s.job s.step x c.index-places-slot.result
     (let a = (c.requires.rows c.loop-rank.rank no_slot c.loop-rank-test.true).job in let b = c.loop-rank.invariant.long
     in omega (arith, length-map c.loop-rank.places (λ v. v.items), length-map c.args.places.now (λ v. v.items))))
+
+pub offset_bounds-places-slot : goal.offset_bounds-places-slot
+offset_bounds-places-slot c = grind (arith, common_steps)
+
+pub bounds-places-slot : goal.bounds-places-slot
+bounds-places-slot c = grind (arith, common_steps)

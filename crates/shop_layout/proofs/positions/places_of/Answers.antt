@@ -74,3 +74,6 @@ returns c = grind (arith, length-map)
 
 pub loop-j-preserved : goal.loop-j-preserved
 loop-j-preserved c = grind (arith, cases_eq, length_push, length-map, map-append, get_or_append_left, get_or_push)
+
+pub loop-m-init : goal.loop-m-init
+loop-m-init c = grind (arith, common_steps)

@@ -1,4 +1,5 @@
 use Rattle.std.proofs.Common.{◌≡◌, ◌∙◌, ◌+◌, ◌<◌, List, ap, length, get_or, map, arith, rules, sym, subst}
+use Rattle.std.proofs.lemmas.Grind.{common_steps}
 use Rattle.std.{proofs.lemmas.Fn.always_returns_same, specs.Prelude.IsPermutation}
 use Rattle.std.proofs.lemmas.List.{get_or-replicate, length-map, length-replicate}
 use Rattle.shop_layout.specs.{declared.slots.Slot.Slot, Ranks.{ranked, ranked_op}}
@@ -59,3 +60,6 @@ loop-j-init c = grind (arith, length-map, length-replicate, get_or-replicate)
 
 pub returns : goal.returns
 returns c = grind (arith, length-map)
+
+pub loop-preserved : goal.loop-preserved
+loop-preserved c = grind (arith, common_steps)

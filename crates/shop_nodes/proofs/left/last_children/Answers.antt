@@ -1,4 +1,5 @@
 use Rattle.std.proofs.{Common.{◌≡◌, ◌-◌, ℕ, suc, List, take, sym, subst, arith, rules}, lemmas.List.length-take-le}
+use Rattle.std.proofs.lemmas.Grind.{common_steps}
 use Rattle.shop_model.{specs.Word.IsFull, proofs.WordLengths.word_length}
 use Rattle.shop_nodes.{specs.Walking.operations_left, proofs.{Counting.open_from, LeftLemmas.last_words}}
 use Rattle.shop_nodes.proofs.LeftLemmas.{nodes_dropped}
@@ -26,3 +27,6 @@ pub returns-clause-nodes : goal.returns-clause-nodes
 returns-clause-nodes c =
     nodes_dropped c.args.instance.now c.in_ok-all.all.items _ c.split_off.result c.in_ok-all.ensures.nodes
     c.split_off.ensures.tail
+
+pub overflow_sub-len : goal.overflow_sub-len
+overflow_sub-len c = grind (arith, common_steps)

@@ -1,4 +1,5 @@
 use Rattle.std.proofs.{Common.{◌≡◌, ◌+◌, ◌-◌, ◌∙◌, drop, sym, ap, subst, arith}, lemmas.List.Elements.All-append}
+use Rattle.std.proofs.lemmas.Grind.{common_steps}
 use Rattle.std.specs.Arc.{arc_slice_items}
 use Rattle.shop_nodes.{specs.{Nodes.{words_of, IsNode, AreNodes}, Halts.stack_words}, proofs.LeftLemmas.all_more}
 use Rattle.shop_nodes.proofs.left.waiting_nodes.Goals as goal
@@ -23,3 +24,6 @@ loop-index-preserved c =
       made = subst (AreNodes shop) (sym c.in_ok-append.ensures.items)
           (All-append (IsNode shop) nodes c.in_ok-next.next.items now.made c.in_ok-next.ensures.nodes);
     }
+
+pub nodes_of-requires : goal.nodes_of-requires
+nodes_of-requires c = grind (arith, common_steps)

@@ -1,4 +1,4 @@
-use Rattle.std.proofs.Common.{ℕ, inr, Result}
+use Rattle.std.proofs.{Common.{ℕ, inr, Result, arith}, lemmas.Grind.common_steps}
 use Rattle.shop_engine.{specs.declared.faults.Fault.Fault, proofs.Sources.at_err}
 use Rattle.shop_program.specs.Commands.{ChecksFrom}
 use Rattle.shop_program.proofs.running.run_from.Goals as goal
@@ -12,3 +12,6 @@ returns-in_err-feasible-in-Check g c =
     (g.K.Sink.device c.args.out.now) (g.K.Sink.device c.check_text.new.sink) r (g.S.Source.device c.args.source.now)
     (g.S.Source.device c.check_text.new.source)) passed.result e.field-0.0 passed.ensures.1
     (inr (_, _, c.in_ok-second-in-Check.ensures.opened, e.ensures)))
+
+pub returns-in_err-solve_text-in-Solve : goal.returns-in_err-solve_text-in-Solve
+returns-in_err-solve_text-in-Solve g c = grind (arith, common_steps)

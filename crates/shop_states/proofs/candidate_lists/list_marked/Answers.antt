@@ -1,4 +1,5 @@
 use Rattle.std.proofs.Common.{ℕ, ◌≡◌, ◌+◌, List, ◌++◌, ◌∷◌, [], inl, inr, sym, ◌∙◌, length, map, subst, arith}
+use Rattle.std.proofs.lemmas.Grind.{common_steps}
 use Rattle.std.proofs.{Common.{append_assoc, refl}, lemmas.List.{get_or-map, length-append, length-take}}
 use Rattle.shop_states.specs.{declared.dispatching.Candidate.Candidate, inner.{Candidates.told_at, RisingLists.IsIn}}
 use Rattle.shop_states.proofs.Listing.{begun, ended, one_more, regrouped}
@@ -58,3 +59,6 @@ loop-job-preserved g c =
 
 pub returns-clause-listed : goal.returns-clause-listed
 returns-clause-listed g c = grind (arith, ended)
+
+pub overflow_add-others : goal.overflow_add-others
+overflow_add-others g c = grind (arith, common_steps)

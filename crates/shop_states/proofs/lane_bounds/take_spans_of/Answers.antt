@@ -37,7 +37,8 @@ loop-machine-preserved-then-not-is_ceiling_within g c =
     in let old = raises_in g.L.StateLanes.value c.args.raises.now
     in let left = c.loop-machine.invariant.left in let rows = c.rows-rows.ensures
     in let blocks = c.blocks_of-from.ensures
-    in subst (λ (rs : List Raise). IsTakenSo c.args.least c.args.limit old on rs c.pop_first.new.self
+    in subst (λ (rs : List Raise). IsTakenSo c.args.range.now.least c.args.range.now.limit old on rs
+    c.pop_first.new.self
     c.span_of_rows-most.result) (sym c.take_raise-raise.ensures.empty) (taken_more c.loop-machine.invariant
     c.in-Some.ensures (nothing_raised g.L.StateLanes.GREATEST) refl (cut_span c.requires.can.can left c.in-Some.ensures
     blocks.first blocks.behind g.L.StateLanes.value c.rows-rows.result rows.heads rows.times rows.tails
@@ -51,7 +52,8 @@ loop-machine-preserved g c =
     in let few = c.is_ceiling_within.ensures c.if-not-is_ceiling_within.false
     in let here = few.0 in let most = few.1 in let low = so.low
     in let spans = c.requires.can.under c.in-Some.machine here (its_known c.requires.can.can so.left c.in-Some.ensures)
-    in subst (λ (rs : List Raise). IsTakenSo c.args.least c.args.limit old on rs c.pop_first.new.self
+    in subst (λ (rs : List Raise). IsTakenSo c.args.range.now.least c.args.range.now.limit old on rs
+    c.pop_first.new.self
     c.loop-machine.most) (sym c.take_raise-raise.ensures.empty)
     (taken_passed so c.in-Some.ensures (nothing_raised g.L.StateLanes.GREATEST) refl (omega arith))
 

@@ -4,7 +4,7 @@ use Rattle.shop_states.{specs.inner.{HeadRaises.raises_in, LaidLanes.laid_rows},
 use Rattle.shop_states.proofs.lane_bounds.take_spans_of.Given as goal
 
 abbrev pub invariant-loop-machine : goal.invariant-loop-machine
-invariant-loop-machine g l = IsTakenSo l.least l.limit (raises_in g.L.StateLanes.value l.fn.raises)
+invariant-loop-machine g l = IsTakenSo l.range.least l.range.limit (raises_in g.L.StateLanes.value l.fn.raises)
     (lanes_on (laid_rows g.L.StateLanes.heads g.L.StateLanes.ends l.laid) l.laid.grid.now)
     (raises_in g.L.StateLanes.value l.raises) l.left l.most
 

@@ -4,3 +4,6 @@ use Rattle.shop_text.proofs.instance_drafts.route_of.Goals as goal
 
 pub loop-i-preserved : goal.loop-i-preserved
 loop-i-preserved c = grind (arith, pair_at, fault_on, route_on, common_steps)
+
+pub returns-clause-judged : goal.returns-clause-judged
+returns-clause-judged c = grind (arith, common_steps)

@@ -1,8 +1,9 @@
 use Rattle.std.proofs.{Common.{◌∙◌, refl, Some, arith}, lemmas.{List.Elements.All-pop, Result.IfOk-at_ok}}
 use Rattle.std.specs.Prelude.{IsOk}
 use Rattle.shop_runs.specs.Entries.{told}
-use Rattle.shop_workers.specs.{Entries.OfRound, inner.Returns.IsReturned, declared.seat_lending.Returned.Returned}
-use Rattle.shop_workers.proofs.TakenLists.{through_one}
+use Rattle.shop_workers.specs.{Entries.OfRound, inner.{Gathered.HasFilled, Returns.IsReturned}}
+use Rattle.shop_workers.specs.declared.seat_lending.Returned.{Returned}
+use Rattle.shop_workers.proofs.TakenLists.{still_filled, through_more, through_one}
 use Rattle.shop_workers.proofs.seat_lending.join_all.Goals as goal
 use Rattle.shop_workers.proofs.seat_lending.join_all.Goals.{in-Some-joined, in-None}
 
@@ -20,7 +21,9 @@ loop-seat-preserved c =
     let parts = All-pop (λ (w : Returned). IsReturned c.args.board.now (told c.args.round.now) w.seat w.entries) _ _
     (Some c.in-Some.field-0) c.in-Some.ensures.items c.loop-seat.invariant.3 in
     let here = parts.1 in
-    let granted : IsOk c.in-Some.field-0.entries = rw c.in_ok-entries.was refl in (
+    let granted : IsOk c.in-Some.field-0.entries = rw c.in_ok-entries.was refl in
+    let filled : HasFilled c.place.new.slots.items c.in-Some.field-0.entries =
+    rw c.in_ok-entries.was c.place.ensures.filled in (
       elim c.match-joined.branch [
         | in-Some-joined w ↦ grind arith
         | in-None w ↦ grind arith
@@ -30,4 +33,7 @@ loop-seat-preserved c =
       parts.0,
       through_one (λ (w : Returned). IsOk w.entries) _ _ _ c.in-Some.field-0 granted c.in-Some.ensures.items
           c.loop-seat.invariant.4,
+      through_more (λ (w : Returned). HasFilled c.loop-seat.slots.items w.entries)
+          (λ (w : Returned). HasFilled c.place.new.slots.items w.entries) _ _ _ c.in-Some.field-0
+          (λ w. still_filled _ _ c.place.ensures.stays w.entries) filled c.in-Some.ensures.items c.loop-seat.invariant.5,
     )

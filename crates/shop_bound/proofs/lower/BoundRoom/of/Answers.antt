@@ -1,4 +1,5 @@
 use Rattle.std.proofs.{Common.{◌≡◌, ◌∙◌, ap, arith, sym, unwrap_or}, lemmas.List.{length-map, take_all}}
+use Rattle.std.proofs.lemmas.Grind.{common_steps}
 use Rattle.std.proofs.lemmas.Iterator.{Adapters.option_map_id, YieldsList-from_slice, Consumers.YieldsList-from_copied}
 use Rattle.std.proofs.lemmas.Iterator.Consumers.{max_from_yields_List}
 use Rattle.shop_bound.specs.OneMachine.{greatest_of}
@@ -13,3 +14,6 @@ returns c =
     ∙ max_from_yields_List _ _ c.max.ensures.ran (YieldsList-from_copied (YieldsList-from_slice counts cc)))
     ∙ greatest_of-reduce counts
     in grind (arith, length-map, take_all, get_or-le-greatest_of, most)
+
+pub loop-count-preserved : goal.loop-count-preserved
+loop-count-preserved c = grind (arith, common_steps)

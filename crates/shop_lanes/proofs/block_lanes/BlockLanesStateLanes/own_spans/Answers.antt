@@ -1,4 +1,4 @@
-use Rattle.std.proofs.{Common.{ap, arith, map}, lemmas.List.length-map}
+use Rattle.std.proofs.{Common.{ap, arith, map}, lemmas.{Grind.common_steps, List.length-map}}
 use Rattle.shop_lanes.proofs.{OwnRows.owns_of_cut, RowValues.{lanes_of_cut, long_cut}}
 use Rattle.shop_lanes.proofs.block_lanes.BlockLanesStateLanes.own_spans.Goals as goal
 
@@ -12,3 +12,6 @@ returns-clause-owns g c = owns_of_cut g.B.Block.value c.blocks-2.ensures c.rows.
 
 pub blocks-requires-clause-within : goal.blocks-requires-clause-within
 blocks-requires-clause-within g c = grind (arith, length-map)
+
+pub rows-requires : goal.rows-requires
+rows-requires g c = grind (arith, common_steps)

@@ -1,4 +1,4 @@
-use Rattle.std.proofs.Common.{arith, sym, subst}
+use Rattle.std.proofs.{Common.{arith, sym, subst}, lemmas.Grind.common_steps}
 use Rattle.shop_model.specs.Placements.{PlacementState, IsPlacement, HasNext}
 use Rattle.shop_model.proofs.PlacementLemmas.{about_to_place, job_of_next, reads, step_read, finish_small}
 use Rattle.shop_model.proofs.PlacementLemmas.{placed_by_reads, start_by_reads}
@@ -69,3 +69,9 @@ returns-clause-start c =
     c.index.ensures c.index-2.ensures
     in λ p is. start_by_reads shop j _ a.job _ _ _ _ r c.max-start.result c.max-start.ensures p
     (subst (λ (s : PlacementState). IsPlacement shop p s) (sym c.self.view_is) is)
+
+pub index_mut-requires-2 : goal.index_mut-requires-2
+index_mut-requires-2 c = grind (arith, common_steps)
+
+pub index_mut-requires : goal.index_mut-requires
+index_mut-requires c = grind (arith, common_steps)

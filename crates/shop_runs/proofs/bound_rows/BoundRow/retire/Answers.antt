@@ -1,4 +1,5 @@
 use Rattle.std.{proofs.Common.{take, drop, min, sym, ◌∙◌, ap, subst, arith}, specs.Prelude.IfSome}
+use Rattle.std.proofs.lemmas.Grind.{common_steps}
 use Rattle.shop_runs.specs.declared.distant_nodes.DistantNodes.{DistantNodes}
 use Rattle.shop_runs.specs.inner.{BoundRows.IsBehind, Distant.AreAdded, Distant.IsRetired, Stacks.nodes_in_row}
 use Rattle.shop_runs.proofs.BoundRowLemmas.{cut_empty, retired_row}
@@ -33,3 +34,6 @@ invariant_of-self-in_err-set_aside c =
 
 pub set_aside-requires : goal.set_aside-requires
 set_aside-requires c = grind arith
+
+pub invariant_of-self-2 : goal.invariant_of-self-2
+invariant_of-self-2 c = grind (arith, common_steps)

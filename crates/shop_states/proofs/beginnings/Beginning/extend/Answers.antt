@@ -1,4 +1,4 @@
-use Rattle.std.proofs.Common.{◌≡◌, ℕ, ◌∙◌, ap, length, take, arith, subst}
+use Rattle.std.proofs.{Common.{◌≡◌, ℕ, ◌∙◌, ap, length, take, arith, subst}, lemmas.Grind.common_steps}
 use Rattle.std.proofs.lemmas.List.{length-take, length-take-le, take-take}
 use Rattle.shop_bound.proofs.WordLengths.{word_within}
 use Rattle.shop_model.proofs.PlacementLemmas.{IsWord-take}
@@ -26,3 +26,6 @@ place_from-requires-clause-before g c = grind (arith, take-take)
 pub place_from-requires-clause-word : goal.place_from-requires-clause-word
 place_from-requires-clause-word g c =
     IsWord-take c.args.laid_out.now.shop c.args.path.now c.saturating_sub-to.result c.requires.word
+
+pub returns-clause-begins : goal.returns-clause-begins
+returns-clause-begins g c = grind (arith, common_steps)

@@ -12,7 +12,8 @@ pub advance_below-requires-clause-can : goal.advance_below-requires-clause-can
 advance_below-requires-clause-can g c = rw c.as_slice-next.ensures.value (candidate_can c.grid-grid.ensures.grid
     c.of-dispatch.ensures.job c.requires.can.is.0.kept c.requires.can.is.1
     (bound_there c.requires.can.is.0 c.requires.can.bound_is) c.range_of-range.ensures.least c.requires.scratch.machines
-    (λ rows heads times tails m here known later above. absurd (omega arith)))
+    (λ rows heads times tails m here known later above.
+    absurd (let none = ap (λ (xs : List ℕ). length xs) c.range_of-range.ensures.ceilings in omega arith)))
 
 pub returns-in_err-told-clause-told : goal.returns-in_err-told-clause-told
 returns-in_err-told-clause-told g c = λ w of candidate bound_is.

@@ -1,4 +1,4 @@
-use Rattle.std.proofs.Common.{arith, refl}
+use Rattle.std.proofs.Common.{ℕ, List, ap, arith, length, refl}
 use Rattle.shop_states.proofs.CandidateDispatches.{candidate_can, candidate_kept, candidate_told}
 use Rattle.shop_states.proofs.{AskedStates.{bound_there, kept_on_some, told_behind}, KeptRoom.scratch_kept}
 use Rattle.shop_states.proofs.dispatchers.LaidOutDispatchingState.dispatch_below_in_copy.Goals as goal
@@ -6,7 +6,8 @@ use Rattle.shop_states.proofs.dispatchers.LaidOutDispatchingState.dispatch_below
 pub dispatch_in_copy-requires-clause-can : goal.dispatch_in_copy-requires-clause-can
 dispatch_in_copy-requires-clause-can g c = candidate_can c.grid-grid.ensures.grid refl c.requires.can.is.0.kept
     c.requires.can.is.1 (bound_there c.requires.can.is.0 c.requires.can.bound_is) c.range_of-range.ensures.least
-    c.requires.scratch.machines (λ rows heads times tails m here known later above. absurd (omega arith))
+    c.requires.scratch.machines (λ rows heads times tails m here known later above.
+    absurd (let none = ap (λ (xs : List ℕ). length xs) c.range_of-range.ensures.ceilings in omega arith))
 
 pub dispatch_in_copy-requires-clause-long : goal.dispatch_in_copy-requires-clause-long
 dispatch_in_copy-requires-clause-long g c = grind arith

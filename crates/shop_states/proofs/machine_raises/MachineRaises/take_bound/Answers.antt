@@ -13,20 +13,14 @@ take_spans_of-requires-clause-can g c =
 pub take_spans_of-requires-clause-even : goal.take_spans_of-requires-clause-even
 take_spans_of-requires-clause-even g c = c.fixed_blocks_each-each.ensures.even
 
-pub overflow_add-least : goal.overflow_add-least
-overflow_add-least g c = let limit = c.requires.limit in let below = c.requires.below in omega arith
+pub overflow_add-higher : goal.overflow_add-higher
+overflow_add-higher g c = let limit = c.requires.limit in let below = c.requires.below in omega arith
 
-pub overflow_add-limit : goal.overflow_add-limit
-overflow_add-limit g c = let limit = c.requires.limit in omega arith
+pub overflow_add-higher-2 : goal.overflow_add-higher-2
+overflow_add-higher-2 g c = let limit = c.requires.limit in omega arith
 
 pub overflow_sub-result : goal.overflow_sub-result
 overflow_sub-result g c = let low = c.take_any_spans.ensures.low in omega arith
-
-pub overflow_add-least-2 : goal.overflow_add-least-2
-overflow_add-least-2 g c = let limit = c.requires.limit in let below = c.requires.below in omega arith
-
-pub overflow_add-limit-2 : goal.overflow_add-limit-2
-overflow_add-limit-2 g c = let limit = c.requires.limit in omega arith
 
 pub overflow_sub-result-2 : goal.overflow_sub-result-2
 overflow_sub-result-2 g c = let low = c.take_spans_of.ensures.low in omega arith

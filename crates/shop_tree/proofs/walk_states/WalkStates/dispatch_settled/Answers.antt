@@ -7,10 +7,15 @@ returns-then-candidate-job-clause-sound g c =
     let old = subst (HoldSlots g.D.Dispatching) (sym c.loop-index.invariant) c.requires.sound
     in record {
       states = record {
-        scratch_is = c.dispatch_settled.ensures.scratch;
+        scratch_is = old.scratch_is;
         current_is = c.dispatch_settled.ensures.slot;
         trial_is = old.trial_is;
         spare_are = old.spare_are;
       };
       dispatcher = ap (λ s. s.dispatcher) c.loop-index.invariant;
     }
+
+pub dispatch_settled-requires : goal.dispatch_settled-requires
+dispatch_settled-requires g c =
+    let at = c.requires.can c.loop-index.index (record { job = 0; own = 0 }) c.loop-index-test.true
+    in record { word = at.word; is = rw (c.deref_mut.ensures.value, c.loop-index.invariant) at.is }

@@ -1,14 +1,11 @@
 use Rattle.std.proofs.Common.{inl, refl, rules}
-use Rattle.shop_tree.proofs.SiblingLemmas.{can_each, kept_then, own_each}
+use Rattle.shop_tree.proofs.SiblingLemmas.{kept_then, own_each}
 use Rattle.shop_tree.proofs.walk_states.WalkStates.give_current.Goals as goal
 
 pub dispatch_settled-requires-clause-can : goal.dispatch_settled-requires-clause-can
 dispatch_settled-requires-clause-can g c =
-    let d = c.args.self.now.dispatcher in let at = c.requires.branching
-    in can_each (λ x w. g.D.Dispatching.IsStateOf d w c.args.self.now.current.value
-    × g.D.Dispatching.IsCandidate d w x × g.D.Dispatching.KnowsChild d c.args.self.now.scratch w x.job) at.listed
-    (g.met.D.Dispatching.state_is_of_word d c.args.branching.now.word.now _ at.state) at.bound
-    (λ k e h own. (at.state, own, c.requires.known k e h))
+    let at = c.requires.branching
+    in λ k e within. record { word = c.args.branching.now.word.now; is = (at.state, own_each at.listed k e within) }
 
 pub returns-clause-given : goal.returns-clause-given
 returns-clause-given g c =

@@ -3,7 +3,7 @@ use Rattle.std.specs.List.{All}
 use Rattle.shop_model.specs.Shop.{Shop}
 use Rattle.shop_layout.specs.{LaidOuts.IsReady, Positions.LayoutState}
 use Rattle.shop_layout.proofs.LaneLimits.{tails_fit, times_fit}
-use Rattle.shop_layout.proofs.fixed_rows.rows_in.Goals as goal
+use Rattle.shop_layout.proofs.fixed_rows.put_in_lanes.Goals as goal
 
 -- the rows of a layout that is ready, as they were lent
 module _ {greatest : ℕ} {l : LayoutState} (ready : (shop : Shop) × IsReady greatest shop l) where

@@ -1,0 +1,5 @@
+use Rattle.std.proofs.{Common.arith, lemmas.Grind.common_steps}
+use Rattle.shop_workers.proofs.boards.first_words.Goals as goal
+
+pub loop-preserved : goal.loop-preserved
+loop-preserved c = grind (arith, common_steps)
