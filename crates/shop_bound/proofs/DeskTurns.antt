@@ -2,9 +2,8 @@
 use Rattle.std.proofs.Common.{rules, ◌≡◌, ℕ, ◌≤◌, List, [], ◌∷◌, ◌++◌, length, get_or, refl, arith, vec_capacity}
 use Rattle.std.specs.List.{fold}
 use Rattle.shop_model.specs.{declared.ops.Op.Op, Shop.{Shop, no_op, route_of}, Placements.{PlacesNext, TakesBack}}
-use Rattle.shop_model.specs.Word.{IsWord, Placing, none_placed, place_next, placing}
+use Rattle.shop_model.{specs.Word.{IsWord, Placing, none_placed, place_next, placing}, proofs.WordLemmas.IsWord-init}
 use Rattle.shop_model.proofs.{PlacementLemmas.{IsAboutToPlace, about_to_place}, Unders.placing-snoc}
-use Rattle.shop_model.proofs.WordLemmas.{IsWord-init}
 use Rattle.shop_bound.specs.{declared.desks.Desk.TheInside.Inside, declared.desks.Replaced.Replaced}
 use Rattle.shop_bound.specs.inner.Trails.{IsReplaced, AreReplaced, IsDesk}
 

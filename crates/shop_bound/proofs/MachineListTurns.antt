@@ -142,11 +142,6 @@ pub keep_have_room : (shop : Shop) (old new : List (Vec Triple Global)) → Have
     → length new ≡ length old → HaveRoom shop new
 keep_have_room shop old new before kept long = grind arith
 
--- where the lists are empty, nothing is listed
-pub none_listed : (shop : Shop) (s : PlacementState) (old new : List (Vec Triple Global)) → HaveRoom shop old
-    → ((m : ℕ) → get_or (rows_in new) m [] ≡ []) → KeepRoom old new → length new ≡ length old → HaveListed shop s 0 new
-none_listed shop s old new before empty kept long = grind (arith, keep_have_room)
-
 module _ (shop : Shop) (s : PlacementState) (n : ℕ) (old : List (Vec Triple Global)) (before : HaveListed shop s n old)
     (job : n < length shop.jobs) where
   visits_of_rest : (m k : ℕ) (rest : List Op) → rest ≡ drop k (route_of shop n)

@@ -1,10 +1,9 @@
 -- A schedule that ends at a bound is a least one.
 use Rattle.std.proofs.{lemmas.Grind.common_steps, Common.{◌≡◌, ℕ, ◌<◌, ◌^◌, Bool, List, Option, get_or, subst, arith}}
 use Rattle.std.proofs.{lemmas.Fmt.decimal_injective, lemmas.List.append_cancel_right}
-use Rattle.shop_model.specs.{Shop.{Shop, end_of, IsLeast}, Limits.{IsWithinLimits, AreStarts}}
+use Rattle.shop_model.{specs.{Shop.{Shop, end_of, IsLeast}, Limits.{IsWithinLimits, AreStarts}}, proofs.Ends.end_of-le}
 use Rattle.shop_model.specs.{Checking.{EndsAt, starts_of, IsVerdict}, declared.checking.Verdict.Verdict}
 use Rattle.shop_model.specs.declared.checking.Verdict.TheVariants.{Feasible, WrongSize, Unreleased, Early, Overlap}
-use Rattle.shop_model.proofs.Ends.{end_of-le}
 use Rattle.shop_text.specs.{Texts.NamedShop, Writing.verdict_text, declared.formats.Format.Format}
 use Rattle.shop_text.proofs.TableRows.{table_within}
 use Rattle.shop_engine.specs.{Checking.{IsVerdictOn, IsCheckOf}, Headline.{IsBound, IsRightOf}}

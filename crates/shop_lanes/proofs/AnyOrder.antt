@@ -2,10 +2,9 @@
 use Rattle.std.proofs.Common.{◌≡◌, ℕ, zero, suc, ◌*◌, ◌/◌, ◌%◌, ◌<◌, ◌≤◌, List, [], ◌∷◌, length, map, ◌+◌, get_or, min}
 use Rattle.std.{proofs.{Common.{◌∙◌, arith}, lemmas.List.length-map}, specs.List.All}
 use Rattle.shop_lanes.specs.{Eights.{ahead_of, later_head}, Folds.least_up_to, Rows.{Lane, lanes, by_columns, lanes_in}}
-use Rattle.shop_lanes.specs.{declared.lane_rows.LaneRows.LaneRows, Spans.greatest_by}
+use Rattle.shop_lanes.{specs.{declared.lane_rows.LaneRows.LaneRows, Spans.greatest_by}, proofs.SpanParts.each_greatest}
 use Rattle.shop_lanes.proofs.{Columns.{All-by_columns, All-by_places}, LaneLists.length-lanes, RowValues.as_long}
 use Rattle.shop_lanes.proofs.{LaterTurns.nearest_is_least, LeapTurns.{least_head, least_head_is}}
-use Rattle.shop_lanes.proofs.SpanParts.{each_greatest}
 
 greatest_within : (f : Lane → ℕ) (m : ℕ) (xs : List Lane) → All (λ x. f x ≤ m) xs → greatest_by f xs ≤ m
 greatest_within f m [] each = omega arith

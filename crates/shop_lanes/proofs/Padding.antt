@@ -1,9 +1,8 @@
 -- Rows that are filled up to whole blocks, and what of them is seen.
 use Rattle.std.proofs.Common.{◌≡◌, ℕ, zero, suc, ◌+◌, ◌-◌, ◌*◌, ◌/◌, ◌<◌, ◌≤◌, Bool, inl, inr, List, [], ◌∷◌, length}
 use Rattle.std.proofs.Common.{map, take, set, replicate, get_or, refl, ap, sym, ◌∙◌, arith, length-set}
-use Rattle.std.proofs.{lemmas.Bool.cases_lt, lemmas.Bool.Decides.nat_tests}
+use Rattle.std.proofs.lemmas.{Bool.{cases_lt, Decides.nat_tests}, List.{take-replicate, drop-replicate, drop-set-lt}}
 use Rattle.std.proofs.lemmas.List.{length-replicate, length-take, get_or-replicate, get_or-take, get_or-drop}
-use Rattle.std.proofs.lemmas.List.{take-replicate, drop-replicate, drop-set-lt}
 use lib.Lanes.{mask_l}
 use Rattle.shop_lanes.specs.{Rows.blocks, Marks.{marked, waits_below}, SetBits.set_bits, Ends.IsFirstLeast}
 use Rattle.shop_lanes.specs.{Eights.is_between, inner.Passes.IsPadded}

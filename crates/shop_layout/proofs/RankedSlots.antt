@@ -3,9 +3,8 @@ use Rattle.std.{proofs.Common.{◌≡◌, ℕ, ◌+◌, ◌<◌, List, [], ◌�
 use Rattle.shop_model.specs.{declared.ops.Op.Op, Shop.{Shop, no_op}}
 use Rattle.shop_bound.specs.Heads.{tail_in}
 use Rattle.shop_layout.specs.{Ranks.{ranked, ranked_op}, Slots.AreSlotsOf, declared.slots.Slot.Slot}
-use Rattle.shop_layout.specs.inner.Layings.{ArePlaces, HasRoutes, IsInRows}
+use Rattle.shop_layout.{specs.inner.Layings.{ArePlaces, HasRoutes, IsInRows}, proofs.SlotLists.{IsAddedTo, added_set}}
 use Rattle.shop_layout.proofs.{LaidLists.rows_in, RankedShops.{jobs_ranked, op_ranked, steps_ranked, tail_ranked}}
-use Rattle.shop_layout.proofs.SlotLists.{IsAddedTo, added_set}
 
 -- step k goes to the list of its machine's rank
 pub added_by_rank : (ranks : List ℕ) (route : List Op) (j k tail i : ℕ) (old lists : List (List Slot)) (row : List Slot)

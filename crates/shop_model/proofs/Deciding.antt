@@ -1,11 +1,11 @@
 -- Verdicts on small instances, decided by computing: each test, where it is true, gives the fact.
-use Rattle.std.proofs.Common.{◌≡◌, ℕ, zero, suc, ◌<◌, inl, inr, Bool, true, not, ◌&&◌, ◌||◌, eqb, rules, ltb, leb, List}
+use Rattle.std.proofs.Common.{◌≡◌, ℕ, zero, suc, ◌<◌, inl, inr, Bool, true, not, ◌&&◌, ◌||◌, eqb, ltb, leb, List}
 use Rattle.std.proofs.{Common.{[], length, slice_index_or, sym, ap, arith}, lemmas.Bool.{and_parts, or_cases, not-true}}
 use Rattle.std.proofs.lemmas.Bool.{both_ways, leb-true, eqb-true, eqb-false, lt-ltb, eq-eqb, and_from, or_left}
 use Rattle.std.proofs.lemmas.{Bool.{or_right, cases_eq, cases_lt}, List.get_or_past}
 use Rattle.shop_model.specs.Shop.{Shop, ShopJob, Starts, no_job, route_of, machine_of, finish_of, IsOperation}
 use Rattle.shop_model.specs.{Shop.IsFeasible, Checking.{HasShape, earliest_of, NoneEarly, IsBefore, AreApart}}
-use Rattle.shop_model.{specs.Checking.{IsFirstEarly, IsFirstOverlap}, proofs.Ends.{IsOperation-job, feasible_from}}
+use Rattle.shop_model.{specs.Checking.{IsFirstEarly}, proofs.Ends.{IsOperation-job, feasible_from}}
 
 -- p holds of each number below n
 abbrev pub each_below : ℕ → (ℕ → Bool) → Bool

@@ -1,11 +1,11 @@
 -- Placements kept as lists.
-use Rattle.std.proofs.Common.{◌≡◌, ℕ, ◌<◌, ◌≤◌, ◌+◌, ◌^◌, max, inl, inr, List, [], ◌∷◌, ◌++◌, length, map, rules, take}
-use Rattle.std.proofs.{Common.{replicate, get_or, set, sym, ◌∙◌, ap, arith, cond, eqb}, lemmas.Bool.cases_eq}
+use Rattle.std.proofs.Common.{◌≡◌, ℕ, ◌<◌, ◌≤◌, ◌+◌, ◌^◌, max, List, [], ◌∷◌, ◌++◌, length, map, rules, take}
+use Rattle.std.proofs.{Common.{replicate, get_or, set, ◌∙◌, ap, arith, cond, eqb}, lemmas.Bool.cases_eq}
 use Rattle.std.proofs.lemmas.{Grind.{get_or_default_zero, get_or-set_at}, List.{get_or-replicate, length-replicate}}
 use Rattle.std.proofs.lemmas.List.{take_more, get_or-set_other, length-set, FromFn.get_or-map-range_with_len}
 use Rattle.std.{proofs.lemmas.List.{FromFn.length-map-range_with_len, Sums.sum_by-take-le}, specs.List.range_with_len}
 use Rattle.shop_model.specs.{Limits.IsWithinLimits, declared.ops.Op.Op, Shop.{Shop, no_op, release_of, route_of, op_of}}
-use Rattle.shop_model.specs.{Shop.{machine_of, time_of, IsOperation}, Word.{Placing, IsWord, place_next, placing}}
+use Rattle.shop_model.specs.{Shop.{machine_of, IsOperation}, Word.{Placing, IsWord, place_next, placing}}
 use Rattle.shop_model.specs.{Word.{none_placed, count_of}, Placements.{PlacementState, HasPlaces, IsPlacement, HasLast}}
 use Rattle.shop_model.{specs.Placements.HasNext, proofs.{Placings.place_next-is, Ends.IsOperation-job}}
 use Rattle.shop_model.proofs.{Unders.{after_word, next_operation, placing-snoc}, WordLemmas.IsWord-init}

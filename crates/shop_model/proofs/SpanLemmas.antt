@@ -1,11 +1,10 @@
 -- Spans in turn are apart, and so are the operations that they stand for.
 use Rattle.std.proofs.Common.{◌≡◌, ℕ, zero, suc, ◌+◌, ◌≤◌, ◌<◌, inl, inr, List, [], ◌∷◌, ◌++◌, length, map, take}
 use Rattle.std.proofs.{Common.{get_or, slice_index_or, sym, ◌∙◌, ap, arith, All}, lemmas.Bool.cases_eq}
-use Rattle.std.proofs.lemmas.List.{take-take, take_all, Concat.{length-flat_map, get_or-flat_map}}
+use Rattle.std.{proofs.lemmas.List.{take-take, take_all, Concat.{length-flat_map, get_or-flat_map}}, specs.List.sum_by}
 use Rattle.std.proofs.lemmas.List.{Elements.All-from_recursion, FromFn.{length-range_with_len, get_or-range_with_len}}
 use Rattle.std.proofs.lemmas.List.{FromFn.{length-map-range_with_len, get_or-map-range_with_len}, Sums.sum_by-take-le}
 use Rattle.std.{proofs.lemmas.List.Sums.sum_by_more, specs.List.{range_with_len, flat_map, AllPairs, AllByRecursion}}
-use Rattle.std.specs.List.{sum_by}
 use Rattle.shop_model.specs.{declared.spans.Occupied.Occupied, Shop.{Shop, route_of, IsOperation}, Checking.starts_of}
 use Rattle.shop_model.specs.{Checking.IsBefore, inner.{FirstFaults.AllApart, Spans.{span_at, spans_at, spans_of}}}
 use Rattle.shop_model.specs.inner.{Spans.{IsInTurn, AreInTurn}, ClearSpans.ArePartedSpans}

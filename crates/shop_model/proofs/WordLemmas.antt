@@ -1,9 +1,8 @@
 -- Words that grow at their end.
 use Rattle.std.proofs.Common.{◌≡◌, ℕ, ◌+◌, ◌≤◌, ◌<◌, ◌⊎◌, inl, inr, List, [], ◌∷◌, ◌++◌, length, refl, sym, ◌∙◌, ap}
-use Rattle.std.proofs.Common.{subst, arith, append_assoc, cond, eqb, add-zero, All, Bool}
+use Rattle.std.{proofs.Common.{subst, arith, append_assoc, cond, eqb, add-zero, All, Bool}, specs.List.AllByRecursion}
 use Rattle.std.proofs.lemmas.{List.{Elements.{All-from_recursion, recursion_from_All}, Sums.sum_by_push}, Bool.cases_lt}
 use Rattle.std.proofs.lemmas.{List.{Sums.sum_by-cons, append-nil, get_or_past}, Bool.Decides.eqb_tells}
-use Rattle.std.specs.List.{AllByRecursion}
 use Rattle.shop_model.{proofs.Ends.IsOperation-job, specs.{Word.{count_of, IsWord, IsFull}, Shop.{Shop, ShopJob}}}
 use Rattle.shop_model.specs.Shop.{no_job, route_of}
 

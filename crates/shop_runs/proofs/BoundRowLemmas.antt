@@ -47,10 +47,6 @@ pass_empty b k [] d h e = absurd (omega arith)
 pass_empty b zero (o ∷ os) d h e = ap (λ x. nodes_of_bound b (words_at x) ++ nodes_in_row (suc b) os) e
 pass_empty b (suc k) (o ∷ os) d h e = pass_empty b k os d (omega arith) e
 
-pub pass_place : (k : ℕ) (os : List Place) (d : Place) → k < length os
-    → slice_index_or os k d ≡ None → nodes_in_row k (drop k os) ≡ nodes_in_row (k + 1) (drop (k + 1) os)
-pass_place k os d h e = grind (arith, pass_empty)
-
 -- the nodes of a row have its first bound or more
 pub all_from : (c b : ℕ) (os : List Place) → c ≤ b → AllByRecursion (λ n. c ≤ n.bound) (nodes_in_row b os)
 all_from c b [] h = tt

@@ -1,7 +1,6 @@
 -- Nodes that a run keeps are below its makespan.
-use Rattle.std.proofs.{Common.{◌≡◌, ℕ, ◌≤◌, ◌<◌, List, [], ◌∷◌, refl, arith}, lemmas.Bool.lt-ltb}
+use Rattle.std.{proofs.{Common.{◌≡◌, ℕ, ◌≤◌, ◌<◌, List, [], ◌∷◌, refl, arith}, lemmas.Bool.lt-ltb}, specs.List.Contains}
 use Rattle.std.{proofs.lemmas.List.Elements.{recursion_from_All, All-from_recursion}, specs.List.AllByRecursion}
-use Rattle.std.specs.List.{Contains}
 use Rattle.shop_model.specs.Shop.{Shop}
 use Rattle.shop_bound.specs.Bound.{lb}
 use Rattle.shop_nodes.specs.{declared.nodes.Node.Node, Nodes.{words_of, IsNode, AreNodes}, inner.HeldNodes.nodes_below}

@@ -3,8 +3,7 @@ use Rattle.std.proofs.Common.{◌≡◌, ℕ, zero, suc, ◌+◌, ◌-◌, ◌*�
 use Rattle.std.proofs.Common.{map, length, get_or, take, drop, refl, sym, ◌∙◌, ap, subst, arith, eqb, append_assoc}
 use Rattle.std.proofs.lemmas.{Bool.{eqb-true, eq-eqb}, List.{map-append, take-take, drop-take, take-map, drop-map}}
 use Rattle.std.proofs.lemmas.List.{append-nil, take_all, drop_all, length-drop, Elements.recursion_from_All}
-use Rattle.std.proofs.lemmas.List.Elements.{All-from_recursion}
-use Rattle.std.specs.List.{AllByRecursion}
+use Rattle.std.{proofs.lemmas.List.Elements.All-from_recursion, specs.List.AllByRecursion}
 use Rattle.shop_model.specs.Shop.{Shop}
 use Rattle.shop_nodes.specs.{declared.{nodes.Node.Node, pieces.Piece.Piece}, Nodes.{words_of, IsNode, AreNodes}}
 use Rattle.shop_runs.specs.{Round.cut_into, Nodes.{pieces_in, ArePieces, numbered}, inner.NodeLists.nodes_in}

@@ -10,10 +10,9 @@ use Rattle.shop_bound.specs.Heads.{head_of}
 use Rattle.shop_layout.specs.{HeadLimits.latest_end, Positions.{LayoutState, first_position, place}}
 use Rattle.shop_layout.proofs.{LaidPlaces.{IsOperationAt, each_position, place_of}, LatestEnds.latest_end_is}
 use Rattle.shop_states.specs.inner.{LaneHeads.{AreHeadsAt, AreStored}, LaneStates.AreHeadsInLanes}
-use Rattle.shop_states.specs.inner.Raises.{AreInRouteOrder, IsOnMachine, IsRaised, at_in}
+use Rattle.shop_states.{specs.inner.Raises.{AreInRouteOrder, IsOnMachine, IsRaised, at_in}, proofs.RaisedHeads.waits_at}
 use Rattle.shop_states.proofs.{AdvanceSteps.{first_left, next_fits, next_is, within}, ChildReads.left_stored}
 use Rattle.shop_states.proofs.RaisedHeads.{in_order, target, target_at, target_least, target_none, target_raised}
-use Rattle.shop_states.proofs.RaisedHeads.{waits_at}
 
 -- the list of the first values of a function
 abbrev values : (ℕ → ℕ) → ℕ → List ℕ

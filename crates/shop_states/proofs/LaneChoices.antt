@@ -15,9 +15,6 @@ pub record AreGathering (l : LayoutState) (marks todo old now : List ℕ) : Type
   pub gathered : (q : ℕ) → IsIn marks q → IsIn now (get_or l.jobs q 0) ⊎ IsIn todo q
   pub only : (j : ℕ) → IsIn now j → IsIn old j ⊎ IsJobAt l marks j
 
-pub gathering_begins : (l : LayoutState) (marks old : List ℕ) → AreGathering l marks marks old old
-gathering_begins l marks old = grind arith
-
 module _ {l : LayoutState} {marks : List ℕ} where
   module _ {todo old now : List ℕ} (so_far : AreGathering l marks todo old now) {q : ℕ}
       {rest : List ℕ} (popped : todo ≡ q ∷ rest) where

@@ -7,9 +7,8 @@ use Rattle.shop_model.specs.Word.{Placing, IsWord, placing, place_next}
 use Rattle.shop_model.proofs.{Greatest.le-greatest_below, Placings.{IsNext, place_next-is}, Unders.after_word}
 use Rattle.shop_bound.specs.{Bound.{waiting, triples_on, lb}, Heads.{ready_after, head_of}, OneMachine.one}
 use Rattle.shop_bound.specs.Conflicts.{open_jobs, next_machine, next_head, next_end, chosen_of, conflicts_with}
-use Rattle.shop_bound.specs.Conflicts.{conflict, conflict_among, SoleCandidateKeepsBound}
+use Rattle.shop_bound.{specs.Conflicts.{conflict, conflict_among, SoleCandidateKeepsBound}, proofs.HeadTurns.ready_more}
 use Rattle.shop_bound.proofs.{BoundsRise.{bounds_rise, end-le-left}, Entries.IsWord-snoc, HeadsStay.head_stays}
-use Rattle.shop_bound.proofs.HeadTurns.{ready_more}
 use Rattle.shop_layout.specs.{Slots.AreMachineSlots, declared.slots.Slot.Slot}
 use Rattle.shop_states.specs.inner.RisingLists.{IsIn}
 use Rattle.shop_states.proofs.{ChildBounds.{child-le, raised_left}, LaneConflicts.{filter_in, is_open, open_is}}

@@ -1,8 +1,7 @@
 -- A row whose numbers are capped is judged as the row itself, and capping changes no number of an accepted row.
 use Rattle.std.proofs.{lemmas.Grind.common_steps, Common.{map, Option, Some, None, refl, arith}, lemmas.List.length-map}
 use Rattle.std.proofs.Common.{◌≡◌, ℕ, ◌*◌, ◌%◌, ◌<◌, ◌≤◌, Bool, true, cond, not, ◌&&◌, leb, eqb, List, [], ◌∷◌, length}
-use Rattle.std.proofs.lemmas.Bool.{cases_lt, ltb-true, leb-true, le-leb, lt-leb, and_parts}
-use Rattle.std.specs.List.{list_all}
+use Rattle.std.{proofs.lemmas.Bool.{cases_lt, ltb-true, leb-true, le-leb, lt-leb, and_parts}, specs.List.list_all}
 use Rattle.shop_text.specs.inner.LineReading.{capped, times_row_fault, machines_row_fault}
 use Rattle.shop_text.specs.{Grammar.{LineFault, WrongRow, WrongTime}, Formats.{routes_fault, routes_job}}
 use Rattle.shop_text.specs.Formats.{is_between, size_fault, pairs_fault, pairs_of, grammar_of, orlib_fault, orlib_job}

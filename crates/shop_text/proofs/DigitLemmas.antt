@@ -4,9 +4,8 @@ use Rattle.std.proofs.Common.{◌≡◌, ℕ, zero, suc, ◌+◌, ◌-◌, ◌*�
 use Rattle.std.proofs.{Math.Nat.pow-le-pow_right, lemmas.Bool.{and_parts, lt-ltb, le-ltb}}
 use Rattle.std.proofs.lemmas.List.Sums.{position_or_len_is}
 use Rattle.std.specs.{Prelude.position, Char.is_ascii_digit, List.position_or_len}
-use Rattle.shop_text.specs.Lines.{is_number, value_of, is_separator}
+use Rattle.shop_text.{specs.Lines.{is_number, value_of, is_separator}, proofs.LineLemmas.{tokens_at, tokens_to_end}}
 use Rattle.shop_text.specs.inner.LineReading.{capped, number_in, AreLeadingDigits, IsNumberCut}
-use Rattle.shop_text.proofs.LineLemmas.{tokens_at, tokens_to_end}
 
 -- behind at most 18 digits there is room for one more
 pub room_for_digit : (i value : ℕ) → i < 19 → value < 10 ^ i → 10 * value + 9 < 18446744073709551616

@@ -1,5 +1,5 @@
 -- The names that lines give.
-use Rattle.std.proofs.{lemmas.Grind.common_steps, Common.{◌≡◌, ℕ, zero, suc, true, List, [], ◌∷◌, Some, None, arith}}
+use Rattle.std.proofs.{lemmas.Grind.common_steps, Common.{◌≡◌, ℕ, zero, suc, true, List, [], ◌∷◌, Some, arith}}
 use Rattle.std.proofs.{lemmas.Bool.{and_parts, leb-true}, lemmas.Str.IsUtf8-from_ascii}
 use Rattle.std.specs.{List.list_all, Str.{IsAscii, IsUtf8}}
 use Rattle.shop_text.specs.{Lines.Words, Formats.{grammar_of, is_visible, header_of}, declared.formats.Format.Format}

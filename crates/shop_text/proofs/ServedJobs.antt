@@ -1,12 +1,12 @@
 -- In a feasible table a machine serves one job at most at each instant.
-use Rattle.std.proofs.{lemmas.Grind.common_steps, Common.{Some, None, refl, ap, ◌∙◌, arith, add-one}}
+use Rattle.std.proofs.{lemmas.Grind.common_steps, Common.{Some, None, refl, ap, ◌∙◌, arith}}
 use Rattle.std.proofs.Common.{◌≡◌, ℕ, zero, suc, ◌+◌, ◌*◌, ◌<◌, ◌≤◌, Bool, true, false, ◌&&◌, rules, List, length, map}
 use Rattle.std.proofs.lemmas.Bool.{cases_eq, eq-eqb, eqb-true, leb-true, le-leb, ltb-true, lt-ltb}
 use Rattle.std.proofs.lemmas.List.FromFn.{fill_by_all}
 use Rattle.std.specs.{Prelude.find, List.{range_with_len, list_any}, Option.option_map_or}
 use Rattle.shop_model.specs.Shop.{Shop, Starts, route_of, machine_of, IsOperation, IsFeasible, finish_of}
 use Rattle.shop_text.specs.Writing.{character_of, is_served, serves, shown_at, ShowsTheJob}
-use Rattle.shop_text.specs.inner.Cells.{last_shown, ShowsJob, ShowsJobs}
+use Rattle.shop_text.specs.inner.Cells.{last_shown, ShowsJobs}
 
 -- ---- tests over a range
 

@@ -1,8 +1,7 @@
 -- Worked texts that are printed, computed byte for byte.
 use Rattle.std.{proofs.Common.{◌≡◌, ℕ, List, [], ◌∷◌, ◌++◌, map, refl}, specs.{Prelude.codes, Fmt.digits}}
-use Rattle.shop_model.specs.{declared.ops.Op.Op, declared.ops.OperationId.OperationId, Shop.{Shop, ShopJob}}
+use Rattle.shop_model.specs.{declared.ops.{Op.Op, OperationId.OperationId}, Shop.{Shop, ShopJob}, Checking.starts_of}
 use Rattle.shop_model.specs.declared.checking.Verdict.TheVariants.{Feasible, Unreleased, Early, Overlap}
-use Rattle.shop_model.specs.Checking.{starts_of}
 use Rattle.shop_text.specs.Writing.{Reported, report_text, gantt_text, columns_of, unit_of, character_of, list_text}
 use Rattle.shop_text.specs.Writing.{verdict_text}
 

@@ -16,10 +16,6 @@ pub held_branched : {S : Type 0} (is : List ℕ → S → Type 0) (word : List �
     → new ≡ with_held_rest old depth n ++ map held kids → AreHeld is word new
 held_branched is word old new kids depth n below above put = grind (arith, states_moved, states_rest)
 
--- the walk stands where it stood
-pub stands_where : {D S C : Type 0} {g : Ghosts D S C} (v : Walker D S C g) → HasStates v → StandsAs v v
-stands_where v states = record { stage = refl; candidates = refl; dispatcher = refl; current = refl; states = states }
-
 pub stands_then : {D S C : Type 0} {g : Ghosts D S C} {u v w : Walker D S C g} → StandsAs u v → StandsAs v w
     → StandsAs u w
 stands_then a b = grind arith

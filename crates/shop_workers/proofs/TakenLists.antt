@@ -1,7 +1,6 @@
 -- Lists that are taken from their ends.
-use Rattle.std.proofs.Common.{◌≡◌, List, [], ◌∷◌, ◌++◌, arith, Option, Ok, Err}
+use Rattle.std.{proofs.Common.{◌≡◌, List, [], ◌∷◌, ◌++◌, arith, Option, Ok, Err}, specs.Prelude.All}
 use Rattle.std.proofs.lemmas.List.{append_assoc, Elements.{All-cons, All-weaker}}
-use Rattle.std.specs.Prelude.{All}
 use Rattle.shop_runs.specs.{Entries.number_of, declared.entries.Entry.Entry}
 use Rattle.shop_workers.specs.{Entries.Brought, inner.Gathered.{Fills, HasFilled, StayFilled}}
 

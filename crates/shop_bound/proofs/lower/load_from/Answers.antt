@@ -1,6 +1,5 @@
 use Rattle.std.proofs.{Common.{◌≡◌, ◌+◌, max, List, get_or, take, sym, subst, arith, rules}, lemmas.List.take_more}
-use Rattle.std.proofs.lemmas.Grind.{common_steps}
-use Rattle.std.proofs.lemmas.List.Sums.{sum_by_more_le}
+use Rattle.std.proofs.lemmas.{Grind.common_steps, List.Sums.sum_by_more_le}
 use Rattle.shop_bound.specs.{declared.triples.Triple.Triple, inner.Thresholds.no_triple}
 use Rattle.shop_bound.proofs.{LeapTurns.{IsLoadOf, earlier, later}, Lists.get_or-le-greatest_of}
 use Rattle.shop_bound.proofs.lower.load_from.Goals as goal

@@ -1,6 +1,6 @@
 use Rattle.std.proofs.{Common.{List, length, ◌<◌, ap, arith, rules}, lemmas.List.Sums.sum_by-take-le}
 use Rattle.shop_model.specs.declared.ops.Op.{Op}
-use Rattle.shop_bound.proofs.MachineListTurns.{none_listed, one_cleared, one_listed, room_for_rest}
+use Rattle.shop_bound.proofs.MachineListTurns.{one_cleared, one_listed, room_for_rest}
 use Rattle.shop_bound.proofs.UnplacedTurns.{steps_within, can_go_on, unplaced_of_job, rest_is}
 use Rattle.shop_bound.proofs.machine_lists.list_unplaced.Goals as goal
 
@@ -36,9 +36,6 @@ add_rest-requires-clause-rest c =
     c.machines_free-free.ensures
     c.ready.result c.ready.ensures _ (rest_is _ _ _ _ c.route.ensures.route c.steps.ensures)
 
-pub add_rest-requires-clause-machines : goal.add_rest-requires-clause-machines
-add_rest-requires-clause-machines c = grind arith
-
 pub add_rest-requires-clause-room : goal.add_rest-requires-clause-room
 add_rest-requires-clause-room c =
     let shop = c.args.instance.now in let j = c.loop-j.j
@@ -48,9 +45,6 @@ add_rest-requires-clause-room c =
 
 pub loop-m-preserved : goal.loop-m-preserved
 loop-m-preserved c = search (rules, one_cleared)
-
-pub loop-j-init : goal.loop-j-init
-loop-j-init c = grind (arith, none_listed)
 
 pub loop-j-preserved : goal.loop-j-preserved
 loop-j-preserved c =
@@ -62,9 +56,6 @@ loop-j-preserved c =
     (λ m p is. unplaced_of_job m shop c.route.ensures.limits s j job c.machines_free-free.result.now
     c.machines_free-free.ensures c.ready.result c.ready.ensures _ rest p is)
     c.add_rest.ensures.added c.add_rest.ensures.room c.add_rest.auto.lists
-
-pub returns-clause-unplaced : goal.returns-clause-unplaced
-returns-clause-unplaced c = grind arith
 
 pub returns-clause-few : goal.returns-clause-few
 returns-clause-few c = grind (arith, sum_by-take-le)

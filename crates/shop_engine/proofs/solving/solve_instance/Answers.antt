@@ -1,13 +1,10 @@
 use Rattle.std.proofs.Common.{arith}
 use Rattle.shop_text.specs.Names.{shop_of_named}
-use Rattle.shop_engine.proofs.{Reported.{right, determined}, SolvedSchedules.gives_schedule}
+use Rattle.shop_engine.proofs.{Reported.{right}, SolvedSchedules.gives_schedule}
 use Rattle.shop_engine.proofs.solving.solve_instance.Goals as goal
 
 pub returns-clause-right : goal.returns-clause-right
 returns-clause-right g c = grind (arith, right)
-
-pub returns-clause-determined : goal.returns-clause-determined
-returns-clause-determined g c = grind (arith, determined)
 
 pub returns-clause-schedule : goal.returns-clause-schedule
 returns-clause-schedule g c =

@@ -2,9 +2,6 @@ use Rattle.std.proofs.{Common.arith, lemmas.Simd.length-zip2}
 use Rattle.shop_lanes.proofs.Extremes.{folded-max, folded_is}
 use Rattle.shop_lanes.proofs.folds.greatest_of.Goals as goal
 
-pub greater-fours-requires : goal.greater-fours-requires
-greater-fours-requires g c = grind arith
-
 pub greater-pairs-requires : goal.greater-pairs-requires
 greater-pairs-requires g c = grind (arith, length-zip2)
 

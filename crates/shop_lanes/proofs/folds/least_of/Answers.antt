@@ -2,9 +2,6 @@ use Rattle.std.proofs.{Common.arith, lemmas.Simd.length-zip2}
 use Rattle.shop_lanes.proofs.Extremes.{folded-min, folded_is}
 use Rattle.shop_lanes.proofs.folds.least_of.Goals as goal
 
-pub lesser-fours-requires : goal.lesser-fours-requires
-lesser-fours-requires g c = grind arith
-
 pub lesser-pairs-requires : goal.lesser-pairs-requires
 lesser-pairs-requires g c = grind (arith, length-zip2)
 

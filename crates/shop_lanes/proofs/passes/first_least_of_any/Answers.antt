@@ -1,10 +1,6 @@
 use Rattle.std.proofs.{Common.{arith, length, map}, lemmas.List.length-map}
 use Rattle.shop_lanes.proofs.BlockMasks.{length-block, least_found, position_in_block, none_in_block}
-use Rattle.shop_lanes.proofs.Extremes.{least_le_top}
 use Rattle.shop_lanes.proofs.passes.first_least_of_any.Goals as goal
-
-pub bits-bits-requires-clause-fits : goal.bits-bits-requires-clause-fits
-bits-bits-requires-clause-fits g c = grind (arith, least_le_top)
 
 pub overflow_add-result : goal.overflow_add-result
 overflow_add-result g c =

@@ -19,9 +19,6 @@ loop-block-preserved g c =
     c.load-in-loop-block-2.ensures c.splat-from.ensures c.loop-block.invariant c.serve-after.ensures.clocks_are
     c.serve-after.ensures.most_are
 
-pub sums_before-requires-clause-eight : goal.sums_before-requires-clause-eight
-sums_before-requires-clause-eight g c = ap length c.loop-block.invariant.clocks_are
-
 pub sums_before-requires-clause-fits : goal.sums_before-requires-clause-fits
 sums_before-requires-clause-fits g c =
     let cols = columns_in g.B.Block.value c.args.rows.now c.args.count c.requires.count c.requires.whole_blocks

@@ -1,8 +1,6 @@
-use Rattle.std.proofs.Common.{◌≡◌, ◌∙◌, ℕ, ◌≤◌, List, ap, arith}
-use Rattle.std.specs.List.{All}
+use Rattle.std.{proofs.Common.{◌≡◌, ◌∙◌, ℕ, ◌≤◌, List, ap, arith}, specs.List.All}
 use Rattle.shop_model.specs.Shop.{Shop}
-use Rattle.shop_layout.specs.{LaidOuts.IsReady, Positions.LayoutState}
-use Rattle.shop_layout.proofs.LaneLimits.{tails_fit, times_fit}
+use Rattle.shop_layout.{specs.{LaidOuts.IsReady, Positions.LayoutState}, proofs.LaneLimits.{tails_fit, times_fit}}
 use Rattle.shop_layout.proofs.fixed_rows.put_in_lanes.Goals as goal
 
 -- the rows of a layout that is ready, as they were lent

@@ -1,5 +1,4 @@
-use Rattle.std.proofs.Common.{◌≡◌, ◌∙◌, ℕ, ◌<◌, ◌^◌, List, ap, arith, length, sym}
-use Rattle.std.specs.List.{All, flat_map}
+use Rattle.std.{proofs.Common.{◌≡◌, ◌∙◌, ℕ, ◌<◌, ◌^◌, List, ap, arith, length, sym}, specs.List.{All, flat_map}}
 use Rattle.shop_model.specs.{Limits.IsWithinLimits, Shop.Shop}
 use Rattle.shop_layout.specs.{Legs.{all_legs, route_legs}, Positions.{IsLaidOut, LayoutState}}
 use Rattle.shop_layout.specs.{declared.legs.Leg.Leg, inner.Vectors.items_in}

@@ -1,6 +1,5 @@
 use Rattle.std.proofs.Common.{◌≡◌, ℕ, ◌+◌, ◌<◌, List, [], length, get_or, set, map, refl, arith}
-use Rattle.std.proofs.lemmas.Grind.{common_steps}
-use Rattle.std.proofs.lemmas.List.{map-set, get_or-map, length-map}
+use Rattle.std.proofs.lemmas.{Grind.common_steps, List.{map-set, get_or-map, length-map}}
 use Rattle.std.specs.{Prelude.Vec, Vec.with_item, declared.alloc.Global.Global}
 use Rattle.shop_lanes.specs.Rows.{place_at_rank}
 use Rattle.shop_layout.{specs.inner.Layings.no_slot, proofs.NotedPlaces.noted_more}
@@ -24,6 +23,3 @@ loop-rank-preserved c =
 
 pub offset_bounds-places-slot : goal.offset_bounds-places-slot
 offset_bounds-places-slot c = grind (arith, common_steps)
-
-pub bounds-places-slot : goal.bounds-places-slot
-bounds-places-slot c = grind (arith, common_steps)

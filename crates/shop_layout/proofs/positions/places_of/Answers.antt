@@ -1,7 +1,6 @@
-use Rattle.std.proofs.{lemmas.Bool.cases_eq, lemmas.Grind.common_steps}
+use Rattle.std.{proofs.lemmas.{Bool.cases_eq, Grind.common_steps}, specs.{Prelude.Vec, declared.alloc.Global.Global}}
 use Rattle.std.proofs.lemmas.List.{get_or_append_left, get_or_push, length-map, length_push, map-append}
 use Rattle.std.proofs.Common.{◌≡◌, ◌∙◌, ℕ, ◌+◌, ◌-◌, ◌*◌, ◌<◌, List, [], get_or, length, map, sym, subst, arith}
-use Rattle.std.specs.{Prelude.Vec, declared.alloc.Global.Global}
 use Rattle.shop_model.specs.Shop.{Shop}
 use Rattle.shop_layout.specs.{declared.slots.Slot.Slot, Ranks.ranked, Slots.{AreMachineSlots, AreSlotsOf}}
 use Rattle.shop_layout.specs.inner.Layings.{AreNoted, ArePlaces}

@@ -1,10 +1,9 @@
 use Rattle.std.proofs.Common.{◌≡◌, ◌∙◌, ◌+◌, ◌<◌, List, ap, length, get_or, map, arith, rules, sym, subst}
-use Rattle.std.proofs.lemmas.Grind.{common_steps}
-use Rattle.std.{proofs.lemmas.Fn.always_returns_same, specs.Prelude.IsPermutation}
+use Rattle.std.{proofs.lemmas.{Grind.common_steps, Fn.always_returns_same}, specs.Prelude.IsPermutation}
 use Rattle.std.proofs.lemmas.List.{get_or-replicate, length-map, length-replicate}
 use Rattle.shop_layout.specs.{declared.slots.Slot.Slot, Ranks.{ranked, ranked_op}}
 use Rattle.shop_layout.proofs.SlotLists.{IsSortedUpTo, jobs_written, sorted_more, items_written, items_read}
-use Rattle.shop_layout.proofs.RankedShops.{jobs_ranked, route_ranked}
+use Rattle.shop_layout.proofs.RankedShops.{route_ranked}
 use Rattle.shop_bound.proofs.{SortedTails.falls_from_sort, TimeSums.times_small}
 use Rattle.shop_layout.proofs.slots.machine_slots.Goals as goal
 
@@ -22,9 +21,6 @@ loop-j-preserved c = jobs_written (ranked c.args.ranks.now c.args.instance.now) 
     (ap (map (ranked_op c.args.ranks.now)) c.route.ensures.route
     ∙ sym (route_ranked c.args.ranks.now c.args.instance.now c.loop-j.j))
     c.in_ok-add_operations.ensures
-
-pub loop-m-init : goal.loop-m-init
-loop-m-init c = grind (arith, jobs_ranked)
 
 pub loop-m-preserved : goal.loop-m-preserved
 loop-m-preserved c =
@@ -57,9 +53,6 @@ add_operations-requires-clause-machines c = grind (arith, length-map)
 
 pub loop-j-init : goal.loop-j-init
 loop-j-init c = grind (arith, length-map, length-replicate, get_or-replicate)
-
-pub returns : goal.returns
-returns c = grind (arith, length-map)
 
 pub loop-preserved : goal.loop-preserved
 loop-preserved c = grind (arith, common_steps)

@@ -1,9 +1,8 @@
 use Rattle.std.proofs.Common.{inl, inr}
-use Rattle.shop_model.proofs.Merging.{clear_first, clear_second}
+use Rattle.shop_model.proofs.{Merging.{clear_first, clear_second}, steps.are_clear.Goals.else-route-k-via-else-route-k}
 use Rattle.shop_model.proofs.steps.are_clear.Goals as goal
 use Rattle.shop_model.proofs.steps.are_clear.Goals.{else-route-k-via-then-route-k+then-row-k+else-other_row-l}
 use Rattle.shop_model.proofs.steps.are_clear.Goals.{else-route-k-via-then-route-k+else-row-k}
-use Rattle.shop_model.proofs.steps.are_clear.Goals.{else-route-k-via-else-route-k}
 
 pub loop-k-preserved-then-finish-other_finish : goal.loop-k-preserved-then-finish-other_finish
 loop-k-preserved-then-finish-other_finish c =

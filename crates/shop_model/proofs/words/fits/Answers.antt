@@ -1,4 +1,4 @@
-use Rattle.std.proofs.Common.{true≢false, refl, arith}
+use Rattle.std.proofs.Common.{rules, true≢false, refl, arith}
 use Rattle.shop_model.proofs.WordLemmas.{word_jobs, word_from}
 use Rattle.shop_model.proofs.words.fits.Goals as goal
 
@@ -12,3 +12,6 @@ returns c = (
       (λ i below. c.loop-j.invariant i (omega arith)),
   λ _. refl,
 )
+
+pub loop-j-preserved : goal.loop-j-preserved
+loop-j-preserved c = search rules

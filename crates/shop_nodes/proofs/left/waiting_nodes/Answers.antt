@@ -1,6 +1,5 @@
 use Rattle.std.proofs.{Common.{◌≡◌, ◌+◌, ◌-◌, ◌∙◌, drop, sym, ap, subst, arith}, lemmas.List.Elements.All-append}
-use Rattle.std.proofs.lemmas.Grind.{common_steps}
-use Rattle.std.specs.Arc.{arc_slice_items}
+use Rattle.std.{proofs.lemmas.Grind.common_steps, specs.Arc.arc_slice_items}
 use Rattle.shop_nodes.{specs.{Nodes.{words_of, IsNode, AreNodes}, Halts.stack_words}, proofs.LeftLemmas.all_more}
 use Rattle.shop_nodes.proofs.left.waiting_nodes.Goals as goal
 

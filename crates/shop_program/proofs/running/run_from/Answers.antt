@@ -1,4 +1,4 @@
-use Rattle.std.proofs.{Common.{ℕ, inr, Result, arith}, lemmas.Grind.common_steps}
+use Rattle.std.proofs.{Common.{rules, ℕ, inr, Result, arith}, lemmas.Grind.common_steps}
 use Rattle.shop_engine.{specs.declared.faults.Fault.Fault, proofs.Sources.at_err}
 use Rattle.shop_program.specs.Commands.{ChecksFrom}
 use Rattle.shop_program.proofs.running.run_from.Goals as goal
@@ -15,3 +15,9 @@ returns-in_err-feasible-in-Check g c =
 
 pub returns-in_err-solve_text-in-Solve : goal.returns-in_err-solve_text-in-Solve
 returns-in_err-solve_text-in-Solve g c = grind (arith, common_steps)
+
+pub returns-in-Check : goal.returns-in-Check
+returns-in-Check g c = search rules
+
+pub returns-then-feasible : goal.returns-then-feasible
+returns-then-feasible g c = search rules

@@ -1,12 +1,10 @@
 use Rattle.std.proofs.{Common.{rules, ◌≡◌, ℕ, ◌+◌, ◌≤◌, ◌<◌, List, length, ◌∙◌, arith}, lemmas.Bool.{eq-eqb, ne_eqb}}
-use Rattle.std.proofs.lemmas.List.{length_push}
-use Rattle.std.proofs.lemmas.List.{length-map}
+use Rattle.std.proofs.lemmas.List.{length_push, length-map}
 use Rattle.shop_nodes.specs.declared.sheets.Sheet.{Sheet}
 use Rattle.shop_runs.specs.{Entries.told, Crews.OneForEach, declared.rounds.Round.Round}
 use Rattle.shop_runs.specs.declared.{entries.{Entry.Entry, Kind.TheVariants.Done}, outcomes.RoundResult.RoundResult}
-use Rattle.shop_runs.proofs.GatherLemmas.{GatheredSoFar, few_here}
+use Rattle.shop_runs.proofs.GatherLemmas.{GatheredSoFar, few_here, gathered_turn}
 use Rattle.shop_runs.proofs.EntryLemmas.{IsEntryAt, entry_turn, entries_end, entry_done, entry_not_passed}
-use Rattle.shop_runs.proofs.GatherLemmas.{gathered_turn}
 use Rattle.shop_runs.proofs.OutcomeLemmas.{closed_outcome, open_outcome}
 use Rattle.shop_runs.proofs.outcomes.outcome_of.Goals as goal
 

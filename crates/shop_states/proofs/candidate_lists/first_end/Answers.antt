@@ -32,9 +32,3 @@ returns-clause-is g c = λ shop w kept.
       has = chosen_in can r is at.operation;
       set = λ js are. is_conflict can r is at.operation (read ∙ at.machine_is) (omega arith) js are;
     }
-
-pub returns-then-position-positions-clause-small : goal.returns-then-position-positions-clause-small
-returns-then-position-positions-clause-small g c = grind arith
-
-pub returns-clause-small : goal.returns-clause-small
-returns-clause-small g c = grind arith

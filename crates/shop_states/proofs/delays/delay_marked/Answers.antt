@@ -1,10 +1,7 @@
 use Rattle.std.proofs.Common.{◌≤◌, arith, get_or}
-use Rattle.shop_states.proofs.{RaisedEnds.{mid_raisable, raised_with_ends}, RaiseLoops.marks_begin}
+use Rattle.shop_states.proofs.{RaisedEnds.{mid_raisable, raised_with_ends}}
 use Rattle.shop_states.proofs.RaiseLoops.{popped_within, popped_waits, popped_raisable, marks_on, marks_past, marks_end}
 use Rattle.shop_states.proofs.delays.delay_marked.Goals as goal
-
-pub loop-position-init : goal.loop-position-init
-loop-position-init g c = marks_begin c.requires.raisable c.requires.marks
 
 pub head-requires : goal.head-requires
 head-requires g c = popped_within c.requires.raisable c.loop-position.invariant c.in-Some.ensures
@@ -12,17 +9,8 @@ head-requires g c = popped_within c.requires.raisable c.loop-position.invariant 
 pub set_end_at-requires-clause-within : goal.set_end_at-requires-clause-within
 set_end_at-requires-clause-within g c = grind (arith, popped_within)
 
-pub set_end_at-requires-clause-job : goal.set_end_at-requires-clause-job
-set_end_at-requires-clause-job g c = grind (arith, popped_within)
-
 pub set_end_at-requires-clause-known : goal.set_end_at-requires-clause-known
 set_end_at-requires-clause-known g c = grind (arith, popped_waits)
-
-pub set_end_at-requires-clause-ends : goal.set_end_at-requires-clause-ends
-set_end_at-requires-clause-ends g c = grind (arith, popped_raisable)
-
-pub set_end_at-requires-clause-fits : goal.set_end_at-requires-clause-fits
-set_end_at-requires-clause-fits g c = grind (arith, popped_waits)
 
 pub delay_route-requires-clause-waits : goal.delay_route-requires-clause-waits
 delay_route-requires-clause-waits g c = grind (arith, popped_waits)

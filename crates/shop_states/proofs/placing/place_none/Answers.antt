@@ -1,5 +1,5 @@
 use Rattle.std.proofs.Common.{rules, arith}
-use Rattle.shop_states.proofs.{JobLegs.first_small, PlacedNexts.{begins_behind, none_at}}
+use Rattle.shop_states.proofs.{JobLegs.first_small, PlacedNexts.{begins_behind}}
 use Rattle.shop_states.proofs.placing.place_none.Goals as goal
 
 pub overflow_cast-next_legs : goal.overflow_cast-next_legs
@@ -14,6 +14,3 @@ overflow_add-first-in-loop-job g c =
 
 pub loop-job-preserved : goal.loop-job-preserved
 loop-job-preserved g c = search (rules, begins_behind)
-
-pub returns : goal.returns
-returns g c = grind (arith, none_at)

@@ -21,9 +21,6 @@ set_end_at-requires-clause-job g c = grind (arith, popped_within)
 pub set_end_at-requires-clause-known : goal.set_end_at-requires-clause-known
 set_end_at-requires-clause-known g c = grind (arith, popped_waits)
 
-pub set_end_at-requires-clause-ends : goal.set_end_at-requires-clause-ends
-set_end_at-requires-clause-ends g c = grind (arith, popped_raisable)
-
 pub set_end_at-requires-clause-fits : goal.set_end_at-requires-clause-fits
 set_end_at-requires-clause-fits g c = grind (arith, popped_waits)
 

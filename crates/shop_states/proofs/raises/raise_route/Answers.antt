@@ -108,6 +108,3 @@ behind-index-requires-clause-known g c = (c.requires.raisable.places c.args.posi
 
 pub set_head-requires-clause-in_range : goal.set_head-requires-clause-in_range
 set_head-requires-clause-in_range g c = raised_within c.requires.raisable c.requires.waits
-
-pub set_head-requires-clause-fits : goal.set_head-requires-clause-fits
-set_head-requires-clause-fits g c = grind arith

@@ -84,12 +84,3 @@ returns-clause-settled g c = λ shop w kept siblings bound_is i least here advan
     in children_settled kept siblings latest on c.blocks_of-from.ensures.first c.blocks_of-from.ensures.behind
     late.raises c.requires.at_rest many late.noted bound_is c.take_ceilings.ensures.bounds
     (c.take_ceilings.ensures.long ∙ (c.requires.room ∙ many)) i least here advancing (omega arith)
-
-pub returns-clause-machines : goal.returns-clause-machines
-returns-clause-machines g c = c.take_ceilings.ensures.bounds.long ∙ c.raise_late-raised.ensures.noted.long
-
-pub returns-clause-positions : goal.returns-clause-positions
-returns-clause-positions g c = (rw c.routes-routes.ensures at c.raise_late-raised.ensures.raises).positions
-
-pub returns-clause-ends : goal.returns-clause-ends
-returns-clause-ends g c = (rw c.routes-routes.ensures at c.raise_late-raised.ensures.raises).ends

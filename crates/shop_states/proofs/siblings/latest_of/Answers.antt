@@ -1,8 +1,7 @@
 use Rattle.std.proofs.Common.{arith, inl, inr, refl}
 use Rattle.shop_states.{specs.inner.Siblings.end_by, proofs.LatestEnds.{ends_earlier, ends_later, ends_second}}
-use Rattle.shop_states.proofs.siblings.latest_of.Goals.{then-end-latest}
+use Rattle.shop_states.proofs.siblings.latest_of.Goals.{then-end-latest, else-end-latest+else-job-latest}
 use Rattle.shop_states.proofs.siblings.latest_of.Goals.{else-end-latest+then-job-latest+then-end-latest-2}
-use Rattle.shop_states.proofs.siblings.latest_of.Goals.{else-end-latest+else-job-latest}
 use Rattle.shop_states.proofs.siblings.latest_of.Goals.{else-job-latest-via-then-job-latest+else-end-latest-2}
 use Rattle.shop_states.proofs.siblings.latest_of.Goals.{else-job-latest-via-else-job-latest}
 use Rattle.shop_states.proofs.siblings.latest_of.Goals as goal

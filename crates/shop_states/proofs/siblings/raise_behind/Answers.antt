@@ -1,5 +1,5 @@
 use Rattle.std.proofs.{Common.{refl, arith}, lemmas.List.length-map}
-use Rattle.shop_states.{specs.inner.{HeadRaises.raise_in, Watchers.no_floor}, proofs.BehindRaises.{its_leg, its_place}}
+use Rattle.shop_states.{specs.inner.{HeadRaises.raise_in, Watchers.no_floor}, proofs.BehindRaises.{its_leg}}
 use Rattle.shop_states.proofs.BehindRaises.{late_enough, leg_up_to, next_machine, next_raisable, next_read, next_there}
 use Rattle.shop_states.proofs.{BehindRaises.{next_waits, raised_behind}, Watching.{noted_behind, watch_none}}
 use Rattle.shop_states.proofs.siblings.raise_behind.Goals as goal
@@ -9,9 +9,6 @@ time-requires g c = grind arith
 
 pub overflow_add-ready : goal.overflow_add-ready
 overflow_add-ready g c = grind arith
-
-pub behind-requires : goal.behind-requires
-behind-requires g c = grind (arith, its_place)
 
 pub leg-leg-requires : goal.leg-leg-requires
 leg-leg-requires g c = its_leg c.requires.can c.requires.waits c.behind.ensures.index

@@ -1,6 +1,5 @@
 use Rattle.std.proofs.{Common.{◌≡◌, ◌++◌, ◌∷◌, [], ℕ, List, string_bytes, arith}, lemmas.List.{append_assoc, take_all}}
-use Rattle.std.proofs.lemmas.Grind.{common_steps}
-use Rattle.std.specs.{Prelude.{flat_map, codes}, Fmt.decimal}
+use Rattle.std.{proofs.lemmas.Grind.common_steps, specs.{Prelude.{flat_map, codes}, Fmt.decimal}}
 use Rattle.shop_text.{specs.Writing.{printed_line, job_line}, proofs.TextLemmas.{written, job_line_is}}
 use Rattle.shop_text.proofs.printing.write_job.Goals as goal
 

@@ -46,6 +46,3 @@ returns-else-len-jobs c =
       missed_line c.args.instance.now c.args.text.now c.loop-rest.number c.loop-rest.rest.now
           (rows_held rows) c.loop-rest.invariant (omega arith) few,
     ))
-
-pub returns-then-len-jobs : goal.returns-then-len-jobs
-returns-then-len-jobs c = grind (arith, common_steps)

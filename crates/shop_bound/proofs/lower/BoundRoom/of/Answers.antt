@@ -1,7 +1,6 @@
 use Rattle.std.proofs.{Common.{◌≡◌, ◌∙◌, ap, arith, sym, unwrap_or}, lemmas.List.{length-map, take_all}}
-use Rattle.std.proofs.lemmas.Grind.{common_steps}
+use Rattle.std.proofs.lemmas.{Grind.common_steps, Iterator.Consumers.max_from_yields_List}
 use Rattle.std.proofs.lemmas.Iterator.{Adapters.option_map_id, YieldsList-from_slice, Consumers.YieldsList-from_copied}
-use Rattle.std.proofs.lemmas.Iterator.Consumers.{max_from_yields_List}
 use Rattle.shop_bound.specs.OneMachine.{greatest_of}
 use Rattle.shop_bound.proofs.{Lists.get_or-le-greatest_of, ThresholdLemmas.greatest_of-reduce}
 use Rattle.shop_bound.proofs.lower.BoundRoom.of.Goals as goal

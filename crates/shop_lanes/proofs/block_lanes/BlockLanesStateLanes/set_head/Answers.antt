@@ -11,6 +11,3 @@ returns-clause-heads g c = grind (arith, take-set, map-set)
 
 pub returns-clause-ends : goal.returns-clause-ends
 returns-clause-ends g c = grind (arith, length-take, length-map, map-set, drop-set-lt)
-
-pub index_mut-requires : goal.index_mut-requires
-index_mut-requires g c = grind (arith, length-map, length-take)

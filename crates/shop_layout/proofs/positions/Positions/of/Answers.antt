@@ -3,9 +3,8 @@ use Rattle.std.{proofs.lemmas.List.length-map, specs.{List.All, Prelude.Vec, dec
 use Rattle.shop_model.specs.{Limits.IsWithinLimits, Shop.Shop}
 use Rattle.shop_layout.specs.{declared.slots.Slot.Slot, Ranks.{AreRanks, ranked}, Slots.AreMachineSlots}
 use Rattle.shop_layout.specs.inner.Layings.{AreCells, ArePlaces, AreShorter, HaveRoom, place_after}
-use Rattle.shop_layout.specs.Positions.{AreMachinesOf}
+use Rattle.shop_layout.{specs.Positions.AreMachinesOf, proofs.RankedShops.{jobs_ranked, limits_ranked}}
 use Rattle.shop_layout.proofs.{LaidLists.{blocks_few, cells_known, laid_out, machine_few}, RankedSlots.places_ranked}
-use Rattle.shop_layout.proofs.RankedShops.{jobs_ranked, limits_ranked}
 use Rattle.shop_layout.proofs.positions.Positions.of.Goals as goal
 
 -- the slots of the machines, as they were lent, and the cells that they make

@@ -32,8 +32,5 @@ invariant_of-self-in_err-set_aside c =
     c.in_ok-place.ensures.place
     in grind (arith, cut_empty)
 
-pub set_aside-requires : goal.set_aside-requires
-set_aside-requires c = grind arith
-
 pub invariant_of-self-2 : goal.invariant_of-self-2
 invariant_of-self-2 c = grind (arith, common_steps)

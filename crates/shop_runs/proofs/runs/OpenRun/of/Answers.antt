@@ -39,9 +39,6 @@ returns-clause-at c =
       open_nodes = grind arith;
     })
 
-pub returns-clause-near : goal.returns-clause-near
-returns-clause-near c = c.in_ok-put_nodes.ensures.horizon ∙ c.none-distant.ensures.horizon
-
 pub returns-clause-all : goal.returns-clause-all
 returns-clause-all c = λ b.
     let first = c.none-distant.result

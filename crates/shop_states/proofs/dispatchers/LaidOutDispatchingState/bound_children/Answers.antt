@@ -3,10 +3,9 @@ use Rattle.std.proofs.lemmas.List.{get_or_default}
 use Rattle.shop_bound.specs.Bound.{lb}
 use Rattle.shop_layout.{specs.{Lanes.rows_of, Positions.LayoutState}, proofs.Written.written_vec}
 use Rattle.shop_states.specs.{declared.dispatching.Candidate.Candidate, inner.Advances.IsAdvancing}
-use Rattle.shop_states.specs.inner.Ceilings.{AreChildCeilings}
+use Rattle.shop_states.{specs.inner.Ceilings.AreChildCeilings, proofs.KeptRoom.{long_kept, scratch_kept}}
 use Rattle.shop_states.proofs.{AskedStates.{bound_behind, bound_there, listed_here}, OwnSpans.candidate_advancing}
 use Rattle.shop_states.proofs.{ListedCandidates.{are_siblings, listed_at}, ReadStates.{candidate_read, kept_copied}}
-use Rattle.shop_states.proofs.KeptRoom.{long_kept, room_kept, scratch_kept}
 use Rattle.shop_states.proofs.dispatchers.LaidOutDispatchingState.bound_children.Goals as goal
 
 pub bound_children-requires-clause-can : goal.bound_children-requires-clause-can
@@ -55,17 +54,8 @@ returns-clause-bounded g c = λ w limit others of bound_is lists.
           (same k d here) (c.bound_children.ensures.known shop w copied siblings bound_there_is k here))),
     )
 
-pub returns-clause-room : goal.returns-clause-room
-returns-clause-room g c = grind (arith, room_kept)
-
-pub returns-then-candidates-lt-MANY-clause-room : goal.returns-then-candidates-lt-MANY-clause-room
-returns-then-candidates-lt-MANY-clause-room g c = c.requires.room
-
 pub returns-clause-scratch : goal.returns-clause-scratch
 returns-clause-scratch g c = grind (arith, scratch_kept, long_kept)
-
-pub bound_children-requires-clause-at_rest : goal.bound_children-requires-clause-at_rest
-bound_children-requires-clause-at_rest g c = c.requires.scratch.at_rest
 
 pub bound_children-requires-clause-room : goal.bound_children-requires-clause-room
 bound_children-requires-clause-room g c = ap length c.as_mut_slice-ceilings.ensures.value

@@ -2,7 +2,7 @@ use Rattle.std.proofs.{Common.{rules, ℕ, List, ◌∙◌, ap, arith, length, r
 use Rattle.shop_layout.{specs.Positions.LayoutState, proofs.Written.written_vec}
 use Rattle.shop_states.proofs.{CandidateDispatches.{candidate_can, candidate_told}, ReadStates.kept_read}
 use Rattle.shop_states.proofs.{AskedStates.{bound_there, kept_on, told_behind}, Trials.{its_job, its_position}}
-use Rattle.shop_states.proofs.KeptRoom.{room_behind, room_kept, scratch_kept}
+use Rattle.shop_states.proofs.KeptRoom.{room_behind, scratch_kept}
 use Rattle.shop_states.proofs.dispatchers.LaidOutDispatchingState.dispatch_below.Goals as goal
 
 pub of-dispatch-requires : goal.of-dispatch-requires
@@ -56,12 +56,6 @@ returns-clause-state g c = λ w of candidate.
 pub advance_below-requires-clause-at_rest : goal.advance_below-requires-clause-at_rest
 advance_below-requires-clause-at_rest g c = c.requires.scratch.at_rest
 
-pub advance_below-requires-clause-is : goal.advance_below-requires-clause-is
-advance_below-requires-clause-is g c = rw c.as_slice-next.ensures.value c.of-dispatch.ensures.is
-
-pub advance_below-requires-clause-limit : goal.advance_below-requires-clause-limit
-advance_below-requires-clause-limit g c = let limit = c.range_of-range.ensures.limit in omega arith
-
 pub set_next-requires-clause-keep : goal.set_next-requires-clause-keep
 set_next-requires-clause-keep g c = rw c.as_mut_slice.ensures.value (rw (
   c.of-dispatch.ensures.job,
@@ -71,15 +65,9 @@ set_next-requires-clause-keep g c = rw c.as_mut_slice.ensures.value (rw (
 pub set_next-requires-clause-times : goal.set_next-requires-clause-times
 set_next-requires-clause-times g c = grind arith
 
-pub returns-in_err-told-clause-slot : goal.returns-in_err-told-clause-slot
-returns-in_err-told-clause-slot g c = grind (arith, room_kept)
-
 pub returns-in_err-told-clause-scratch : goal.returns-in_err-told-clause-scratch
 returns-in_err-told-clause-scratch g c =
     scratch_kept c.requires.scratch c.advance_below.ensures.machines c.advance_below.ensures.rest refl
-
-pub returns-in_err-told-clause-kept : goal.returns-in_err-told-clause-kept
-returns-in_err-told-clause-kept g c = λ w j known. known
 
 pub returns-clause-slot : goal.returns-clause-slot
 returns-clause-slot g c = room_behind c.requires.can.is.0 c.args.state.now.next refl c.as_mut_slice.ensures.value
@@ -88,6 +76,3 @@ returns-clause-slot g c = room_behind c.requires.can.is.0 c.args.state.now.next 
 pub returns-clause-scratch : goal.returns-clause-scratch
 returns-clause-scratch g c =
     scratch_kept c.requires.scratch c.advance_below.ensures.machines c.advance_below.ensures.rest refl
-
-pub returns-clause-kept : goal.returns-clause-kept
-returns-clause-kept g c = λ w j known. known

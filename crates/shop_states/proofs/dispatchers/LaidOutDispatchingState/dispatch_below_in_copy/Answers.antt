@@ -9,9 +9,6 @@ dispatch_in_copy-requires-clause-can g c = candidate_can c.grid-grid.ensures.gri
     c.requires.scratch.machines (λ rows heads times tails m here known later above.
     absurd (let none = ap (λ (xs : List ℕ). length xs) c.range_of-range.ensures.ceilings in omega arith))
 
-pub dispatch_in_copy-requires-clause-long : goal.dispatch_in_copy-requires-clause-long
-dispatch_in_copy-requires-clause-long g c = grind arith
-
 pub returns-clause-told : goal.returns-clause-told
 returns-clause-told g c = λ w of candidate bound_is. told_behind of c.args.candidate.job c.args.limit
     c.dispatch_in_copy.result candidate.fits (candidate_told c.grid-grid.ensures.grid refl of.kept candidate

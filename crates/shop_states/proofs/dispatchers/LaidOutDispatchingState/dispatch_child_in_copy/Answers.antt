@@ -1,4 +1,4 @@
-use Rattle.std.proofs.Common.{◌∙◌, arith, ℕ, List, refl, subst, sym}
+use Rattle.std.proofs.Common.{◌∙◌, ℕ, List, refl, subst, sym}
 use Rattle.shop_states.specs.inner.Ceilings.{AreChildCeilings}
 use Rattle.shop_states.proofs.CandidateDispatches.{candidate_can, candidate_kept, candidate_told}
 use Rattle.shop_states.proofs.{AskedStates.{bound_there, kept_on_some, told_behind}, KeptRoom.scratch_kept}
@@ -10,9 +10,6 @@ dispatch_in_copy-requires-clause-can g c = candidate_can c.grid-grid.ensures.gri
     c.requires.scratch.machines (subst (λ (xs : List ℕ). AreChildCeilings c.args.self.now.shop c.requires.can.word
     c.args.self.now.layout c.args.candidate.job xs) (sym (c.range_of-range.ensures.ceilings
     ∙ c.as_slice-ceilings.ensures.value)) c.requires.can.is.2)
-
-pub dispatch_in_copy-requires-clause-long : goal.dispatch_in_copy-requires-clause-long
-dispatch_in_copy-requires-clause-long g c = grind arith
 
 pub returns-clause-told : goal.returns-clause-told
 returns-clause-told g c = λ w of candidate bound_is. told_behind of c.args.candidate.job c.args.limit

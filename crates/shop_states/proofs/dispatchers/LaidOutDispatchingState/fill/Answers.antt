@@ -4,9 +4,6 @@ use Rattle.shop_bound.proofs.Renumbered.{numbers_alike}
 use Rattle.shop_states.proofs.{AskedStates.kept_for, KeptRoom.long_kept, ReadStates.kept_read}
 use Rattle.shop_states.proofs.dispatchers.LaidOutDispatchingState.fill.Goals as goal
 
-pub place_word-requires-clause-word : goal.place_word-requires-clause-word
-place_word-requires-clause-word g c = grind (arith, numbers_alike)
-
 pub returns-clause-state : goal.returns-clause-state
 returns-clause-state g c =
     let alike = numbers_alike c.args.self.now.asked c.args.self.now.shop c.grid.ensures.limits

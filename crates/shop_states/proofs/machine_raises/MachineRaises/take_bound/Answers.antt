@@ -10,21 +10,6 @@ pub take_spans_of-requires-clause-can : goal.take_spans_of-requires-clause-can
 take_spans_of-requires-clause-can g c =
     spans_given g.L.StateLanes.value c.as_mut_slice-raises.ensures.value c.self.view_is c.requires.can
 
-pub take_spans_of-requires-clause-even : goal.take_spans_of-requires-clause-even
-take_spans_of-requires-clause-even g c = c.fixed_blocks_each-each.ensures.even
-
-pub overflow_add-higher : goal.overflow_add-higher
-overflow_add-higher g c = let limit = c.requires.limit in let below = c.requires.below in omega arith
-
-pub overflow_add-higher-2 : goal.overflow_add-higher-2
-overflow_add-higher-2 g c = let limit = c.requires.limit in omega arith
-
-pub overflow_sub-result : goal.overflow_sub-result
-overflow_sub-result g c = let low = c.take_any_spans.ensures.low in omega arith
-
-pub overflow_sub-result-2 : goal.overflow_sub-result-2
-overflow_sub-result-2 g c = let low = c.take_spans_of.ensures.low in omega arith
-
 pub invariant_of-self : goal.invariant_of-self
 invariant_of-self g c = few_written g.L.StateLanes.value c.self.inside.raises c.take_any_spans.new.raises
     c.as_mut_slice-raises.ensures.value c.take_any_spans.ensures.long g.L.StateLanes.EACH c.self.invariant

@@ -2,8 +2,8 @@ use Rattle.std.proofs.Common.{◌+◌, ◌<◌, ◌∙◌, ap, inl, inr, List, a
 use Rattle.std.proofs.lemmas.List.{length-map, length-set}
 use Rattle.shop_layout.specs.Lanes.{lanes_on}
 use Rattle.shop_states.specs.inner.HeadRaises.{Raise, nothing_raised, raise_in, raise_of, raises_in}
-use Rattle.shop_states.{specs.inner.LaidLanes.laid_rows, proofs.LookedUpRows.{its_small, can_bound, cut_ordered}}
-use Rattle.shop_states.proofs.{LookedUpRows.{cut_span, cut_within, its_blocks, its_known}, FittingSpans.spans_within}
+use Rattle.shop_states.{specs.inner.LaidLanes.laid_rows, proofs.LookedUpRows.{can_bound, cut_ordered}}
+use Rattle.shop_states.proofs.{LookedUpRows.{cut_span, cut_within, its_known}, FittingSpans.spans_within}
 use Rattle.shop_states.proofs.RaisedMachines.{IsFoundSo, first_known, found_all, found_begins, found_more}
 use Rattle.shop_states.proofs.WrittenRaises.{bounds_written, few_written, long_given}
 use Rattle.shop_states.proofs.machine_raises.MachineRaises.take_ceilings.Goals as goal
@@ -13,9 +13,6 @@ take_raise-raise-requires g c =
     let many = length-map c.loop-machine.raises (raise_in g.L.StateLanes.value)
     in let known = first_known c.loop-machine.invariant.found.left.are_listed c.in-Some.ensures
     in omega arith
-
-pub blocks_of-from-requires : goal.blocks_of-from-requires
-blocks_of-from-requires g c = grind (arith, its_small, its_blocks)
 
 pub blocks-requires : goal.blocks-requires
 blocks-requires g c =
@@ -81,9 +78,6 @@ returns-clause-bounds g c =
       most = so.most;
     }) (omega arith)
 
-pub returns-clause-long : goal.returns-clause-long
-returns-clause-long g c = c.loop-machine.invariant.long
-
 pub invariant_of-self : goal.invariant_of-self
 invariant_of-self g c =
     few_written g.L.StateLanes.value c.self.inside.raises c.loop-machine.raises
@@ -99,26 +93,11 @@ loop-machine-init g c = record {
   long = c.fill.ensures.len;
 }
 
-pub overflow_add-lowest : goal.overflow_add-lowest
-overflow_add-lowest g c = let least = c.requires.least in omega arith
-
-pub overflow_sub-result : goal.overflow_sub-result
-overflow_sub-result g c = let low = c.loop-machine.invariant.found.low in omega arith
-
-pub rows-rows-requires-clause-tails : goal.rows-rows-requires-clause-tails
-rows-rows-requires-clause-tails g c = c.requires.can.tails
-
-pub rows-rows-requires-clause-times : goal.rows-rows-requires-clause-times
-rows-rows-requires-clause-times g c = c.requires.can.times
-
 pub offset_bounds-ceilings-machine : goal.offset_bounds-ceilings-machine
 offset_bounds-ceilings-machine g c = grind (arith, first_known)
 
 pub bounds-ceilings-machine : goal.bounds-ceilings-machine
 bounds-ceilings-machine g c = grind (arith, first_known, length-map)
-
-pub offset_bounds-ceilings-machine-in-Some : goal.offset_bounds-ceilings-machine-in-Some
-offset_bounds-ceilings-machine-in-Some g c = grind (arith, first_known)
 
 pub bounds-ceilings-machine-in-Some : goal.bounds-ceilings-machine-in-Some
 bounds-ceilings-machine-in-Some g c = grind (arith, first_known, length-map)

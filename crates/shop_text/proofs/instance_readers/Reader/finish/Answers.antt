@@ -1,5 +1,4 @@
 use Rattle.std.proofs.{Common.{◌≡◌, inl, length, sym, ◌∙◌, arith, vec_len}, lemmas.Bool.{eqb-true, eqb-false}}
-use Rattle.std.proofs.lemmas.Grind.{common_steps}
 use Rattle.shop_text.proofs.ReaderTurns.{all_read, none_read}
 use Rattle.shop_text.proofs.instance_readers.Reader.finish.Goals as goal
 
@@ -14,6 +13,3 @@ returns-then-is_empty c = λ lines read.
 
 pub returns : goal.returns
 returns c = grind (arith, eqb-true, eqb-false, vec_len, all_read)
-
-pub returns-then-not-is_fresh : goal.returns-then-not-is_fresh
-returns-then-not-is_fresh c = grind (arith, common_steps)

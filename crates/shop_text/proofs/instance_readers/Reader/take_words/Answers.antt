@@ -1,4 +1,4 @@
-use Rattle.std.proofs.Common.{◌∙◌, Some, refl, sym}
+use Rattle.std.proofs.Common.{rules, ◌∙◌, Some, refl, sym}
 use Rattle.shop_text.proofs.{Headers.header_utf8, ReaderTurns.{words_read, no_header, one_header}}
 use Rattle.shop_text.proofs.instance_readers.Reader.take_words.Goals as goal
 
@@ -26,3 +26,6 @@ returns-in_default c = λ front words read header.
           (sym (c.skips_text.ensures _ read.draft_holds) ∙ c.if-not-skips_text.false)
           (no_header reader c.args.line words front read none),
     )
+
+pub returns-then-not-skips_text : goal.returns-then-not-skips_text
+returns-then-not-skips_text c = search rules

@@ -19,8 +19,5 @@ pub returns-clause-walker : goal.returns-clause-walker
 returns-clause-walker c = let made = subst (IsWalkOf c.self.inside.instance.now) (sym c.in_ok-new.ensures.ok)
     c.in_ok-walker.ensures in (made.0 ∙ c.self.view_is, made.1)
 
-pub returns-clause-instance : goal.returns-clause-instance
-returns-clause-instance c = c.self.view_is
-
 pub returns-in_err-new-clause-instance : goal.returns-in_err-new-clause-instance
 returns-in_err-new-clause-instance c = c.self.view_is

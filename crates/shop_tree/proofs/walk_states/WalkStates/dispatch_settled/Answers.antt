@@ -1,4 +1,4 @@
-use Rattle.std.proofs.Common.{ap, subst, sym}
+use Rattle.std.proofs.Common.{rules, ap, subst, sym}
 use Rattle.shop_tree.specs.inner.Slots.{HoldSlots}
 use Rattle.shop_tree.proofs.walk_states.WalkStates.dispatch_settled.Goals as goal
 
@@ -19,3 +19,6 @@ pub dispatch_settled-requires : goal.dispatch_settled-requires
 dispatch_settled-requires g c =
     let at = c.requires.can c.loop-index.index (record { job = 0; own = 0 }) c.loop-index-test.true
     in record { word = at.word; is = rw (c.deref_mut.ensures.value, c.loop-index.invariant) at.is }
+
+pub returns-then-candidate-job-clause-state : goal.returns-then-candidate-job-clause-state
+returns-then-candidate-job-clause-state g c = search rules

@@ -5,12 +5,6 @@ use Rattle.shop_tree.proofs.{ListLemmas.on_ok, ExpandLemmas.expands_branched, Li
 use Rattle.shop_tree.proofs.StateSteps.{listed_stand}
 use Rattle.shop_tree.proofs.walkers.Walker.branch.Goals as goal
 
-pub close-requires-clause-word : goal.close-requires-clause-word
-close-requires-clause-word g c = grind arith
-
-pub close-requires-clause-limits : goal.close-requires-clause-limits
-close-requires-clause-limits g c = grind arith
-
 pub close-requires-clause-closed : goal.close-requires-clause-closed
 close-requires-clause-closed g c =
     let self = c.args.self.now in let word = self.path.items

@@ -81,9 +81,6 @@ pub close-requires-clause-limits : goal.close-requires-clause-limits
 close-requires-clause-limits g c = let self = c.args.self.now in subst IsWithinLimits self.same_shop
     (g.met.D.Dispatching.state_is_within_limits self.states.dispatcher self.path.items _ c.requires.listed.at.state)
 
-pub close-requires-clause-short : goal.close-requires-clause-short
-close-requires-clause-short g c = c.requires.listed.short
-
 pub close-requires-clause-closed : goal.close-requires-clause-closed
 close-requires-clause-closed g c =
     let self = c.args.self.now in let shop = g.D.Dispatching.shop self.states.dispatcher
@@ -94,9 +91,6 @@ close-requires-clause-closed g c =
     (c.dispatch_below.ensures.taken.told word at.state (alone_own one c.requires.listed.candidates) bound)
     in subst (λ (x : Shop). AreChildren x self.best word [] (c.args.closed + 1)) self.same_shop
     (alone_closed one c.requires.listed.candidates high)
-
-pub close-requires-clause-in_order : goal.close-requires-clause-in_order
-close-requires-clause-in_order g c = c.requires.listed.at.in_order
 
 pub close-requires-clause-states : goal.close-requires-clause-states
 close-requires-clause-states g c = let self = c.args.self.now
@@ -115,12 +109,6 @@ put_rest-requires g c =
     in let jobs = limits.jobs in let b = c.len.ensures in let e = self.path.ok.0
     in record { depth = omega arith; count = omega arith }
 
-pub take_job-requires-2-clause-some : goal.take_job-requires-2-clause-some
-take_job-requires-2-clause-some g c = c.requires.some
-
-pub take_job-requires-2-clause-short : goal.take_job-requires-2-clause-short
-take_job-requires-2-clause-short g c = c.requires.listed.short
-
 pub take_job-requires-2-clause-held : goal.take_job-requires-2-clause-held
 take_job-requires-2-clause-held g c =
     let self = c.args.self.now in let is = g.D.Dispatching.IsStateOf self.states.dispatcher
@@ -130,9 +118,6 @@ take_job-requires-2-clause-held g c =
     in subst (λ x. AreHeld (g.D.Dispatching.IsStateOf x) next c.put_rest.new.stack.items)
     (sym c.dispatch_below.ensures.sound.dispatcher) (subst (λ hs. AreHeld is next hs) (sym c.in_ok-put_rest.ensures)
     (states_rest self.stack.items is next c.len.result c.args.closed longer))
-
-pub take_job-requires-2-clause-slots : goal.take_job-requires-2-clause-slots
-take_job-requires-2-clause-slots g c = c.dispatch_below.ensures.sound.states
 
 pub take_job-requires-2-clause-state : goal.take_job-requires-2-clause-state
 take_job-requires-2-clause-state g c =
