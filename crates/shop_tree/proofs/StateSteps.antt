@@ -1,5 +1,5 @@
 -- Steps of a walk over states: where it stands before and after, and what waits.
-use Rattle.std.proofs.Common.{◌≡◌, ℕ, ◌<◌, List, ◌++◌, All, length, map, ◌∙◌, refl, sym, ap, subst, arith, Option, Some}
+use Rattle.std.proofs.Common.{◌≡◌, ℕ, ◌<◌, List, ◌++◌, All, length, map, ◌∙◌, sym, ap, subst, arith, Option, Some}
 use Rattle.std.proofs.Common.{None}
 use Rattle.shop_model.specs.Shop.{operation_count}
 use Rattle.shop_bound.specs.Bound.{lb}
