@@ -8,8 +8,9 @@ use shop_workers::{OpenGate, SeatGate};
 use std::alloc::{AllocError as NoMemory, Global};
 use std::thread::Threads;
 
-/// A crew whose workers claim pieces on a board. Each has a thread of its own where one can start, and a lone worker is
-/// the calling thread. A search waits for its workers, and joins all of them before it returns.
+/// A crew whose workers claim pieces on a board, and call its gate before they search a piece that they won. Each has a
+/// thread of its own where one can start, and a lone worker is the calling thread. A search waits for its workers, and
+/// joins all of them before it returns.
 #[derive(Drop)]
 pub struct BoardCrew<G> {
     workers: Workers,

@@ -1,4 +1,4 @@
-// Searches the pieces that no worker of a crew brought.
+// Searches the pieces for which no worker of a crew brought an entry.
 ghost use Rattle.std.specs.Prelude.{◌≡◌, length, IfOk, vec_len};
 ghost use Rattle.shop_runs.specs.{Entries.told, Crews.OneForEach};
 ghost use Rattle.shop_workers.specs.inner.Gathered.{Placed};

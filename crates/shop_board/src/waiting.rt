@@ -1,4 +1,4 @@
-// Calls on threads that are made by a thread which computes nothing.
+// Calls a function at each of several jobs, on a thread for each, while the calling thread only waits.
 ghost use Rattle.std.specs.{Prelude.{◌≡◌, ◌∷◌, [], vec_len, IfOk}, Fork.{AcceptsJobs, GivesJobs}, Fork.Halves.GivesFor};
 ghost use denote.Param.Send.{IsSync, IsSend};
 
@@ -6,7 +6,7 @@ use std::alloc::{AllocError as NoMemory, Global};
 use std::thread;
 use std::thread::Threads;
 
-/// Calls `f` at `job`.
+/// Calls `f` at `job`. Its clause says of one job what that of `start_each` says of all.
 fn call<J: Drop, X: Drop, F: Fn(J) -> X>(f: &F, job: J) -> X
     requires { AcceptsJobs F.Fn f.now (job ∷ []) }
     ensures { GivesFor F.Fn f.now (job ∷ []) (result ∷ []) }

@@ -6,7 +6,7 @@ ghost use Rattle.shop_lanes.specs.Eights.{IsSplat};
 
 use std::alloc::{AllocError as NoMemory, Global};
 
-/// How the numbers of a block move among its lanes. Up is to the higher lane; 0 comes into lanes that are left.
+/// How the numbers of a block move among its lanes. Up is to the higher lane; 0 comes into lanes that become empty.
 #[derive(Clone, Copy)]
 pub enum Move {
     UpOne,

@@ -1,4 +1,4 @@
-// Blocks of eight numbers of 16, 32 or 64 bits.
+// Blocks of eight numbers of 16, 32 or 64 bits. `Block` says what each function does.
 ghost use Rattle.std.specs.Prelude.{◌-◌, ◌^◌};
 ghost use Rattle.std.proofs.Common.{lit<};
 

@@ -107,7 +107,7 @@ pub(crate) fn bits_up_to<B: Block, const EACH: usize>(heads: &[B::Number], upto:
     }
 }
 
-/// The least of the `count` numbers in `numbers`.
+/// The least of the `count` numbers in `numbers`; `GREATEST` if there are none.
 #[inline(always)]
 fn least_number<B: Block>(count: usize, numbers: &[B::Number]) -> u64
     requires count { length numbers.now ≡ count }

@@ -187,8 +187,8 @@ fn following_of(alloc: Global, slots: &[Slot], places: &[Vec<u32>]) -> Result<Ve
     Ok(following)
 }
 
-/// Lists the machine of each position. `blocks` holds the first block of each machine, then the number of all blocks.
-/// Fails with `NoMemory` if memory runs out.
+/// Lists the machine of each position, also of padding. `blocks` holds the first block of each machine, then the number
+/// of all blocks. Fails with `NoMemory` if memory runs out.
 fn machines_of(alloc: Global, blocks: &[u32]) -> Result<Vec<u32>, NoMemory>
     requires from_0 { slice_index blocks.now 0 ≡ 0 }
     requires some { 0 < length blocks.now }

@@ -98,7 +98,8 @@ impl<'r> Left<'r> {
     }
 }
 
-/// Makes the last `count` children of the word `path[..depth]`. Fails with `NoMemory` if memory runs out.
+/// Makes the last `count` children of the word `path[..depth]`, which are closed: of bounds of at least the makespan,
+/// which contracts alone read. Fails with `NoMemory` if memory runs out.
 fn last_children(
     alloc: Global,
     instance: &Instance,

@@ -8,8 +8,8 @@ use crate::rounds::Round;
 use shop_nodes::Sheet;
 use std::alloc::{AllocError as NoMemory, Global};
 
-/// Searches pieces of one round, one after the other. Who runs a crew's workers makes their searchers. Proofs about
-/// crews hold for every implementation.
+/// Searches pieces of one round, one after the other. Workers know this trait alone: what starts them makes a searcher
+/// for each. Proofs about crews hold for every implementation.
 pub trait PieceSearch<'r>: Drop {
     /// The round whose pieces the searcher searches.
     ghost searched: { Self → Round };

@@ -64,9 +64,10 @@ fn machine_keys(alloc: Global, instance: &Instance, pieces: &[Piece]) -> Result<
 }
 
 /// Answers the layout of a round with these `pieces`, before which `rounds` rounds were done: the one in `kept`, or a
-/// new one if there is none or one round was done. A child is closed as soon as one machine's bound is too high, so the
-/// machines with the greatest bounds after words of `pieces` come first. The empty word, the only one of a run's first
-/// round, tells this less well than the words of the second. Fails with `NoMemory` if memory runs out.
+/// new one if there is none. Up to `MOST_OPERATIONS` operations machines are ordered, and once more after the first
+/// round: a child is closed as soon as one machine's bound is too high, so the machines with the greatest bounds after
+/// words of `pieces` come first. The empty word, the only one of a run's first round, tells this less well than the
+/// words of the second. Fails with `NoMemory` if memory runs out.
 pub(crate) fn layout_for<'r>(
     alloc: Global,
     instance: &'r Instance,

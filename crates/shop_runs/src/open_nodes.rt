@@ -85,9 +85,9 @@ impl OpenNodes {
         }
     }
 
-    /// Puts a copy of `node` into the store if its bound is below `limit`, or counts it in `distant` if its bound isn't
-    /// below the horizon there. Jobs that are shared stay shared; others are copied. Fails with `NoMemory` if memory
-    /// runs out.
+    /// Does nothing if the bound of `node` reaches `limit`. Else puts a copy of `node` into the store or, if its bound
+    /// reaches the horizon of `distant`, only counts it there. Jobs that are shared stay shared; others are copied.
+    /// Fails with `NoMemory` if memory runs out.
     fn put_copy(
         &mut self,
         alloc: Global,
@@ -195,9 +195,9 @@ impl OpenNodes {
         }
     }
 
-    /// Puts each node that searches left open and whose bound is below `makespan` into the store, or counts it in
-    /// `distant` if its bound isn't below the horizon there, from the end of `left` to its start. Fails with `NoMemory`
-    /// if memory runs out.
+    /// Puts each node that searches left open and whose bound is below `makespan` into the store or, if its bound
+    /// reaches the horizon of `distant`, only counts it there, from the end of `left` to its start. Fails with
+    /// `NoMemory` if memory runs out.
     // out of line, so that what it holds takes no stack while pieces are searched
     #[inline(never)]
     pub(crate) fn put_left(

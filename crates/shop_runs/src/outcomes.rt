@@ -100,7 +100,7 @@ pub fn gather<'r>(
         nodes,
     } = outcome_of(alloc, round, entries)?;
     round.instance.keeps_limits();
-    // In the order of the standing, whatever the plan's: the rest first, so that what searches left comes before it.
+    // In the order of the standing, whatever the plan's order: the rest first, so that what searches left comes before.
     // All that is put has a bound below the makespan, which is the horizon, so no node is only counted.
     let mut store = OpenNodes::new(alloc, Order::Kept, makespan, round.instance.operations());
     let mut distant = DistantNodes::none(alloc, makespan);

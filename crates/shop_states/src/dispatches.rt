@@ -35,9 +35,9 @@ fn mark_below<L: StateLanes>(lanes: &L, grid: &Grid<L>, machine: usize, end: u64
 
 impl Dispatch {
     /// Looks up the next operation of `job`, and marks what its end delays. `state` is the state in which the operation
-    /// is dispatched or, for a dispatch in a copy, the one to be copied. The look-up then has to come before the copy:
-    /// it reads eight heads at once, and a processor delays such a read if the heads were only just written. The
-    /// operation itself is marked at first, unless its time is 0, since it can begin before its own end.
+    /// is dispatched or, for a dispatch in a copy, the one that is copied: a look-up reads eight heads at once, and a
+    /// processor delays such a read if the heads were only just written, as in the copy. The operation itself is marked
+    /// at first, unless its time is 0, since it can begin before its own end.
     #[inline(always)]
     pub(crate) fn of<L: StateLanes>(state: &State<L>, grid: &Grid<L>, job: usize) -> Dispatch
         requires { CanGoOn L.GREATEST grid.now (rows_in L.StateLanes grid.now state.now.lanes)

@@ -107,8 +107,8 @@ pub trait Dispatching<S: Drop>: Drop {
         ensures kept { (w : List ℕ) (j : ℕ) → KnowsChild self.now scratch.old w j
             → KnowsChild self.now scratch.new w j };
 
-    /// Makes `to` a copy of `from`, and does there what `dispatch_below` does. What it reads of `from` need not wait
-    /// for the copy.
+    /// Makes `to` a copy of `from`, and does there what `dispatch_below` does. May look up in `from` what it need not
+    /// read in the copy, which was only just written.
     fn dispatch_below_in_copy(
         &self,
         scratch: &mut Self::Scratch,

@@ -38,9 +38,9 @@ fn gather_marked<const NUMBERS: usize, L: StateLanes>(
     }
 }
 
-/// Answers true only if no operation but the one at `position` waits in blocks `first` up to `behind` (excluded) with a
-/// head below `limit`; may answer false all the same. Stays out of line: most machines have at most `MOST_MARKED`
-/// blocks, and none of theirs is left to look at.
+/// Tells whether no operation but the one at `position` waits in blocks `first` up to `behind` (excluded) with a head
+/// below `limit`. Stays out of line: most machines have at most `MOST_MARKED` blocks, and none of theirs is left to
+/// look at.
 #[inline(never)]
 fn is_alone_in<L: StateLanes>(
     lanes: &L,
@@ -65,8 +65,8 @@ fn is_alone_in<L: StateLanes>(
     true
 }
 
-/// Answers true only if no operation but the one at `position` waits in `blocks` with a head below `blocks.end`; may
-/// answer false all the same.
+/// Tells whether no operation but the one at `position` waits in `blocks` with a head below `blocks.end`. Proofs rely
+/// on true alone: a sole candidate that isn't seen costs time, and changes no answer.
 #[inline(always)]
 pub(crate) fn is_alone<L: StateLanes>(blocks: &ConflictBlocks, lanes: &L, position: usize) -> bool
     requires { AreConflictBlocks L.GREATEST (L.heads lanes.now) blocks.now }

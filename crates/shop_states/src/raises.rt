@@ -20,10 +20,10 @@ pub(crate) struct OpenRoutes<'a> {
 }
 
 /// Raises the head at `position` to `end`, then every later head on its route that is now too early. Notes in `raises`
-/// how far each later head rose, and puts its machine into `raised`. Takes a step for each head that rises; the legs of
-/// a route lie side by side, so that no step waits until the one before it has read where the next operation stands. At
-/// the end of a route the head is the greatest number, and the raise stops. `FEW` says that there are at most 64
-/// machines, see `see`.
+/// how far each later head rose, and puts its machine into `raised`; what heads up to `end` bring on the machine of the
+/// dispatch, its candidate's `own` tells. Takes a step for each head that rises; the legs of a route lie side by side,
+/// so that no step waits until the one before it has read where the next operation stands. At the end of a route the
+/// head is the greatest number, and the raise stops. `FEW` says that there are at most 64 machines, see `see`.
 #[inline(always)]
 pub(crate) fn raise_route<L: StateLanes, const FEW: bool>(
     lanes: &mut L,
@@ -115,7 +115,7 @@ pub(crate) fn raise_marked<L: StateLanes, const FEW: bool>(
 }
 
 /// Does what `MachineRaises::raise` does, for machines of any number of blocks: raises what is marked in the first
-/// eight blocks, then marks and raises eight blocks after another. Stays out of line, since each kind of dispatch would
+/// eight blocks, then marks and raises the next eight, and so on. Stays out of line, since each kind of dispatch would
 /// else have this code anew.
 #[inline(never)]
 pub(crate) fn raise_any<L: StateLanes, const FEW: bool>(

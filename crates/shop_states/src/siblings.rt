@@ -106,7 +106,7 @@ fn raise_behind<L: StateLanes, const FEW: bool>(
     raise_route::<L, FEW>(lanes, raises, raised, routes, first, ready);
 }
 
-/// A machine whose operations some candidates delay, all on that machine. It has blocks `from` up to `behind`
+/// The machine on which all candidates wait, and delay the other operations. It has blocks `from` up to `behind`
 /// (excluded); the candidates' operation that ends last stands at `last`, and `latest` tells when.
 #[derive(Clone, Copy)]
 pub(crate) struct LateMachine {
@@ -118,10 +118,10 @@ pub(crate) struct LateMachine {
 
 /// Raises the heads behind each operation that waits on a late machine, as if the operation began at the latest time
 /// until which candidates can delay it: at `late.latest.end` or, if it stands at `late.last`, at `late.latest.second`.
-/// Notes how far heads rose. No head of a child is then higher, except on that machine, where heads stay. Marks up to
-/// eight blocks at once, and visits only what waits there and can begin before the latest end: behind all else, heads
-/// are late enough. So are they where a marked head rises before its turn. `FEW` says that there are at most 64
-/// machines, see `see`.
+/// Notes how far heads rose. No head of a child is then higher, except on that machine, where a head rises only behind
+/// another operation of its route. Marks up to eight blocks at once, and visits only what waits there and can begin
+/// before the latest end: behind all else, heads are late enough. Behind a marked head that rose before its turn they
+/// are, too. `FEW` says that there are at most 64 machines, see `see`.
 pub(crate) fn raise_late<L: StateLanes, const FEW: bool>(
     lanes: &mut L,
     raises: &mut [LaneRaise<L::Number>],
@@ -160,9 +160,10 @@ fn greatest_own(candidates: &[Candidate], bound: u64) -> u64 {
         .fold(bound, u64::max)
 }
 
-/// Finds a ceiling for each machine: a number that no child of the word exceeds there, whichever of the candidates is
-/// dispatched. Writes one more than each ceiling into `ceilings`. Answers the greatest ceiling, or a number above the
-/// `own` of each candidate. `lanes` holds the heads of the word and is used up; `next` has its next operations.
+/// Finds a ceiling for each machine: a number that no span of a child exceeds there, whichever of the candidates is
+/// dispatched; on their own machine no span from after the dispatched operation's end, since `own` tells the others.
+/// Writes one more than each ceiling into `ceilings`. Answers the greatest ceiling, or a number above the `own` of each
+/// candidate. `lanes` holds the heads of the word and is used up; `next` has its next operations.
 #[inline(never)]
 pub(crate) fn bound_children<L: StateLanes>(
     lanes: &mut L,

@@ -4,6 +4,7 @@ use crate::machine_raises::MachineRaises;
 use shop_lanes::StateLanes;
 
 /// The state of a word: the head of each waiting operation, by position, and each job's next operation with its end.
+/// Heads and ends in lanes are one higher than the times that they stand for; a head of 0 says that nothing waits.
 #[derive(Drop)]
 pub struct State<L: StateLanes> {
     pub(crate) lanes: L,
@@ -23,8 +24,8 @@ pub struct Scratch<L: StateLanes> {
     /// how far noted heads rose on each machine, in a dispatch or where children are bounded together; empty between
     pub(crate) raises: MachineRaises<L>,
     /// owns[i]: how late the operation at place `i` of a machine, and the others with their tails, end if it goes
-    /// first; there is room for the machine with the most operations
+    /// first, one higher, like heads in lanes; there is room for the machine with the most operations
     pub(crate) owns: Vec<L::Number>,
-    /// ceilings[machine]: one more than a bound on that machine that no child exceeds, for the word bounded last
+    /// ceilings[machine]: one more than the ceiling of the machine, see `bound_children`, for the word bounded last
     pub(crate) ceilings: Vec<u64>,
 }

@@ -55,7 +55,7 @@ impl<'a, D: Dispatching<S>, S: Drop> Walker<'a, D, S> {
     }
 
     /// Follows the one listed candidate to its child, puts an entry for the `closed` other children, if any, on the
-    /// stack, and answers the child's bound. If no other child is closed, that is `bound`, the bound of the current
+    /// stack, and answers the child's bound. If there is no other child, that is `bound`, the bound of the current
     /// word. If the child is closed too, calls `close` for all children instead and answers `None`. Fails with
     /// `NoMemory` if memory runs out.
     #[inline(always)]
@@ -153,7 +153,8 @@ impl<'a, D: Dispatching<S>, S: Drop> Walker<'a, D, S> {
     }
 
     /// Expands the current word, whose bound `bound` is below the best makespan. Follows the listed candidate while
-    /// there is exactly one, then branches. Keeps a full word as found. Fails with `NoMemory` if memory runs out.
+    /// there is exactly one and the budget lasts, then branches. Keeps a full word as found. Fails with `NoMemory` if
+    /// memory runs out.
     pub(crate) fn expand(&mut self, alloc: Global, bound: u64) -> Result<(), NoMemory>
         requires at { StandsAt self.old bound }
         ensures expanded { OnOk result (HasExpanded (stage_of self.old) (stage_of self.new)) }

@@ -250,7 +250,8 @@ impl<'l, 'a> Searcher<'l, 'a> {
     }
 }
 
-/// Searches `piece` like `Searcher::search`, over a layout of its own. Fails with `NoMemory` if memory runs out.
+/// Searches `piece` like `Searcher::search`, over a layout of its own. For library callers: the program doesn't use
+/// `search`. Fails with `NoMemory` if memory runs out.
 pub fn search<'r>(
     alloc: Global,
     instance: &'r Instance,

@@ -12,7 +12,7 @@ use shop_states::{Candidate, Dispatching};
 use std::alloc::{AllocError as NoMemory, Global};
 use std::mem;
 
-/// The current word of a walk and its candidates, where its children are put on the stack.
+/// What is read while the children of a walk's current word are put on the stack.
 #[derive(Clone, Copy)]
 pub(crate) struct Branching<'w> {
     pub(crate) word: &'w [u16],

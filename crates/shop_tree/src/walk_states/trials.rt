@@ -205,10 +205,10 @@ impl<D: Dispatching<S>, S: Drop> WalkStates<D, S> {
 
     /// Does what `try_candidates` does, after `bound_children` answered `top`. A child is settled if the bound of
     /// `branching` or the candidate's `own` reaches `top`: the greater of the two is then its bound, as a trial would
-    /// find. A settled child goes on the stack without a trial and without a state. Only the child that ends on top,
-    /// which is walked next, gets a state, by a dispatch in the current one; if another settled child's turn comes, its
-    /// state is filled from its word. The children that aren't settled are tried in copies, since the current state is
-    /// needed to the end. Fails with `NoMemory` if memory runs out.
+    /// find. A settled child with a bound below the limit goes on the stack without a trial and without a state. If one
+    /// ends on top, where it is walked next, it gets a state, by a dispatch in the current one; if the turn of another
+    /// comes, its state is filled from its word. Children that aren't settled are tried in copies, since the current
+    /// state is needed to the end. Fails with `NoMemory` if memory runs out.
     #[inline(never)]
     pub(crate) fn settle_candidates(
         &mut self,
