@@ -6,15 +6,13 @@ ghost use Rattle.shop_bound.specs.Conflicts.{conflict};
 ghost use Rattle.shop_states.specs.States.{CanDispatch, HasListed, ListsBelow};
 ghost use Rattle.shop_states.specs.States.{TellsBoundBelow};
 
+use crate::in_lanes::{Tried, assert_in_lanes};
 use crate::long_machines::{LATEST, SHAPES, made};
 use crate::numbers::Numbers;
-use crate::shuffled_layouts::shuffled;
 use shop_bound::lower_bound;
-use shop_lanes::StateLanes;
-use shop_layout::{LaneLayout, LayoutFor};
 use shop_model::{Instance, Job, Op, Word};
 use shop_states::{Candidate, Dispatching};
-use std::alloc::Global;
+use std::alloc::{AllocGlobal, Global};
 use std::mem;
 use std::process::Abort;
 
@@ -143,7 +141,7 @@ fn dispatch_twice<D: Dispatching<S>, S: Drop>(
 
 /// How children are dispatched in a walk: each alone, or after `bound_children`, where that bounds them together.
 #[derive(Clone, Copy)]
-enum Manner {
+pub enum Manner {
     Alone,
     Together,
 }
@@ -193,7 +191,7 @@ fn assert_same(rt: &impl Abort, candidates: &[Candidate], others: &[Candidate]) 
 
 /// Walks a random word of `instance`. Asserts that each dispatch in a copy tells the same bound by one call and by two,
 /// and leaves states with the same candidates, as does one without a bound.
-fn assert_walk<D: Dispatching<S>, S: Drop>(
+pub fn assert_walk<D: Dispatching<S>, S: Drop>(
     rt: &impl Abort,
     alloc: Global,
     numbers: &mut Numbers,
@@ -247,65 +245,24 @@ fn assert_walk<D: Dispatching<S>, S: Drop>(
     }
 }
 
-/// Does what `assert_walk` does. It is called for each width of lanes, so that what a walk needs of its states is
-/// proved once, for any lanes.
-fn assert_walk_over<L: StateLanes>(
-    rt: &impl Abort,
-    alloc: Global,
-    numbers: &mut Numbers,
-    layout: LayoutFor<'_, '_, L>,
-    instance: &Instance,
-    manner: Manner,
-)
-    requires { layout.asked ≡ instance.now }
-{
-    let laid_out = layout.laid_out();
-    assert_walk(rt, alloc, numbers, &laid_out, instance, manner)
-}
-
-/// Walks a random word in the lanes of the instance's layout, where its machines stand in a random order.
-fn assert_walk_in_lanes(
-    rt: &impl Abort,
-    alloc: Global,
-    numbers: &mut Numbers,
-    instance: &Instance,
-    manner: Manner,
-) {
-    let layout = shuffled(rt, alloc, numbers, instance);
-    match layout.lanes() {
-        LaneLayout::In16By2(layout) => assert_walk_over(
-            rt, alloc, numbers, layout, instance, manner,
-        ),
-        LaneLayout::In16By3(layout) => assert_walk_over(
-            rt, alloc, numbers, layout, instance, manner,
-        ),
-        LaneLayout::In16By4(layout) => assert_walk_over(
-            rt, alloc, numbers, layout, instance, manner,
-        ),
-        LaneLayout::In16(layout) => assert_walk_over(rt, alloc, numbers, layout, instance, manner),
-        LaneLayout::In32(layout) => assert_walk_over(rt, alloc, numbers, layout, instance, manner),
-        LaneLayout::In64(layout) => assert_walk_over(rt, alloc, numbers, layout, instance, manner),
-    }
-}
-
 /// Walks a random word of each instance with long machines, to which routes come back. Machines of more than 64
 /// operations are marked in several parts, and operations of time 0 are among them.
-fn assert_walks_of_long_machines(rt: &impl Abort, alloc: Global, manner: Manner) {
+fn assert_walks_of_long_machines(rt: &(impl Abort + AllocGlobal), manner: Manner) {
     let mut numbers = Numbers { state: 7 };
     for shape in &SHAPES {
-        let instance = made(rt, alloc, &mut numbers, shape, 5);
-        assert_walk_in_lanes(rt, alloc, &mut numbers, &instance, manner);
+        let instance = made(rt, rt.alloc(), &mut numbers, shape, 5);
+        assert_in_lanes(rt, &mut numbers, &instance, Tried::Walk(manner));
     }
 }
 
 #[test]
 fn dispatches_in_copies(rt: HostRuntime) {
-    assert_walks_of_long_machines(&rt, rt.alloc(), Manner::Alone);
+    assert_walks_of_long_machines(&rt, Manner::Alone);
 }
 
 #[test]
 fn dispatches_children_in_copies_of_long_machines(rt: HostRuntime) {
-    assert_walks_of_long_machines(&rt, rt.alloc(), Manner::Together);
+    assert_walks_of_long_machines(&rt, Manner::Together);
 }
 
 /// How many jobs and machines, and the greatest time: of one to nine blocks a machine, in lanes of each width.
@@ -350,22 +307,22 @@ fn made_square(
 }
 
 /// Walks a random word of each square instance.
-fn assert_walks_of_squares(rt: &impl Abort, alloc: Global, manner: Manner) {
+fn assert_walks_of_squares(rt: &(impl Abort + AllocGlobal), manner: Manner) {
     let mut numbers = Numbers { state: 7 };
     for shape in &SQUARES {
         for latest in &LATEST {
-            let instance = made_square(rt, alloc, &mut numbers, shape, *latest);
-            assert_walk_in_lanes(rt, alloc, &mut numbers, &instance, manner);
+            let instance = made_square(rt, rt.alloc(), &mut numbers, shape, *latest);
+            assert_in_lanes(rt, &mut numbers, &instance, Tried::Walk(manner));
         }
     }
 }
 
 #[test]
 fn dispatches_in_copies_of_even_machines(rt: HostRuntime) {
-    assert_walks_of_squares(&rt, rt.alloc(), Manner::Alone);
+    assert_walks_of_squares(&rt, Manner::Alone);
 }
 
 #[test]
 fn dispatches_children_in_copies(rt: HostRuntime) {
-    assert_walks_of_squares(&rt, rt.alloc(), Manner::Together);
+    assert_walks_of_squares(&rt, Manner::Together);
 }

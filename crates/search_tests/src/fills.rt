@@ -3,11 +3,9 @@
 // back to machines.
 ghost use Rattle.std.specs.Prelude.{◌≡◌};
 
+use crate::in_lanes::{Tried, assert_in_lanes};
 use crate::long_machines::{LATEST, SHAPES, made};
 use crate::numbers::Numbers;
-use crate::shuffled_layouts::shuffled;
-use shop_lanes::StateLanes;
-use shop_layout::{LaneLayout, LayoutFor};
 use shop_model::{Instance, Word, fits, is_full};
 use shop_nodes::conflict;
 use shop_states::Dispatching;
@@ -89,7 +87,7 @@ fn assert_fills_along<D: Dispatching<S>, S: Drop>(
 }
 
 /// Fills a state from each beginning of two random words.
-fn assert_fills<D: Dispatching<S>, S: Drop>(
+pub fn assert_fills<D: Dispatching<S>, S: Drop>(
     rt: &(impl Abort + AllocGlobal),
     numbers: &mut Numbers,
     dispatcher: &D,
@@ -104,44 +102,13 @@ fn assert_fills<D: Dispatching<S>, S: Drop>(
     assert_fills_along(rt, numbers, dispatcher, instance, &mut scratch, &mut state);
 }
 
-/// Does what `assert_fills` does. It is called for each width of lanes, so that what a fill needs of its state is
-/// proved once, for any lanes.
-fn assert_fills_over<L: StateLanes>(
-    rt: &(impl Abort + AllocGlobal),
-    numbers: &mut Numbers,
-    layout: LayoutFor<'_, '_, L>,
-    instance: &Instance,
-)
-    requires { layout.asked ≡ instance.now }
-{
-    let laid_out = layout.laid_out();
-    assert_fills(rt, numbers, &laid_out, instance)
-}
-
-/// Fills states in the lanes of the instance's layout, where its machines stand in a random order.
-fn assert_fills_in_lanes(
-    rt: &(impl Abort + AllocGlobal),
-    numbers: &mut Numbers,
-    instance: &Instance,
-) {
-    let layout = shuffled(rt, rt.alloc(), numbers, instance);
-    match layout.lanes() {
-        LaneLayout::In16By2(layout) => assert_fills_over(rt, numbers, layout, instance),
-        LaneLayout::In16By3(layout) => assert_fills_over(rt, numbers, layout, instance),
-        LaneLayout::In16By4(layout) => assert_fills_over(rt, numbers, layout, instance),
-        LaneLayout::In16(layout) => assert_fills_over(rt, numbers, layout, instance),
-        LaneLayout::In32(layout) => assert_fills_over(rt, numbers, layout, instance),
-        LaneLayout::In64(layout) => assert_fills_over(rt, numbers, layout, instance),
-    }
-}
-
 #[test]
 fn candidates_of_filled_states(rt: HostRuntime) {
     let mut numbers = Numbers { state: 3 };
     for shape in &SHAPES {
         for latest in &LATEST {
             let instance = made(&rt, rt.alloc(), &mut numbers, shape, *latest);
-            assert_fills_in_lanes(&rt, &mut numbers, &instance);
+            assert_in_lanes(&rt, &mut numbers, &instance, Tried::Fills);
         }
     }
 }

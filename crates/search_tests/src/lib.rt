@@ -13,6 +13,8 @@ mod desks;
 #[cfg(test)]
 mod fills;
 #[cfg(test)]
+mod in_lanes;
+#[cfg(test)]
 mod instances;
 #[cfg(test)]
 mod long_machines;

@@ -264,16 +264,11 @@ impl OpenNodes {
             return Ok(());
         }
         match self {
-            OpenNodes::AsKept(nodes) => {
-                nodes.keep_below(makespan);
-                Ok(())
-            }
-            OpenNodes::InRow(nodes) => {
-                nodes.keep_below(makespan);
-                Ok(())
-            }
-            OpenNodes::InMap(nodes) => nodes.keep_below(makespan),
+            OpenNodes::AsKept(nodes) => nodes.keep_below(makespan),
+            OpenNodes::InRow(nodes) => nodes.keep_below(makespan),
+            OpenNodes::InMap(nodes) => nodes.keep_below(makespan)?,
         }
+        Ok(())
     }
 
     /// In a row, may keep only the nodes of least bounds, up to the first bound with which they are `most` or more, and

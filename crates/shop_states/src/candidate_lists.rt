@@ -9,7 +9,7 @@ ghost use Rattle.shop_states.specs.inner.{LaidLanes.{KeepsWord, rows_in}, Raises
 ghost use Rattle.shop_states.specs.inner.RisingLists.{IsGatheredWith, IsIn};
 ghost use Rattle.shop_layout.specs.Positions.{HoldsMachines};
 
-use crate::dispatches::MOST_MARKED;
+use crate::dispatches::marks_end;
 use crate::dispatching::Candidate;
 use crate::job_sets::BITS;
 use crate::lane_choices::{ConflictBlocks, conflict_set, is_alone};
@@ -146,7 +146,7 @@ pub(crate) fn list_candidates<L: StateLanes>(
         return 0;
     };
     let (from, behind) = grid.blocks_of(grid.fixed_blocks_each(), first.machine);
-    let to = from + (behind - from).min(MOST_MARKED);
+    let to = marks_end(from, behind);
     let below = state.lanes.below(from, to, first.end);
     let blocks = ConflictBlocks {
         chosen: first.chosen,

@@ -3,7 +3,7 @@ ghost use Rattle.std.specs.Prelude.{◌≤◌, ◌<◌, [], length, slice_index}
 ghost use Rattle.shop_states.specs.inner.{LaidLanes.{RaisesIn, rows_in}, RaiseCalls.CanDelay};
 ghost use Rattle.shop_states.specs.inner.{Raises.{AreWaiting, IsOnMachine, IsPosition, IsRaisable}, RisingLists.IsIn};
 
-use crate::dispatches::{Dispatch, MOST_MARKED};
+use crate::dispatches::{Dispatch, marks_end};
 use crate::raises::{OpenRoutes, set_end_at};
 use shop_lanes::{Marks, StateLanes};
 use shop_layout::{Grid, Routes};
@@ -51,10 +51,8 @@ fn delay_marked<L: StateLanes>(lanes: &mut L, ahead: &OpenRoutes, marks: Marks, 
     }
 }
 
-/// Raises each head below the end of a dispatch on its machine to that end, then every later head on its route that is
-/// now too early, and updates the ends of next operations. Does what `MachineRaises::raise` does, for machines of any
-/// number of blocks in one form, but notes nothing: each head that rises takes fewer steps, and no machine can be
-/// bounded afterwards.
+/// Does what `MachineRaises::raise` does, for machines of any number of blocks in one form, but notes nothing: each head
+/// that rises takes fewer steps, and no machine can be bounded afterwards.
 #[inline(always)]
 pub(crate) fn delay<L: StateLanes>(lanes: &mut L, grid: &Grid<L>, next: &[u32], dispatch: Dispatch)
     requires { CanDelay L.GREATEST grid.now next.now (rows_in L.StateLanes grid.now lanes.old) dispatch }
@@ -69,10 +67,10 @@ pub(crate) fn delay<L: StateLanes>(lanes: &mut L, grid: &Grid<L>, next: &[u32], 
     let mut marks = dispatch.delayed;
     loop {
         delay_marked(lanes, &ahead, marks, end);
-        from += (behind - from).min(MOST_MARKED);
+        from = marks_end(from, behind);
         if from == behind {
             return;
         }
-        marks = lanes.below(from, from + (behind - from).min(MOST_MARKED), end);
+        marks = lanes.below(from, marks_end(from, behind), end);
     }
 }

@@ -16,10 +16,10 @@ use shop_layout::LaidOut;
 use std::alloc::{AllocError as NoMemory, Global};
 
 /// A number that is above the bound of every word of an instance within the limits.
-const BOUNDS: u64 = 1 << 50;
+const ABOVE_BOUNDS: u64 = 1 << 50;
 
 /// The least number of candidates whose children are bounded together. A sole child is only tried.
-const MANY: usize = 2;
+const LEAST_TOGETHER: usize = 2;
 
 /// Answers where the bound of a word extended by `candidate` is sought, if `bound` is the bound of the word itself.
 #[inline(always)]
@@ -30,7 +30,7 @@ fn range_of(candidate: Candidate, bound: u64, limit: u64, ceilings: &[u64]) -> B
 {
     BoundRange {
         least: bound.max(candidate.own),
-        limit: limit.min(BOUNDS),
+        limit: limit.min(ABOVE_BOUNDS),
         ceilings,
     }
 }
@@ -160,7 +160,7 @@ impl<'l, 'a, L: StateLanes> Dispatching<State<L>> for LaidOut<'l, 'a, L> {
         candidates: &[Candidate],
         bound: u64,
     ) -> Option<u64> {
-        if candidates.len() < MANY {
+        if candidates.len() < LEAST_TOGETHER {
             return None;
         }
         room.lanes.copy_from(&state.lanes);

@@ -1,5 +1,5 @@
 // A dispatch of an operation: where the operation stands, when it ends, and which heads its end raises.
-ghost use Rattle.std.specs.Prelude.{◌≡◌, ◌≤◌, length};
+ghost use Rattle.std.specs.Prelude.{◌≡◌, ◌≤◌, ◌+◌, length, min};
 ghost use Rattle.shop_states.specs.inner.{Advances.CanGoOn, Dispatches.{AreDelayedOn, IsDispatchOf}, LaidLanes.rows_in};
 ghost use Rattle.shop_states.specs.inner.Raises.{HasBlocks};
 
@@ -21,6 +21,15 @@ pub(crate) struct Dispatch {
     pub delayed: Marks,
 }
 
+/// Answers the block behind those that are marked at once from block `from` on, of blocks up to `behind` (excluded).
+#[inline(always)]
+pub(crate) fn marks_end(from: usize, behind: usize) -> usize
+    requires { from ≤ behind }
+    ensures { result ≡ min (from + 8) behind }
+{
+    from + (behind - from).min(MOST_MARKED)
+}
+
 /// Marks what waits in the first eight blocks of `machine` with a head below `end`.
 #[inline(always)]
 fn mark_below<L: StateLanes>(lanes: &L, grid: &Grid<L>, machine: usize, end: u64) -> Marks
@@ -29,7 +38,7 @@ fn mark_below<L: StateLanes>(lanes: &L, grid: &Grid<L>, machine: usize, end: u64
     ensures { AreDelayedOn grid.now machine end (L.heads lanes.now) result }
 {
     let (from, behind) = grid.blocks_of(grid.fixed_blocks_each(), machine);
-    let to = from + (behind - from).min(MOST_MARKED);
+    let to = marks_end(from, behind);
     lanes.below(from, to, end)
 }
 

@@ -3,7 +3,7 @@ ghost use Rattle.std.specs.Prelude.{ℕ, ◌*◌, ◌≤◌, ◌<◌, IsTrue, le
 ghost use Rattle.shop_states.specs.inner.LaneChoices.{AreConflictBlocks, HaveJobs, IsAlone, IsJobAt, IsJobBelow};
 ghost use Rattle.shop_states.specs.inner.{Raises.IsInBlocks, RisingLists.{HasGathered, IsGatheredWith, IsIn}};
 
-use crate::dispatches::MOST_MARKED;
+use crate::dispatches::marks_end;
 use crate::job_sets::JobSet;
 use shop_lanes::{Marks, StateLanes};
 use shop_layout::Grid;
@@ -39,8 +39,7 @@ fn gather_marked<const NUMBERS: usize, L: StateLanes>(
 }
 
 /// Tells whether no operation but the one at `position` waits in blocks `first` up to `behind` (excluded) with a head
-/// below `limit`. Stays out of line: most machines have at most `MOST_MARKED` blocks, and none of theirs is left to
-/// look at.
+/// below `limit`. Stays out of line: most machines have at most `MOST_MARKED` blocks, which were looked at before.
 #[inline(never)]
 fn is_alone_in<L: StateLanes>(
     lanes: &L,
@@ -56,7 +55,7 @@ fn is_alone_in<L: StateLanes>(
 {
     let mut from = first;
     while from < behind {
-        let to = from + (behind - from).min(MOST_MARKED);
+        let to = marks_end(from, behind);
         if !lanes.below(from, to, limit).has_no_other(position) {
             return false;
         }
@@ -103,7 +102,7 @@ pub(crate) fn conflict_set<const NUMBERS: usize, L: StateLanes>(
     jobs.put(blocks.chosen);
     gather_marked(&mut jobs, blocks.below, grid);
     while from < behind {
-        let to = from + (behind - from).min(MOST_MARKED);
+        let to = marks_end(from, behind);
         let below = lanes.below(from, to, end);
         gather_marked(&mut jobs, below, grid);
         from = to;

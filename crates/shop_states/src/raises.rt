@@ -5,7 +5,7 @@ ghost use Rattle.shop_states.specs.inner.RaiseCalls.{CanDelay, CanNote, CanRaise
 ghost use Rattle.shop_states.specs.inner.Raises.{AreWaiting, IsOnMachine, IsPosition, IsRaisable, SetsEndAt};
 ghost use Rattle.shop_states.specs.inner.{RisingLists.IsIn, Watchers.{Notes, Sees}, MachineRaises.AreListed};
 
-use crate::dispatches::{Dispatch, MOST_MARKED};
+use crate::dispatches::{Dispatch, marks_end};
 use crate::head_raises::{LaneRaise, see};
 use crate::machine_sets::MachineSet;
 use shop_lanes::{Marks, StateLanes};
@@ -141,11 +141,11 @@ pub(crate) fn raise_any<L: StateLanes, const FEW: bool>(
     let mut machines = mem::replace(raised, MachineSet::none());
     loop {
         raise_marked::<L, FEW>(lanes, raises, &mut machines, &ahead, marks, end);
-        from += (behind - from).min(MOST_MARKED);
+        from = marks_end(from, behind);
         if from == behind {
             break;
         }
-        marks = lanes.below(from, from + (behind - from).min(MOST_MARKED), end);
+        marks = lanes.below(from, marks_end(from, behind), end);
     }
     *raised = machines;
 }

@@ -11,7 +11,7 @@ ghost use Rattle.shop_states.specs.inner.RaiseCalls.{CanNote};
 ghost use Rattle.shop_states.specs.inner.Siblings.{AreLatest, AreSiblings, CanBoundChildren, CanEnd, CanRaiseBehind};
 ghost use Rattle.shop_states.specs.inner.Siblings.{CanRaiseLate, HasRaisedBehind, IsEndAt, IsLateOn, end_by, job_at};
 
-use crate::dispatches::MOST_MARKED;
+use crate::dispatches::marks_end;
 use crate::dispatching::Candidate;
 use crate::head_raises::{LaneRaise, see};
 use crate::lane_bounds::LaidLanes;
@@ -137,7 +137,7 @@ pub(crate) fn raise_late<L: StateLanes, const FEW: bool>(
 {
     let mut from = late.from;
     while from < late.behind {
-        let to = from + (late.behind - from).min(MOST_MARKED);
+        let to = marks_end(from, late.behind);
         let mut todo = lanes.below(from, to, late.latest.end);
         while let Some(position) = todo.pop_first() {
             // the candidates' operation that ends last doesn't delay itself

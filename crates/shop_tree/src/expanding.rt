@@ -152,9 +152,8 @@ impl<'a, D: Dispatching<S>, S: Drop> Walker<'a, D, S> {
         Ok(())
     }
 
-    /// Expands the current word, whose bound `bound` is below the best makespan. Follows the listed candidate while
-    /// there is exactly one and the budget lasts, then branches. Keeps a full word as found. Fails with `NoMemory` if
-    /// memory runs out.
+    /// Expands the current word, whose bound `bound` is below the best makespan. Follows a sole listed candidate while
+    /// the budget lasts, then branches. Keeps a full word as found. Fails with `NoMemory` if memory runs out.
     pub(crate) fn expand(&mut self, alloc: Global, bound: u64) -> Result<(), NoMemory>
         requires at { StandsAt self.old bound }
         ensures expanded { OnOk result (HasExpanded (stage_of self.old) (stage_of self.new)) }

@@ -17,22 +17,18 @@ pub blocks_of-from-requires-clause-known : goal.blocks_of-from-requires-clause-k
 blocks_of-from-requires-clause-known g c =
     (c.in-Some.ensures.is c.requires.can.shop c.requires.can.word c.requires.can.kept).blocks.known
 
-pub overflow_sub-behind : goal.overflow_sub-behind
-overflow_sub-behind g c =
+pub marks_end-to-requires : goal.marks_end-to-requires
+marks_end-to-requires g c =
     let a = c.blocks_of-from.ensures.first in let b = c.blocks_of-from.ensures.behind
     in let d = (c.in-Some.ensures.is c.requires.can.shop c.requires.can.word c.requires.can.kept).blocks.ordered
     in omega arith
 
-pub below-below-requires-clause-within : goal.below-below-requires-clause-within
-below-below-requires-clause-within g c =
+pub below-below-requires : goal.below-below-requires
+below-below-requires g c =
     let a = c.blocks_of-from.ensures.first in let b = c.blocks_of-from.ensures.behind
-    in let d = (c.in-Some.ensures.is c.requires.can.shop c.requires.can.word c.requires.can.kept).blocks.ordered
-    in let e = (c.in-Some.ensures.is c.requires.can.shop c.requires.can.word c.requires.can.kept).blocks.within
-    in let f = c.min.ensures in omega arith
-
-pub below-below-requires-clause-fits : goal.below-below-requires-clause-fits
-below-below-requires-clause-fits g c =
-    (c.in-Some.ensures.is c.requires.can.shop c.requires.can.word c.requires.can.kept).fits
+    in let chosen = c.in-Some.ensures.is c.requires.can.shop c.requires.can.word c.requires.can.kept
+    in let d = chosen.blocks.ordered in let e = chosen.blocks.within in let f = c.marks_end-to.ensures
+    in record { ordered = omega arith; within = omega arith; few = omega arith; fits = chosen.fits }
 
 pub offset_bounds-next-first : goal.offset_bounds-next-first
 offset_bounds-next-first g c =
@@ -65,7 +61,7 @@ pub list_conflict_set-requires-clause-can : goal.list_conflict_set-requires-clau
 list_conflict_set-requires-clause-can g c =
     let chosen = c.in-Some.ensures.is c.requires.can.shop c.requires.can.word c.requires.can.kept
     in let a = c.blocks_of-from.ensures.first in let b = c.blocks_of-from.ensures.behind
-    in let d = chosen.blocks.ordered in let f = c.min.ensures
+    in let d = chosen.blocks.ordered in let f = c.marks_end-to.ensures
     in can_list c.requires.can.kept chosen a b (omega arith) (omega arith) c.below-below.ensures
     (let holds = c.requires.owns c.in-Some.first.machine chosen.blocks.known in let long = c.own_spans.ensures.long
     in omega arith) c.first_end.ensures.small
@@ -74,7 +70,7 @@ pub list_conflict_set-requires-2-clause-can : goal.list_conflict_set-requires-2-
 list_conflict_set-requires-2-clause-can g c =
     let chosen = c.in-Some.ensures.is c.requires.can.shop c.requires.can.word c.requires.can.kept
     in let a = c.blocks_of-from.ensures.first in let b = c.blocks_of-from.ensures.behind
-    in let d = chosen.blocks.ordered in let f = c.min.ensures
+    in let d = chosen.blocks.ordered in let f = c.marks_end-to.ensures
     in can_list c.requires.can.kept chosen a b (omega arith) (omega arith) c.below-below.ensures
     (let holds = c.requires.owns c.in-Some.first.machine chosen.blocks.known in let long = c.own_spans.ensures.long
     in omega arith) c.first_end.ensures.small
@@ -83,7 +79,7 @@ pub is_alone-requires : goal.is_alone-requires
 is_alone-requires g c =
     let chosen = c.in-Some.ensures.is c.requires.can.shop c.requires.can.word c.requires.can.kept
     in let a = c.blocks_of-from.ensures.first in let b = c.blocks_of-from.ensures.behind
-    in let d = chosen.blocks.ordered in let f = c.min.ensures
+    in let d = chosen.blocks.ordered in let f = c.marks_end-to.ensures
     in (can_list c.requires.can.kept chosen a b (omega arith) (omega arith) c.below-below.ensures
     {count = 8 * c.blocks_of-from.result.1} (omega arith) c.first_end.ensures.small).blocks_are
 

@@ -18,17 +18,16 @@ loop-from-preserved g c =
     let so = c.loop-from.invariant
     in let turn = blocks_on c.requires so.raised so.marked (rw c.routes-routes.ensures at c.delay_marked.ensures)
     in let behind = get_or c.args.grid.now.blocks (c.args.dispatch.machine + 1) 0
-    in let up = so.raised.within in let least = c.min-from.ensures in let read = c.block-behind.ensures
-    in let moved : min (c.loop-from.from + 8) behind ≡ c.loop-from.from + c.min-from.result = omega arith
-    in let more = c.min.ensures in let over = c.if-from-behind.false
-    in let next : c.loop-from.from + c.min-from.result + c.min.result
-    ≡ min (c.loop-from.from + c.min-from.result + 8) behind = omega arith
+    in let up = so.raised.within in let least = c.marks_end-from.ensures in let read = c.block-behind.ensures
+    in let moved : min (c.loop-from.from + 8) behind ≡ c.marks_end-from.result = omega arith
+    in let more = c.marks_end.ensures in let over = c.if-from-behind.false
+    in let next : c.marks_end.result ≡ min (c.marks_end-from.result + 8) behind = omega arith
     in grind arith
 
 pub returns-then-from-behind : goal.returns-then-from-behind
 returns-then-from-behind g c =
     let so = c.loop-from.invariant
-    in let up = so.raised.within in let least = c.min-from.ensures in let read = c.block-behind.ensures
+    in let up = so.raised.within in let least = c.marks_end-from.ensures in let read = c.block-behind.ensures
     in let over = c.if-from-behind.true
     in blocks_end c.requires (omega arith)
     (blocks_on c.requires so.raised so.marked (rw c.routes-routes.ensures at c.delay_marked.ensures))

@@ -10,7 +10,7 @@ loop-from-init g c = grind (arith, late_begins, watch_none)
 
 pub loop-position-init : goal.loop-position-init
 loop-position-init g c =
-    let so = c.loop-from.invariant in let low = so.ordered in let up = so.within in let more = c.min.ensures
+    let so = c.loop-from.invariant in let low = so.ordered in let up = so.within in let more = c.marks_end-to.ensures
     in let within = c.requires.can.within in let left = c.loop-from-test.true
     in record {
       raises = late_marked so.so.raises low (omega arith) (omega arith) c.requires.can.second c.below-todo.ensures;
@@ -23,7 +23,7 @@ raise_behind-requires-clause-waits g c = late_waits c.loop-position.invariant.ra
 
 pub raise_behind-requires-clause-can : goal.raise_behind-requires-clause-can
 raise_behind-requires-clause-can g c =
-    let up = c.loop-from.invariant.within in let more = c.min.ensures
+    let up = c.loop-from.invariant.within in let more = c.marks_end-to.ensures
     in late_can c.loop-position.invariant.raises c.in-Some.ensures (elim c.if-position-late.branch [
       | then-position-late w ↦ inl (w.if-position-late.true, w.free-is)
       | else-position-late w ↦ inr (w.if-position-late.false, w.free-is)
@@ -52,7 +52,7 @@ loop-position-preserved g c =
 pub loop-from-preserved : goal.loop-from-preserved
 loop-from-preserved g c =
     let so = c.loop-position.invariant in let low = c.loop-from.invariant.ordered
-    in let up = c.loop-from.invariant.within in let more = c.min.ensures
+    in let up = c.loop-from.invariant.within in let more = c.marks_end-to.ensures
     in record {
       ordered = omega arith;
       within = omega arith;

@@ -1,0 +1,69 @@
+// Walks and fills over the layout of an instance, in lanes of each width.
+ghost use Rattle.std.specs.Prelude.{◌≡◌};
+
+use crate::copies::{Manner, assert_walk};
+use crate::fills::assert_fills;
+use crate::numbers::Numbers;
+use crate::shuffled_layouts::shuffled;
+use shop_lanes::StateLanes;
+use shop_layout::{LaneLayout, LayoutFor};
+use shop_model::Instance;
+use shop_states::Dispatching;
+use std::alloc::AllocGlobal;
+use std::process::Abort;
+
+/// What is tried with states: a walk, or fills from the beginnings of words.
+#[derive(Clone, Copy)]
+pub enum Tried {
+    Walk(Manner),
+    Fills,
+}
+
+/// Walks along a random word, or fills states.
+fn assert_tried<D: Dispatching<S>, S: Drop>(
+    rt: &(impl Abort + AllocGlobal),
+    numbers: &mut Numbers,
+    dispatcher: &D,
+    instance: &Instance,
+    tried: Tried,
+)
+    requires { D.shop dispatcher.now ≡ instance.now }
+{
+    match tried {
+        Tried::Walk(manner) => assert_walk(rt, rt.alloc(), numbers, dispatcher, instance, manner),
+        Tried::Fills => assert_fills(rt, numbers, dispatcher, instance),
+    }
+}
+
+/// Does what `assert_tried` does. It is called for each width of lanes, so that what a walk or a fill needs of its
+/// states is proved once, for any lanes.
+fn assert_over<L: StateLanes>(
+    rt: &(impl Abort + AllocGlobal),
+    numbers: &mut Numbers,
+    layout: LayoutFor<'_, '_, L>,
+    instance: &Instance,
+    tried: Tried,
+)
+    requires { layout.asked ≡ instance.now }
+{
+    let laid_out = layout.laid_out();
+    assert_tried(rt, numbers, &laid_out, instance, tried)
+}
+
+/// Does what `assert_tried` does, in the lanes of the instance's layout, where its machines stand in a random order.
+pub fn assert_in_lanes(
+    rt: &(impl Abort + AllocGlobal),
+    numbers: &mut Numbers,
+    instance: &Instance,
+    tried: Tried,
+) {
+    let layout = shuffled(rt, rt.alloc(), numbers, instance);
+    match layout.lanes() {
+        LaneLayout::In16By2(layout) => assert_over(rt, numbers, layout, instance, tried),
+        LaneLayout::In16By3(layout) => assert_over(rt, numbers, layout, instance, tried),
+        LaneLayout::In16By4(layout) => assert_over(rt, numbers, layout, instance, tried),
+        LaneLayout::In16(layout) => assert_over(rt, numbers, layout, instance, tried),
+        LaneLayout::In32(layout) => assert_over(rt, numbers, layout, instance, tried),
+        LaneLayout::In64(layout) => assert_over(rt, numbers, layout, instance, tried),
+    }
+}
