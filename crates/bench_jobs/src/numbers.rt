@@ -14,7 +14,7 @@ impl Numbers {
         Numbers { state: seed }
     }
 
-    /// Answers the next number below `limit`.
+    /// Returns the next number below `limit`.
     pub fn below(&mut self, limit: usize) -> usize
         requires { 0 < limit }
         ensures { result < limit }
@@ -26,7 +26,7 @@ impl Numbers {
         (self.state >> 33) as usize % limit
     }
 
-    /// Answers the numbers below `count` in a random order, by the shuffle of Fisher and Yates. Fails with `AllocError`
+    /// Returns the numbers below `count` in a random order, by the shuffle of Fisher and Yates. Fails with `AllocError`
     /// if memory runs out.
     pub fn shuffled(&mut self, alloc: Global, count: usize) -> Result<Vec<usize>, AllocError> {
         let mut values = Vec::with_capacity(alloc, count)?;

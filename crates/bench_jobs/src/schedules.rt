@@ -93,7 +93,7 @@ impl Draft {
     }
 }
 
-/// Answers step `step` of `job`, or `None` if there is none.
+/// Returns step `step` of `job`, or `None` if there is none.
 fn step_of(instance: &Instance, job: usize, step: usize) -> Option<Step> {
     instance.routes.get(job)?.get(step).copied()
 }

@@ -1,4 +1,4 @@
-// Does the work of a kind, and digests what the engine answers.
+// Does the work of a kind, and digests what the engine returns.
 use crate::digests::Digest;
 use crate::instances::{Size, random_instance, random_text, text_of_long_routes, write_instance};
 use crate::numbers::Numbers;
@@ -11,7 +11,7 @@ use shop_engine::{
 use shop_round::Alone;
 use std::alloc::Global;
 
-/// The work of a kind: the numbers that its inputs are made of, and the digest of all answers so far.
+/// The work of a kind: the numbers that its inputs are made of, and the digest of all returns so far.
 #[derive(Drop)]
 struct Workload {
     numbers: Numbers,
@@ -118,7 +118,7 @@ impl Workload {
     }
 }
 
-/// Does the tasks of `kind` on inputs made from `seed`, and answers the digest of what the engine answers. Fails if
+/// Does the tasks of `kind` on inputs made from `seed`, and returns the digest of what the engine returns. Fails if
 /// there is no such kind, or with the engine's fault.
 pub fn digest_of(alloc: Global, kind: &str, seed: u64) -> Result<u64> {
     let is_known = TASKS.iter().any(|task| task.0 == kind);

@@ -14,7 +14,7 @@ static FAULTS: [&str; 10] = [
     "draw file file",
 ];
 
-/// Tells whether a run ended with status 2, printed nothing and said why.
+/// Returns whether a run ended with status 2, printed nothing and said why.
 fn is_refused(ended: &Ended) -> bool {
     ended.status == 2 && ended.out.bytes().is_empty() && !ended.err.bytes().is_empty()
 }

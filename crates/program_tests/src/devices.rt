@@ -146,7 +146,7 @@ static RUNS: [Run; 3] = [
     ),
 ];
 
-/// What an engine answers and what it has written.
+/// What an engine returns and what it has written.
 type Answer<'t> = (Result<(), Fault>, &'t [u8]);
 
 fn assert_answer(rt: &impl Abort, call: u64, told: Answer, wanted: Answer) {
@@ -162,7 +162,7 @@ fn room(rt: &impl Abort, alloc: Global) -> Memory {
     Memory::with_room(alloc, 1_024).expect(rt, "memory")
 }
 
-/// Answers what an engine has to answer where its source fails at call `call`, and is at its end after `calls` calls: a
+/// Returns what an engine has to answer where its source fails at call `call`, and is at its end after `calls` calls: a
 /// failed read, or what is written.
 fn read_answer(call: u64, calls: u64, written: &'static str) -> Answer<'static> {
     if call <= calls {

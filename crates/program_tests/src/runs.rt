@@ -69,7 +69,7 @@ pub fn run<R: Files + Threads + Sync + AllocGlobal + Abort>(rt: &R, line: &str, 
     Ended { status, out, err }
 }
 
-/// Answers the status of a run that says `said`.
+/// Returns the status of a run that says `said`.
 fn status_of(said: &str) -> u8 {
     if said.starts_with("error ") {
         3
@@ -104,7 +104,7 @@ pub fn says<R: Files + Threads + Sync + AllocGlobal + Abort>(
     assert_said(rt, &ended, line, said);
 }
 
-/// Answers the command line of `check` for the format and the instance of a `solve`.
+/// Returns the command line of `check` for the format and the instance of a `solve`.
 fn check_of<R: AllocGlobal + Abort>(rt: &R, solve: &str) -> String {
     let mut check = "check".to_string(rt.alloc()).expect(rt, "memory");
     let mut is_kept = false;
@@ -130,7 +130,7 @@ fn with_schedule<R: AllocGlobal + Abort>(rt: &R, text: &str, report: &str) -> St
     schedule
 }
 
-/// Answers what `check` has to say of the schedule of a report.
+/// Returns what `check` has to say of the schedule of a report.
 fn verdict_of<R: AllocGlobal + Abort>(rt: &R, report: &str) -> String {
     let makespan = report
         .lines()
@@ -166,7 +166,7 @@ pub fn reports<R: Files + Threads + Sync + AllocGlobal + Abort>(
     is_judged_feasible(rt, line, text, report);
 }
 
-/// Answers the report of a run that succeeded, and asserts that it begins with `wanted`.
+/// Returns the report of a run that succeeded, and asserts that it begins with `wanted`.
 fn report_of<R: AllocGlobal + Abort>(rt: &R, ended: &Ended, wanted: &str) -> String {
     assert!(rt;
         ended.out.bytes().starts_with(wanted.as_bytes()),
@@ -176,7 +176,7 @@ fn report_of<R: AllocGlobal + Abort>(rt: &R, ended: &Ended, wanted: &str) -> Str
     String::from_utf8_lossy(rt.alloc(), ended.out.bytes()).expect(rt, "memory")
 }
 
-/// Asserts how the report of a `solve` begins, and that `check` judges its schedule feasible. Answers the report's
+/// Asserts how the report of a `solve` begins, and that `check` judges its schedule feasible. Returns the report's
 /// length.
 pub fn report_begins<R: Files + Threads + Sync + AllocGlobal + Abort>(
     rt: &R,

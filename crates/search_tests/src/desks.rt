@@ -8,7 +8,7 @@ use shop_model::{Instance, Word, fits};
 use std::alloc::Global;
 use std::process::Abort;
 
-/// Tells whether a job has an operation left after what is dispatched.
+/// Returns whether a job has an operation left after what is dispatched.
 fn has_next(rt: &impl Abort, alloc: Global, instance: &Instance, desk: &Desk, job: usize) -> bool
     ensures { IsTrue result → IsWord instance.now (desk.now.word ++ job ∷ []) }
 {

@@ -23,7 +23,7 @@ fn word_along(rt: &impl Abort, alloc: Global, path: &[u16]) -> Word
     Word::of_jobs(jobs)
 }
 
-/// Tells whether `path` is a word. Fills `state` from it then, and asserts that the state lists its conflict set.
+/// Returns whether `path` is a word. Fills `state` from it then, and asserts that the state lists its conflict set.
 fn assert_fill<D: Dispatching<S>, S: Drop>(
     rt: &(impl Abort + AllocGlobal),
     dispatcher: &D,

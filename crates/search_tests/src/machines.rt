@@ -9,7 +9,7 @@ use shop_model::{Instance, Op, fits};
 use std::alloc::Global;
 use std::process::Abort;
 
-/// Answers the greatest head, the sum of the times and the greatest tail; `None` if the sum overflows.
+/// Returns the greatest head, the sum of the times and the greatest tail; `None` if the sum overflows.
 fn parts_of_extent(triples: &[Triple]) -> Option<(u64, u64, u64)>
     ensures { IfSome result (λ p. (p.0 ≡ greatest_of (λ t. t.head) triples.now)
         × (p.1 ≡ sum_by (λ t. t.time) triples.now)
@@ -26,7 +26,7 @@ fn parts_of_extent(triples: &[Triple]) -> Option<(u64, u64, u64)>
     ))
 }
 
-/// Tells whether head, times and tail are together small enough for a one-machine bound.
+/// Returns whether head, times and tail are together small enough for a one-machine bound.
 fn is_small(triples: &[Triple]) -> bool
     ensures { IsTrue result → IsSmall triples.now }
 {
@@ -36,7 +36,7 @@ fn is_small(triples: &[Triple]) -> bool
     }
 }
 
-/// Asserts the bound by thresholds and by Jackson's schedule, and answers the turns of the schedule.
+/// Asserts the bound by thresholds and by Jackson's schedule, and returns the turns of the schedule.
 fn bounded(rt: &impl Abort, alloc: Global, triples: &[Triple], bound: u64) -> u64 {
     assert!(rt; is_small(triples));
     let mut jackson = Jackson::with_room(alloc, triples.len()).expect(rt, "memory");

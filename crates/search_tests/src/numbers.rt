@@ -8,7 +8,7 @@ pub struct Numbers {
 }
 
 impl Numbers {
-    /// Answers the next number, from 0 up to `most`.
+    /// Returns the next number, from 0 up to `most`.
     pub fn up_to(&mut self, most: u32) -> u64
         ensures { result ≤ most }
     {

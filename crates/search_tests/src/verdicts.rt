@@ -39,7 +39,7 @@ impl Made {
     }
 }
 
-/// Makes a schedule of one to eight jobs, asserts that both verdicts on it agree, and answers the verdict.
+/// Makes a schedule of one to eight jobs, asserts that both verdicts on it agree, and returns the verdict.
 fn verdict(rt: &impl Abort, alloc: Global, numbers: &mut Numbers, care: u32) -> Verdict {
     let mut made = Made {
         jobs: Vec::new(alloc),

@@ -18,7 +18,7 @@ pub struct BoardCrew<G> {
 }
 
 impl<G: Drop> BoardCrew<G> {
-    /// Makes a crew of `workers` workers, which call `gate`, or answers `None` if `workers` isn't 1 to 64.
+    /// Makes a crew of `workers` workers, which call `gate`, or returns `None` if `workers` isn't 1 to 64.
     pub fn new(workers: usize, gate: G) -> Option<BoardCrew<G>>
         ensures within { IsSome result ↔ ((0 < workers) × (workers ≤ MAX_WORKERS)) }
         ensures keeps { IfSome result (λ c. (c.workers.count ≡ workers) × (c.gate ≡ gate)) }
@@ -37,7 +37,7 @@ impl<G> BoardCrew<G> {
         BoardCrew { workers, gate }
     }
 
-    /// Answers a reference to the gate, for reading what it recorded. For library callers: the program doesn't use
+    /// Returns a reference to the gate, for reading what it recorded. For library callers: the program doesn't use
     /// `gate`.
     pub fn gate(&self) -> &G
         ensures { result.now ≡ self.now.gate }
@@ -47,7 +47,7 @@ impl<G> BoardCrew<G> {
 }
 
 impl<G: SeatGate + Sync> BoardCrew<G> {
-    /// Does what `Crew::search` does, for a crew with a gate of any type: answers one entry for each piece of `round`,
+    /// Does what `Crew::search` does, for a crew with a gate of any type: returns one entry for each piece of `round`,
     /// in number order. Uses all workers of the crew, or one for each piece if these are fewer; `Crew::search` may use
     /// fewer, since it counts what a thread costs. Fails with `NoMemory` if memory runs out. Joins all workers before
     /// it returns or fails.
@@ -66,7 +66,7 @@ impl<G: SeatGate + Sync> BoardCrew<G> {
 /// The work that a round has to hold for each further worker: nodes times operations of the instance.
 const WORK_OF_A_WORKER: u64 = 64_000;
 
-/// Answers how many of `workers` workers are worth their threads in `round`. To start a thread and wait for its end
+/// Returns how many of `workers` workers are worth their threads in `round`. To start a thread and wait for its end
 /// takes some 50 microseconds. In a piece of small budget a node takes a few nanoseconds for each operation of the
 /// instance, since the search first fills a state with all operations.
 fn worth_starting(round: &Round, workers: usize) -> usize

@@ -15,7 +15,7 @@ use std::alloc::{AllocError as NoMemory, Global};
 use std::thread::Threads;
 
 /// Claims each piece of the board in order. Searches a piece that the seat wins, or passes it if the makespan of an
-/// earlier one is known to equal the opening bound. Answers the seat, which keeps all that it knew, and the entries of
+/// earlier one is known to equal the opening bound. Returns the seat, which keeps all that it knew, and the entries of
 /// the pieces that it won in this call, in number order, or `NoMemory` if memory runs out. Waits only for the gate.
 pub fn work<'r, G: SeatGate>(
     alloc: Global,
@@ -63,7 +63,7 @@ fn work_all<'r, R: Threads + Sync, G: SeatGate + Sync>(
     map_waiting(rt, alloc, lent, &worker)
 }
 
-/// Searches `round` by `workers` workers (fewer if it has fewer pieces) that claim its pieces on a board. Answers one
+/// Searches `round` by `workers` workers (fewer if it has fewer pieces) that claim its pieces on a board. Returns one
 /// entry for each piece, in number order. Each worker has a thread of its own, for which the calling thread waits; a
 /// lone worker, and one whose thread can't start, works on the calling thread. The calling thread also claims and
 /// searches each piece for which no worker brought an entry. Fails with `NoMemory` if memory runs out.

@@ -8,7 +8,7 @@ use shop_runs::{Entry, Round};
 use shop_workers::complete;
 use std::alloc::{AllocError as NoMemory, Global};
 
-/// Answers one entry for each piece of `round`, in number order, as `complete` does, by a searcher of the calling
+/// Returns one entry for each piece of `round`, in number order, as `complete` does, by a searcher of the calling
 /// thread. Fails with `NoMemory` if memory runs out.
 pub(crate) fn complete_round<'r>(
     alloc: Global,

@@ -21,7 +21,7 @@ pub struct LockCrew<G> {
 }
 
 impl<G: Drop> LockCrew<G> {
-    /// Makes a crew of `workers` workers, which call `gate`, or answers `None` if `workers` isn't 1 to 64.
+    /// Makes a crew of `workers` workers, which call `gate`, or returns `None` if `workers` isn't 1 to 64.
     pub fn new(workers: usize, gate: G) -> Option<LockCrew<G>>
         ensures within { IsSome result ↔ ((0 < workers) × (workers ≤ MAX_WORKERS)) }
         ensures keeps { IfSome result (λ c. (c.workers.count ≡ workers) × (c.gate ≡ gate)) }
@@ -32,7 +32,7 @@ impl<G: Drop> LockCrew<G> {
 }
 
 impl<G> LockCrew<G> {
-    /// Answers a reference to the gate, for reading what it recorded.
+    /// Returns a reference to the gate, for reading what it recorded.
     pub fn gate(&self) -> &G
         ensures { result.now ≡ self.now.gate }
     {
@@ -41,7 +41,7 @@ impl<G> LockCrew<G> {
 }
 
 impl<G: Gate + Sync> LockCrew<G> {
-    /// Does what `Crew::search` does, for a crew with a gate of any type: answers one entry for each piece of `round`,
+    /// Does what `Crew::search` does, for a crew with a gate of any type: returns one entry for each piece of `round`,
     /// in number order. Uses at most one worker for each piece. If a thread can't start, the other threads do its work.
     /// Fails with `NoMemory` if memory runs out. Joins all workers before it returns or fails.
     pub fn search_round<'r, R: Threads + Wait + Sync>(

@@ -42,7 +42,7 @@ fn start_each<R: Threads + Sync, J: Send + Drop, X: Send + Drop, F: Fn(J) -> X +
     Ok(all)
 }
 
-/// Calls `f` at each of `jobs`, on a thread of its own where one can start, and answers the results in order. A lone
+/// Calls `f` at each of `jobs`, on a thread of its own where one can start, and returns the results in order. A lone
 /// job is done on the calling thread. Else the calling thread starts one thread after the other, and then waits for all
 /// of them. It computes nothing meanwhile: the system may lay a new thread on the processor of the one that starts it,
 /// where it begins late if that one goes on. If no thread can start for a job, the calling thread does the job, once

@@ -85,7 +85,7 @@ impl<'a> Desk<'a> {
             .take_back(self.instance, job, replaced.ready, replaced.free);
     }
 
-    /// Answers the lower bound of the dispatched word, in units of time. The bound is below 2^50. Takes no memory.
+    /// Returns the lower bound of the dispatched word, in units of time. The bound is below 2^50. Takes no memory.
     pub fn bound(&mut self) -> u64
         ensures bound { result ≡ lb self.old.shop self.old.word }
         ensures same { self.new ≡ self.old }

@@ -1,5 +1,5 @@
 // Heads: when each operation that a word has not dispatched could begin at the earliest. Tails: the total time of the
-// operations behind an operation on its route.
+// later operations of an operation's route.
 ghost use Rattle.std.specs.{Prelude.{◌≡◌, ◌<◌, IfOk, length, map, sum_by}, List.range_with_len};
 ghost use Rattle.shop_model.specs.Word.{IsWord};
 ghost use Rattle.shop_bound.specs.Heads.{heads_at, tail_in, AreTails, AreTimesSmall, TellsHeads};

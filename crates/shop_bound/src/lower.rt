@@ -21,17 +21,17 @@ pub(crate) struct BoundRoom {
 }
 
 /// The most leaps that are tried. On random instances, one to three settle a machine that has no more to do than
-/// another one. Where they don't, Jackson's schedule is made, so a machine of n operations takes n log n steps.
+/// another one. Otherwise Jackson's schedule is made, so the worst case of n operations is n log n steps.
 const LEAPS: usize = 4;
 
-/// Answers the greatest head in `triples`; 0 if `triples` is empty.
+/// Returns the greatest head in `triples`; 0 if `triples` is empty.
 fn greatest_head(triples: &[Triple]) -> u64
     ensures { result ≡ greatest_of (λ t. t.head) triples.now }
 {
     triples.iter().map(|t| t.head).max().unwrap_or(0)
 }
 
-/// Answers the load from `from` on: when the last of the operations with a head of at least `from` ends, tail included,
+/// Returns the load from `from` on: when the last of the operations with a head of at least `from` ends, tail included,
 /// if the machine serves these from 0 on, one after the other, in the order of `triples`; 0 if there are none. So no
 /// span from a head of at least `from` is greater than that head and the load.
 fn load_from(triples: &[Triple], from: u64) -> u64
@@ -50,7 +50,7 @@ fn load_from(triples: &[Triple], from: u64) -> u64
     load
 }
 
-/// Answers `true` only if the one-machine bound of `triples` is at most `bound`. The load never rises with the head
+/// Returns `true` only if the one-machine bound of `triples` is at most `bound`. The load never rises with the head
 /// from which on it is taken, so one load settles all heads up to `bound` less that load, and the next load is taken
 /// from one above that.
 fn is_settled(triples: &[Triple], bound: u64) -> bool
@@ -72,8 +72,8 @@ fn is_settled(triples: &[Triple], bound: u64) -> bool
     false
 }
 
-/// Answers the greater of `bound` and the one-machine bound of `triples`. Makes Jackson's schedule only where the times
-/// alone are greater than `bound`, or a few passes don't tell that the one-machine bound is at most `bound`. These
+/// Returns the greater of `bound` and the one-machine bound of `triples`. Makes Jackson's schedule only if the times
+/// alone are greater than `bound`, or a few passes don't show that the one-machine bound is at most `bound`. These
 /// passes go over `triples` by nonincreasing tail, in which order loads are least. May change the order of `triples`.
 fn raise(jackson: &mut Jackson, triples: &mut [Triple], bound: u64) -> u64
     requires room { length triples.old ≤ jackson.old.room }
@@ -106,7 +106,7 @@ impl BoundRoom {
         Ok(BoundRoom { lists, jackson })
     }
 
-    /// Answers the lower bound of the word in `placement`: the greatest of the times when machines are free and of the
+    /// Returns the lower bound of the word in `placement`: the greatest of the times when machines are free and of the
     /// one-machine bounds of each machine's waiting operations. Takes no memory.
     pub(crate) fn bound(&mut self, instance: &Instance, placement: &Placement) -> u64
         requires room { IsRoomFor instance.now self.old }

@@ -70,7 +70,7 @@ impl Queue {
         Some(first.1.0)
     }
 
-    /// Takes out the operation to come of least head, and answers its position; `None` if none is released by `clock`.
+    /// Takes out the operation to come of least head, and returns its position; `None` if none is released by `clock`.
     fn pop_released(&mut self, clock: u64) -> Option<usize>
         ensures taken { TakesReleased clock (heap_items self.old.coming) (heap_items self.new.coming) result }
         ensures fewer { OnSome result (heap_len self.new.coming + 1 ≡ heap_len self.old.coming) }
@@ -98,7 +98,7 @@ impl Queue {
         }
     }
 
-    /// Takes the operation that `next_to_serve` answers, which has ended, out of the waiting operations.
+    /// Takes the operation that `next_to_serve` returns, which has ended, out of the waiting operations.
     pub(crate) fn finish(&mut self)
         requires { 0 < heap_len self.old.waiting }
         ensures first { IsWithoutFirst (heap_items self.old.waiting) (heap_items self.new.waiting) }

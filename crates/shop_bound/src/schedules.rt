@@ -10,7 +10,7 @@ use crate::triples::{NO_TRIPLE, Triple};
 use std::alloc::{AllocError as NoMemory, Global};
 use std::marker::Model;
 
-/// Answers when the machine serves next: at `clock` if an operation waits or none is left, else at the next release.
+/// Returns when the machine serves next: at `clock` if an operation waits or none is left, else at the next release.
 /// Moves the operations that are released by then to the waiting ones.
 fn ready_at(works: &[Work], queue: &mut Queue, clock: u64) -> u64
     requires { IsQueue works.now clock queue.old }
@@ -30,7 +30,7 @@ fn ready_at(works: &[Work], queue: &mut Queue, clock: u64) -> u64
     release
 }
 
-/// Serves operation `chosen` from `clock` until the operation ends or until the next release, and answers that time.
+/// Serves operation `chosen` from `clock` until the operation ends or until the next release, and returns that time.
 /// Raises `best` to the operation's end plus tail if the operation ends.
 fn serve(works: &mut [Work], queue: &mut Queue, clock: u64, chosen: usize, best: &mut u64) -> u64
     requires queue { IsQueue works.old clock queue.old }
@@ -77,7 +77,7 @@ fn fill(works: &mut [Work], triples: &[Triple])
     }
 }
 
-/// Makes the whole preemptive schedule of the operations of `triples`, turn by turn. Answers its greatest end, tail
+/// Makes the whole preemptive schedule of the operations of `triples`, turn by turn. Returns its greatest end, tail
 /// included, and counts its turns in `turns`. `works` and `queue` have room for these operations.
 fn schedule(works: &mut [Work], queue: &mut Queue, triples: &[Triple], turns: &mut u64) -> u64
     requires works { length triples.now ≤ length works.old }
@@ -142,7 +142,7 @@ impl Jackson {
         })
     }
 
-    /// Answers the one-machine bound of `triples`: the greatest end, tail included, of their preemptive schedule; 0 if
+    /// Returns the one-machine bound of `triples`: the greatest end, tail included, of their preemptive schedule; 0 if
     /// `triples` is empty. Requires room for `triples`, and greatest head + sum of times + greatest tail below 2^50.
     pub fn bound(&mut self, triples: &[Triple]) -> u64
         requires room { length triples.now ≤ self.old.room }

@@ -11,14 +11,14 @@ pub struct Triple {
     pub tail: u64,
 }
 
-/// Padding: the triple where no operation is written yet.
+/// Padding: a triple of no operation.
 pub(crate) const NO_TRIPLE: Triple = Triple {
     head: 0,
     time: 0,
     tail: 0,
 };
 
-/// Answers `head` plus `tail` plus the times of the operations with a head of at least `head` and a tail of at least
+/// Returns `head` plus `tail` plus the times of the operations with a head of at least `head` and a tail of at least
 /// `tail`; 0 if there is no such operation.
 fn span_of_above(triples: &[Triple], head: u64, tail: u64) -> u64
     requires { head + sum_by (λ t. t.time) triples.now + tail < 2 ^ 50 }
@@ -35,7 +35,7 @@ fn span_of_above(triples: &[Triple], head: u64, tail: u64) -> u64
     if count == 0 { 0 } else { head + sum + tail }
 }
 
-/// Answers the one-machine bound (Carlier 1982): the greatest of least head + sum of times + least tail over all
+/// Returns the one-machine bound (Carlier 1982): the greatest of least head + sum of times + least tail over all
 /// sublists of `triples`; 0 if `triples` is empty. Requires greatest head + sum of times + greatest tail below 2^50.
 /// Takes cubic time. For library callers and for tests of `Jackson`: the program doesn't use `one_machine`.
 pub fn one_machine(triples: &[Triple]) -> u64

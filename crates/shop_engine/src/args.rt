@@ -6,20 +6,20 @@ ghost use Rattle.shop_engine.specs.Asking.{name_in};
 use shop_runs::Plan;
 use shop_text::{Format, Named, ReadFault, pick};
 
-/// Tells `list` how the text is written.
+/// The arguments of `list`: the format of the text.
 #[derive(Clone, Copy)]
 pub struct ListArgs {
     pub format: Format,
 }
 
-/// Tells `check` the format of the text, and which instance to take: the first of the name, or the first of all.
+/// The arguments of `check`: the format of the text, and the instance: the first of the name, or the first of all.
 #[derive(Drop)]
 pub struct CheckArgs {
     pub format: Format,
     pub name: Option<String>,
 }
 
-/// Tells `solve` the format of the text, the instance (without a name the first), the plan, and whether to add a chart.
+/// The arguments of `solve`: the format, the instance (without a name the first), the plan, and whether to add a chart.
 #[derive(Drop)]
 pub struct SolveArgs {
     pub format: Format,
@@ -28,7 +28,7 @@ pub struct SolveArgs {
     pub gantt: bool,
 }
 
-/// Answers the first instance of the name, or without a name the first one. Fails with `NoSuchName` if no instance has
+/// Returns the first instance of the name, or without a name the first one. Fails with `NoSuchName` if no instance has
 /// the name.
 pub fn ask<'t>(named: &'t [Named], name: &Option<String>) -> Result<&'t Named, ReadFault>
     requires { 0 < length named.now }

@@ -11,7 +11,7 @@ use shop_model::{Instance, Verdict, check_quickly};
 use shop_text::{ReadFault, read, read_table, verdict_line};
 use std::alloc::Global;
 
-/// Judges the table of a schedule text: tells whether it is feasible, and answers the line of the verdict. Fails with
+/// Judges the table of a schedule text: returns whether it is feasible, and the line of the verdict. Fails with
 /// the fault of the schedule text, or with `NoMemory` if memory runs out.
 fn judge(alloc: Global, instance: &Instance, schedule: &[u8]) -> Result<(bool, Vec<u8>), ReadFault>
     ensures judges { IfOk result (λ r. IsVerdictOn instance.now schedule.now r.0 r.1.items) }
@@ -26,8 +26,8 @@ fn judge(alloc: Global, instance: &Instance, schedule: &[u8]) -> Result<(bool, V
     }
 }
 
-/// Judges a schedule for the instance of `text` that the arguments name: tells whether it is feasible, and answers the
-/// line of the verdict. Without `schedule`, the schedule stands in the instance text itself. Reads and writes no
+/// Judges a schedule for the instance of `text` that the arguments name: returns whether it is feasible, and returns
+/// the line of the verdict. Without `schedule`, the schedule stands in the instance text itself. Reads and writes no
 /// device. For library callers: the program doesn't use `check_bytes`.
 ///
 /// Fails with the fault of the instance text, with `NoSuchName`, or with the fault of the schedule text. Fails with
@@ -49,7 +49,7 @@ pub fn check_bytes(
     judge(alloc, &asked.instance, schedule.unwrap_or(text))
 }
 
-/// Answers the schedule text: all of the second source, or the instance text if there is none. Fails if the source
+/// Returns the schedule text: all of the second source, or the instance text if there is none. Fails if the source
 /// does, with `TooLong` above `MAX_TEXT` bytes, or with `NoMemory` if memory runs out.
 fn schedule_of<T: Source>(
     alloc: Global,
@@ -69,8 +69,8 @@ fn schedule_of<T: Source>(
     }
 }
 
-/// Writes the verdict on a schedule for an instance of `source`, and tells whether the schedule is feasible. Reads the
-/// schedule from the second source, `schedule`, once the instance is picked; without one the schedule stands in the
+/// Writes the verdict on a schedule for an instance of `source`, and returns whether the schedule is feasible. Reads
+/// the schedule from the second source, `schedule`, once the instance is picked; without one the schedule stands in the
 /// instance text itself. Writes nothing before the line is made.
 ///
 /// Fails as `check_bytes` does, and with `ReadFailed` or `WriteFailed` if a device fails.

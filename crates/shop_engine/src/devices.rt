@@ -19,7 +19,7 @@ pub trait Source {
     /// The bytes that the source has left, where they are known, and how often it has failed and told its end.
     ghost device: { Self → Device };
 
-    /// Reads some bytes to the front of `buffer`, and answers how many: none only at the end, or if `buffer` is empty.
+    /// Reads some bytes to the front of `buffer`, and returns how many: none only at the end, or if `buffer` is empty.
     /// Reads nothing if the source fails.
     fn read(&mut self, buffer: &mut [u8]) -> Result<usize, DeviceFailed>
         ensures bound { IfOk result (λ n. n ≤ length buffer.new) }
@@ -34,7 +34,7 @@ pub trait Sink {
     /// The bytes that the sink holds, where they are known, and how often it has failed.
     ghost device: { Self → Device };
 
-    /// Writes some bytes from the front of `buffer`, and answers how many: none only if `buffer` is empty. Writes
+    /// Writes some bytes from the front of `buffer`, and returns how many: none only if `buffer` is empty. Writes
     /// nothing if the sink fails.
     fn write(&mut self, buffer: &[u8]) -> Result<usize, DeviceFailed>
         ensures bound { IfOk result (λ n. n ≤ length buffer.now) }

@@ -28,7 +28,7 @@ impl Memory {
         })
     }
 
-    /// Answers the bytes written so far.
+    /// Returns the bytes written so far.
     pub fn bytes(&self) -> &[u8]
         ensures { result.now ≡ self.now.held.items }
     {
@@ -42,7 +42,7 @@ impl Sink for Memory {
 
     ghost device = { device_of };
 
-    /// Writes as much from the front of `buffer` as there is room for, and answers how many bytes. Fails only if the
+    /// Writes as much from the front of `buffer` as there is room for, and returns how many bytes. Fails only if the
     /// room is full and `buffer` isn't empty.
     fn write(&mut self, buffer: &[u8]) -> Result<usize, DeviceFailed>
         ensures bound { IfOk result (λ n. n ≤ length buffer.now) }

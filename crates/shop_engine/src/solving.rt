@@ -56,7 +56,7 @@ fn text_of(
     Ok(text)
 }
 
-/// Searches an instance by `plan` with any crew. Answers the report of the best schedule found, with its Gantt text if
+/// Searches an instance by `plan` with any crew. Returns the report of the best schedule found, with its Gantt text if
 /// `with_gantt`, and the answer of the run. The schedule is feasible and ends at the printed makespan, no feasible
 /// schedule ends before the printed bound, and if the status is optimal none ends before the makespan.
 ///
@@ -83,7 +83,7 @@ pub fn solve_instance<R, C: Crew<R>>(
     Ok((text, answer))
 }
 
-/// Searches the instance of `text` that the arguments name, and answers the report that `solve_instance` makes. Reads
+/// Searches the instance of `text` that the arguments name, and returns the report that `solve_instance` makes. Reads
 /// and writes no device.
 ///
 /// `check_bytes` of the same text finds the report feasible, with the printed makespan, if the report has no more than
@@ -113,7 +113,7 @@ pub fn solve_bytes<R, C: Crew<R>>(
 /// Writes nothing before the search ends. Fails as `solve_bytes` does, and with `ReadFailed` or `WriteFailed` if a
 /// device fails.
 ///
-/// The open nodes are not freed, which would take a step for each: the call is for a program that ends with its report.
+/// Leaks the open nodes, since freeing each takes time; meant for a program that exits after the report.
 pub fn solve_text<R, S: Source, K: Sink, C: Crew<R>>(
     rt: &R,
     alloc: Global,

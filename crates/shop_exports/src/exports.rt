@@ -1,7 +1,6 @@
 // The functions that C calls. Each makes one of the engine's calls over bytes, with one worker, and writes the answer
 // into the caller's room. Formats are 0 for `orlib`, 1 for `taillard` and 2 for `routes`; without a name a call takes
-// the first instance. A call that doesn't end with `DONE` leaves the room as it was. Failures are told by the status of
-// the result.
+// the first instance. A call that doesn't end with `DONE` leaves the room as it was. The status of the result says why.
 ghost use Rattle.shop_exports.specs.{Exports.{ListsFor, ChecksFor, SolvesFor}, Requests.bytes_given};
 
 use crate::outcomes::{CallResult, faulty, give, refused};

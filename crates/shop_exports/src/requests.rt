@@ -11,8 +11,8 @@ use shop_text::{FORMATS, Format, ReadFault};
 use std::alloc::Global;
 use std::str::from_utf8;
 
-/// The plan of a search, and whether the Gantt text is wanted. The order is 0 to keep the open nodes as they stand, and
-/// 1 to take those of least bound first.
+/// The plan of a search, and whether the Gantt text is wanted. The order is 0 to keep the open nodes as they are, and 1
+/// to take those of least bound first.
 #[repr(C)]
 #[derive(Clone, Copy)]
 pub struct Options {
@@ -23,7 +23,7 @@ pub struct Options {
     pub gantt: bool,
 }
 
-/// Answers the format of the number `code`, its place in `FORMATS`; `None` if there is none.
+/// Returns the format of the number `code`, its place in `FORMATS`; `None` if there is none.
 pub(crate) fn format_of(code: u32) -> Option<Format>
     ensures { MatchOption result (IsNoFormat code) (λ format. format_code format ≡ code) }
 {

@@ -101,7 +101,7 @@ pub trait Block: Copy + Drop {
         requires least { IsSplat (numbers least) }
         ensures { numbers result ≡ waiting (first_of (numbers least)) (numbers heads) (numbers block) };
 
-    /// Reads eight numbers of `row`, from number 8 * `block` on. Answers in each lane how far its number lies ahead of
+    /// Reads eight numbers of `row`, from number 8 * `block` on. Returns in each lane how far its number lies ahead of
     /// `from`, where 0 follows `GREATEST`.
     fn ahead(row: &[Self::Number], block: usize, from: Self) -> Self
         requires within { 8 * (block + 1) ≤ length row.now }

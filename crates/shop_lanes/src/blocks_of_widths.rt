@@ -6,7 +6,7 @@ use crate::blocks::{Block, Move};
 use std::alloc::{AllocError as NoMemory, Global};
 use std::simd::prelude::*;
 
-/// Answers the numbers of `$block` moved among its lanes, at any width.
+/// Returns the numbers of `$block` moved among its lanes, at any width.
 macro_rules! moved {
     ($block:expr, $how:expr) => {{
         let zeros = Simd::splat(0);

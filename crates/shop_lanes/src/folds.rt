@@ -4,7 +4,7 @@ ghost use Rattle.shop_lanes.specs.Folds.{sums_before, greatest, least_up_to, gre
 
 use crate::blocks::{Block, Move};
 
-/// Answers in each lane the sum of all lanes of `block` before it; 0 in the first lane.
+/// Returns in each lane the sum of all lanes of `block` before it; 0 in the first lane.
 #[inline(always)]
 pub fn sums_before<B: Block>(block: B) -> B
     requires eight { length (B.numbers block) ≡ 8 }
@@ -16,7 +16,7 @@ pub fn sums_before<B: Block>(block: B) -> B
     B::moved(B::sum(fours, B::moved(fours, Move::UpFour)), Move::UpOne)
 }
 
-/// Answers in each lane the greatest number in the lanes of `block` before it; 0 in the first lane.
+/// Returns in each lane the greatest number in the lanes of `block` before it; 0 in the first lane.
 #[inline(always)]
 pub fn greatest_before<B: Block>(block: B) -> B
     requires { length (B.numbers block) ≡ 8 }
@@ -28,7 +28,7 @@ pub fn greatest_before<B: Block>(block: B) -> B
     B::greater(fours, B::moved(fours, Move::UpFour))
 }
 
-/// Answers in each lane the greatest number in the lanes of `block` behind it; 0 in the last lane.
+/// Returns in each lane the greatest number in the lanes of `block` behind it; 0 in the last lane.
 #[inline(always)]
 pub fn greatest_behind<B: Block>(block: B) -> B
     requires { length (B.numbers block) ≡ 8 }

@@ -26,7 +26,7 @@ fn nearest_of<B: Block>(count: usize, heads: &[B::Number], from: u64, greatest: 
     least_of(least)
 }
 
-/// Answers `most` or, if greater, the greatest span from a head in `range`. The span from a head is the greatest end,
+/// Returns `most` or, if greater, the greatest span from a head in `range`. The span from a head is the greatest end,
 /// tail included, of the operations with no lesser head, served by rank from that head on. Stops early once the bound
 /// reaches `limit`. A literal `count`, the number of positions, unrolls the loops over blocks.
 #[inline(always)]

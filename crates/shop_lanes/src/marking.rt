@@ -29,7 +29,7 @@ impl Marks {
         Marks { first, bits }
     }
 
-    /// Answers whether no position is marked.
+    /// Returns whether no position is marked.
     #[inline(always)]
     pub fn is_empty(&self) -> bool
         ensures { IsTrue result ↔ (self.now ≡ []) }
@@ -37,7 +37,7 @@ impl Marks {
         self.bits == 0
     }
 
-    /// Answers whether every marked position is `position`; true if no position is marked.
+    /// Returns whether every marked position is `position`; true if no position is marked.
     #[inline(always)]
     pub fn has_no_other(&self, position: usize) -> bool
         ensures { IsTrue result → All (λ p. p ≡ position) self.now }
@@ -63,7 +63,7 @@ impl Marks {
         }
     }
 
-    /// Unmarks the first marked position and answers it; `None` if no position is marked.
+    /// Unmarks the first marked position and returns it; `None` if no position is marked.
     #[inline(always)]
     pub fn pop_first(&mut self) -> Option<usize>
         ensures { IsPopped self.old result self.new }

@@ -60,7 +60,7 @@ fn bits_of<B: Block>(count: usize, numbers: &[B::Number], equal: bool, number: u
     bits
 }
 
-/// Tells whether lanes that hold numbers up to `greatest` have 64 bits. Few instances need such lanes. Code for each
+/// Returns whether lanes that hold numbers up to `greatest` have 64 bits. Few instances need such lanes. Code for each
 /// number of blocks would be three times as long as for narrower lanes, so from four blocks on they share one loop.
 #[inline(always)]
 pub fn are_wide(greatest: u64) -> bool {

@@ -4,7 +4,7 @@ ghost use Rattle.shop_lanes.specs.{Eights.IsSplat, inner.Passes.{FitServed, AreS
 
 use crate::blocks::Block;
 
-/// Serves the operations of a block with a head of at least `least`: adds their times to `clocks`. Answers the new
+/// Serves the operations of a block with a head of at least `least`: adds their times to `clocks`. Returns the new
 /// clock of each column, and in each lane the greater of `most` and the end of the operation served there, tail
 /// included.
 #[inline(always)]

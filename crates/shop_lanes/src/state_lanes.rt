@@ -23,7 +23,7 @@ pub trait StateLanes: Drop {
 
     ghost EACH: { ℕ };
 
-    /// The number of blocks of each machine, where code is made for that number alone; else 0.
+    /// The number of blocks of each machine, if code is made for that number alone; else 0.
     const EACH: usize;
 
     ghost value: { Self.Number → ℕ };
@@ -107,7 +107,7 @@ pub trait StateLanes: Drop {
         ensures times { result.times.now ≡ times.now }
         ensures tails { result.tails.now ≡ tails.now };
 
-    /// Answers `most` or, if greater, the greatest span from a head in `range`. The span from a head is the greatest
+    /// Returns `most` or, if greater, the greatest span from a head in `range`. The span from a head is the greatest
     /// end, tail included, of the operations of `rows` with no lesser head, served by rank from that head on. Stops
     /// early once the bound reaches `limit`. `count` is the number of blocks, or 0 if unknown; a literal `count`
     /// unrolls loops.

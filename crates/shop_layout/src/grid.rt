@@ -39,7 +39,7 @@ impl<'l, L: StateLanes> Model for Grid<'l, L> {
         × IsBehind g.positions.now g.behind.now };
 }
 
-/// Answers the number of blocks of each machine, or 0 if not all machines have equally many.
+/// Returns the number of blocks of each machine, or 0 if not all machines have equally many.
 pub(crate) fn even_blocks(blocks: &[u32]) -> usize
     ensures { AreEven blocks.now result }
 {
@@ -111,8 +111,7 @@ impl<'l, L: StateLanes> Grid<'l, L> {
         self.blocks_each
     }
 
-    /// The number of blocks of each machine where the lanes have code for that number alone, else 0: the constant
-    /// `EACH`.
+    /// The number of blocks of each machine if the lanes have code for that number alone, else 0: the constant `EACH`.
     #[inline(always)]
     pub fn fixed_blocks_each(&self) -> usize
         ensures is { result ≡ L.EACH }

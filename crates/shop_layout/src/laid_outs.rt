@@ -115,9 +115,9 @@ impl<'l, 'a, L: StateLanes> LaidOut<'l, 'a, L> {
 /// The most machines for which lanes have code of their own for a number of blocks.
 const MOST_MACHINES: usize = 64;
 
-/// An instance laid out in lanes of 16, 32 or 64 bits. Those of 16 bits have code of their own where each of at most 64
-/// machines has two blocks (`In16By2`), three or four, as most instances of 9 to 32 jobs have. What is done for each
-/// block needs no loop there, and no look at the number of blocks, and a set of machines is one number of 64 bits.
+/// An instance laid out in lanes of 16, 32 or 64 bits. Those of 16 bits have code of their own if each of at most 64
+/// machines has two blocks (`In16By2`), three or four, as most instances of 9 to 32 jobs have: there no loop goes over
+/// blocks, nothing looks up their number, and a set of machines is one number of 64 bits.
 #[derive(Drop)]
 pub enum LaneLayout<'l, 'a> {
     In16By2(LayoutFor<'l, 'a, Lanes16<2>>),

@@ -48,7 +48,7 @@ fn add_route(
     Ok(())
 }
 
-/// Makes the legs of all routes, route after route, each with its end, and tells where the legs of each job begin.
+/// Makes the legs of all routes, route after route, each with its end, and returns where the legs of each job begin.
 /// `places` has the position of each step of each job; `machines` and `times` are by position, and there are `end`
 /// positions. A leg takes 16 bytes. Fails with `NoMemory` if memory runs out.
 fn legs_of(
@@ -74,8 +74,8 @@ fn legs_of(
     Ok((legs, firsts))
 }
 
-/// Finds, for each position, where the legs behind its operation begin. `jobs` and `steps` are by position, and
-/// `firsts` tells for each job where its legs begin. Fails with `NoMemory` if memory runs out.
+/// Finds, for each position, where the legs after its operation begin. `jobs` and `steps` are by position; `firsts` is
+/// where the legs of each job begin. Fails with `NoMemory` if memory runs out.
 fn behind_of(
     alloc: Global,
     jobs: &[u32],
@@ -91,7 +91,7 @@ fn behind_of(
         .collect(alloc)
 }
 
-/// Makes the legs of all routes of the layout `positions`, and tells for each position where the legs behind its
+/// Makes the legs of all routes of the layout `positions`, and returns for each position where the legs after its
 /// operation begin. Fails with `NoMemory` if memory runs out.
 pub(crate) fn legs_with_behind(
     alloc: Global,

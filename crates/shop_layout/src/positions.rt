@@ -137,7 +137,7 @@ fn note_places(places: &mut [Vec<u32>], slots: &[Slot], first: usize, count: usi
     }
 }
 
-/// Answers the position of each step of each job. `lists` has the operations of each machine, by any ranks, and
+/// Returns the position of each step of each job. `lists` has the operations of each machine, by any ranks, and
 /// those of `lists[m]` are in blocks `blocks[m]` up to `blocks[m + 1]` (excluded). Fails with `NoMemory` if memory
 /// runs out.
 fn places_of(

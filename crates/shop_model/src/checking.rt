@@ -39,7 +39,7 @@ pub enum Verdict {
     },
 }
 
-/// Tells whether `table` has one start for each operation of `instance`, and no other.
+/// Returns whether `table` has one start for each operation of `instance`, and no other.
 fn has_shape(instance: &Instance, table: &Table) -> bool
     ensures { IsTrue result ↔ HasShape instance.now table.now }
 {
@@ -68,7 +68,7 @@ fn first_early(instance: &Instance, table: &Table) -> Option<OperationId>
     None
 }
 
-/// Answers when the last operation of `table` ends, in units of time; 0 if the instance has no operation. Requires one
+/// Returns when the last operation of `table` ends, in units of time; 0 if the instance has no operation. Requires one
 /// start for each operation, and no other.
 pub fn makespan(instance: &Instance, table: &Table) -> u64
     requires { HasShape instance.now table.now }
@@ -81,7 +81,7 @@ pub fn makespan(instance: &Instance, table: &Table) -> u64
     end
 }
 
-/// Answers the verdict on a table of the right shape in which no operation begins too early. `overlap` is its first
+/// Returns the verdict on a table of the right shape in which no operation begins too early. `overlap` is its first
 /// pair of operations that overlap, if there is one.
 fn verdict_of(
     instance: &Instance,
@@ -105,14 +105,14 @@ fn verdict_of(
     }
 }
 
-/// Judges `table` as a schedule of `instance` (disjunctive model): answers its makespan if it is feasible, else its
+/// Judges `table` as a schedule of `instance` (disjunctive model): returns its makespan if it is feasible, else its
 /// first fault. A wrong size comes first, then steps that begin too early, in order of job and step, then overlaps, in
 /// order of the pair. Takes no memory, and time in proportion to the pairs of jobs times the length of a route.
 pub fn check(instance: &Instance, table: &Table) -> Verdict
     // What the verdict says is so.
     ensures verdict { IsVerdict instance.now table.now result }
 
-    // Feasible tables, and tables of another shape, are told as such.
+    // Feasible tables, and tables of another shape, are reported as such.
     ensures feasible { (c : ℕ) → (result ≡ Verdict.Feasible c) ↔ EndsAt instance.now table.now c }
     ensures wrong_size { (result ≡ Verdict.WrongSize) ↔ (HasShape instance.now table.now → ⊥) }
 {

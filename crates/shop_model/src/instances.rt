@@ -28,7 +28,7 @@ pub struct JobsFault {
     pub jobs: Vec<Job>,
 }
 
-/// Tells whether each operation of `route` is on one of `machines` machines and takes at most `MAX_TIME`.
+/// Returns whether each operation of `route` is on one of `machines` machines and takes at most `MAX_TIME`.
 fn is_route_within(machines: usize, route: &[Op]) -> bool
     ensures { IsTrue result ↔ IsRouteWithin machines route.now }
 {
@@ -37,7 +37,7 @@ fn is_route_within(machines: usize, route: &[Op]) -> bool
         .all(|o| o.machine < machines && o.time <= MAX_TIME)
 }
 
-/// Tells whether `rows` are within the limits, each with as many operations as there are machines.
+/// Returns whether `rows` are within the limits, each with as many operations as there are machines.
 fn are_rows_within(machines: usize, rows: &[Vec<Op>]) -> bool
     ensures { IsTrue result ↔ AreRowsWithin machines rows.now }
 {
@@ -52,7 +52,7 @@ fn are_rows_within(machines: usize, rows: &[Vec<Op>]) -> bool
     true
 }
 
-/// Tells whether the release of `job`, the number of its operations and each operation are within the limits.
+/// Returns whether the release of `job`, the number of its operations and each operation are within the limits.
 fn is_job_within(machines: usize, job: &Job) -> bool
     ensures { IsTrue result ↔ IsJobWithin machines job.now }
 {
@@ -61,7 +61,7 @@ fn is_job_within(machines: usize, job: &Job) -> bool
         && is_route_within(machines, job.route.as_slice())
 }
 
-/// Tells whether the number of `jobs` and each job are within the limits.
+/// Returns whether the number of `jobs` and each job are within the limits.
 fn are_jobs_within(machines: usize, jobs: &[Job]) -> bool
     ensures { IsTrue result ↔ AreJobsWithin machines jobs.now }
 {

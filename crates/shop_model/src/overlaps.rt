@@ -37,7 +37,7 @@ fn first_overlap_with(instance: &Instance, table: &Table, j: usize, k: usize) ->
 }
 
 /// Finds the first operation after step `k` of job `j` that overlaps with it; `None` if there is none. A binary search
-/// in `clear`, sorted spans that overlap with no other, answers `None` if it finds the operation's span.
+/// in `clear`, sorted spans that overlap with no other, returns `None` if it finds the operation's span.
 fn first_overlap_unless_clear(
     instance: &Instance,
     table: &Table,
@@ -63,7 +63,8 @@ fn first_overlap_unless_clear(
     first_overlap_with(instance, table, j, k)
 }
 
-/// Tells whether no operation of job `j` overlaps with one of a later job. Requires that no operation begins too early.
+/// Returns whether no operation of job `j` overlaps with one of a later job. Requires that no operation begins too
+/// early.
 fn is_job_apart(instance: &Instance, table: &Table, j: usize) -> bool
     requires shape { HasShape instance.now table.now }
     requires in_time { NoneEarly instance.now (starts_of table.now) }

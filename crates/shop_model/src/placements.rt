@@ -62,7 +62,7 @@ impl Placement {
         }
     }
 
-    /// Places the next step of job `j` as soon as the job and the step's machine are free, and answers when the step
+    /// Places the next step of job `j` as soon as the job and the step's machine are free, and returns when the step
     /// begins. Requires a job with a step left.
     pub fn place_next(&mut self, instance: &Instance, j: usize) -> u64
         requires { HasNext instance.now j self.old }

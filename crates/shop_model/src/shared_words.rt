@@ -69,7 +69,7 @@ impl SharedWord {
         })
     }
 
-    /// Answers a second word over the path of this one. Copies no job and takes no memory; fails only if the path is
+    /// Returns a second word over the path of this one. Copies no job and takes no memory; fails only if the path is
     /// shared more often than can be counted.
     pub fn shared(&self) -> Result<SharedWord, NoMemory>
         ensures { IfOk result (λ w. w ≡ self.now) }

@@ -49,14 +49,14 @@ pub(crate) fn spans(
     Ok(spans)
 }
 
-/// Tells whether span `one` is on a lower machine than `other`, or on its machine and ends before `other` begins.
+/// Returns whether span `one` is on a lower machine than `other`, or on its machine and ends before `other` begins.
 fn is_in_turn(one: &Occupied, other: &Occupied) -> bool
     ensures { IsTrue result ↔ IsInTurn one.now other.now }
 {
     one.machine < other.machine || one.machine == other.machine && one.finish <= other.start
 }
 
-/// Tells whether each span is in turn with the next one, as `is_in_turn` says.
+/// Returns whether each span is in turn with the next one, as `is_in_turn` says.
 pub(crate) fn are_in_turn(spans: &[Occupied]) -> bool
     ensures { IsTrue result ↔ AreInTurn spans.now }
 {
@@ -68,7 +68,7 @@ pub(crate) fn are_in_turn(spans: &[Occupied]) -> bool
     true
 }
 
-/// Answers the span on the higher machine; if both are on one machine, the span that ends last.
+/// Returns the span on the higher machine; if both are on one machine, the span that ends last.
 fn last_to_end(one: &Occupied, other: &Occupied) -> Occupied
     ensures choice { (result ≡ one.now) ⊎ (result ≡ other.now) }
     ensures one { EndsNotAfter one.now result }
@@ -81,7 +81,7 @@ fn last_to_end(one: &Occupied, other: &Occupied) -> Occupied
     }
 }
 
-/// Tells whether span `k` of the sorted `spans` overlaps with no other. `latest` is the one that ends last of those
+/// Returns whether span `k` of the sorted `spans` overlaps with no other. `latest` is the one that ends last of those
 /// before it.
 fn is_clear(latest: &Occupied, spans: &[Occupied], k: usize) -> bool
     requires { k < length spans.now }

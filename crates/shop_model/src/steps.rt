@@ -42,7 +42,7 @@ pub(crate) fn clash_from(
     None
 }
 
-/// Tells whether no step of one job overlaps with a step of another job on its machine. Each job does its steps in
+/// Returns whether no step of one job overlaps with a step of another job on its machine. Each job does its steps in
 /// order. So of two steps the one that ends first is clear of all that the other job does later, and one pass through
 /// both jobs is enough.
 pub(crate) fn are_clear(route: &[Op], row: &[u64], others: &[Op], other_row: &[u64]) -> bool
@@ -69,7 +69,7 @@ pub(crate) fn are_clear(route: &[Op], row: &[u64], others: &[Op], other_row: &[u
     true
 }
 
-/// Answers when the last step ends; 0 if `route` is empty.
+/// Returns when the last step ends; 0 if `route` is empty.
 pub(crate) fn last_finish(route: &[Op], row: &[u64]) -> u64
     requires { AreSmall route.now row.now }
     ensures end { result ≡ end_at route.now row.now }

@@ -23,7 +23,7 @@ impl Model for Table {
     ghost invariant = { λ a. AreStarts (map (λ r. r.items) a.rows.items) };
 }
 
-/// Tells whether no start of `row` is over `MAX_START`.
+/// Returns whether no start of `row` is over `MAX_START`.
 fn is_row_within(row: &[u64]) -> bool
     ensures { IsTrue result ↔ All (λ s. s ≤ MAX_START) row.now }
 {
@@ -67,7 +67,7 @@ impl Table {
         self.rows.len()
     }
 
-    /// Answers when step `k` of job `j` begins, in units of time; `None` if the table has no such start. For library
+    /// Returns when step `k` of job `j` begins, in units of time; `None` if the table has no such start. For library
     /// callers: the program doesn't use `start`.
     pub fn start(&self, j: usize, k: usize) -> Option<u64>
         ensures { result ≡ slice_get (slice_index_or self.now j []) k }

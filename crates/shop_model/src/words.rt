@@ -16,7 +16,7 @@ enum Entries {
 }
 
 /// A job sequence, the order in which operations are dispatched (permutation with repetition, Bierwirth 1995): each
-/// entry is a job, and stands for the job's next step.
+/// entry is a job, and means the job's next step.
 pub struct Word {
     entries: Entries,
 }
@@ -134,7 +134,7 @@ pub(crate) fn set_jobs(list: &mut Vec<u16>, jobs: &[usize]) -> Result<(), NoMemo
     Ok(())
 }
 
-/// Counts how often `job` stands in `word`.
+/// Counts how often `job` is in `word`.
 fn count(word: &Word, job: usize) -> usize
     ensures { result ≡ count_of job word.now }
 {
@@ -147,15 +147,15 @@ fn count(word: &Word, job: usize) -> usize
     count
 }
 
-/// Tells whether each entry of `word` is below `jobs`.
+/// Returns whether each entry of `word` is below `jobs`.
 fn are_below(jobs: usize, word: &Word) -> bool
     ensures { IsTrue result ↔ All (λ j. j < jobs) word.now }
 {
     word.jobs().all(|j| j < jobs)
 }
 
-/// Tells whether `word` is a word of `instance`: each entry is one of its jobs, and no job stands there more often than
-/// its route is long. Takes no memory. For library callers: the program doesn't use `fits`.
+/// Returns whether `word` is a word of `instance`: each entry is one of its jobs, and no job stands there more often
+/// than its route is long. Takes no memory. For library callers: the program doesn't use `fits`.
 pub fn fits(instance: &Instance, word: &Word) -> bool
     ensures { IsTrue result ↔ IsWord instance.now word.now }
 {
@@ -170,7 +170,7 @@ pub fn fits(instance: &Instance, word: &Word) -> bool
     true
 }
 
-/// Tells whether `word` is full: each job of the instance stands there as often as its route is long, and no other
+/// Returns whether `word` is full: each job of the instance stands there as often as its route is long, and no other
 /// entry does. Takes no memory. For library callers: the program doesn't use `is_full`.
 pub fn is_full(instance: &Instance, word: &Word) -> bool
     ensures { IsTrue result ↔ IsFull instance.now word.now }

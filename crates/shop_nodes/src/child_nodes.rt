@@ -43,7 +43,7 @@ fn child_along(
     Node::new(alloc, instance, Word::of_shared(word))
 }
 
-/// Answers the index of the first of `nodes` with a bound of at least `bound`, or their number if there is none.
+/// Returns the index of the first of `nodes` with a bound of at least `bound`, or their number if there is none.
 fn place_for(bound: u64, nodes: &[Node]) -> usize
     ensures { IsPlaceFor bound nodes.now result }
 {
@@ -68,7 +68,7 @@ pub fn children(alloc: Global, instance: &Instance, node: &Node) -> Result<Vec<N
     let mut jobs = conflict(alloc, instance, &node.word)?;
     let path = shared_path(alloc, instance, &node.word)?;
     let mut children = Vec::with_capacity(alloc, jobs.len())?;
-    // Inserts the last job first, so that of equal bounds the lower job stands first.
+    // Inserts the last job first, so that of equal bounds the lower job comes first.
     while let Some(job) = jobs.pop() {
         let child = child_along(alloc, instance, &path, job)?;
         let place = place_for(child.bound, children.as_slice());

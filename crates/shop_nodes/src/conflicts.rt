@@ -18,7 +18,7 @@ pub(crate) struct NextOperation {
 impl NextOperation {
     ghost use Rattle.shop_nodes.specs.inner.Choosing.{is_in_conflict};
 
-    /// Tells whether this operation is `other`, or is on the machine of `other` and can begin before `other` can end.
+    /// Returns whether this operation is `other`, or is on the machine of `other` and can begin before `other` can end.
     fn conflicts_with(&self, other: &NextOperation) -> bool
         ensures { result ≡ is_in_conflict self.now other.now }
     {
@@ -39,7 +39,7 @@ pub(crate) struct Placed<'a> {
 impl<'a> Placed<'a> {
     ghost use Rattle.shop_nodes.specs.inner.Choosing.{IsNext, IsNextIfAny, IsChosen, placing_of, conflicting_with};
 
-    /// Answers the next operation of `job`, or `None` if the job has no operation left.
+    /// Returns the next operation of `job`, or `None` if the job has no operation left.
     fn next(&self, job: usize) -> Option<NextOperation>
         requires { job < length self.now.instance.now.jobs }
         ensures { IsNextIfAny self.now.instance.now self.now.word.now job result }

@@ -10,7 +10,7 @@ pub struct Open {
     pub bound: u64,
 }
 
-/// A waiting open child, told as `Open` tells it, or waiting closed children. Closed children have bounds that reach
+/// A waiting open child, with the fields of `Open`, or waiting closed children. Closed children have bounds that reach
 /// the best makespan and are only counted. They are the last `count` children of one word: the first `depth` jobs of
 /// the walk's path. The fields of a child lie beside the tag, so that an entry takes 16 bytes, not 24 as with an `Open`
 /// in it: each search brings a list of these.

@@ -71,7 +71,7 @@ impl<'r> Left<'r> {
         }
     }
 
-    /// Answers the makespan, where the walk halted (`None` if it didn't), and the nodes that weren't taken. The open
+    /// Returns the makespan, where the walk halted (`None` if it didn't), and the nodes that weren't taken. The open
     /// nodes are the children that wait there, the last entry first, and then these nodes, as far as their bounds are
     /// below the makespan.
     pub fn parts(&self) -> (u64, &Option<Halt>, &[Node])

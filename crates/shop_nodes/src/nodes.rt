@@ -71,14 +71,14 @@ impl SharedNode {
         Ok(SharedNode { word, bound })
     }
 
-    /// Answers the node's lower bound, in units of time.
+    /// Returns the node's lower bound, in units of time.
     pub fn bound(&self) -> u64
         ensures { result ≡ self.now.bound }
     {
         self.bound
     }
 
-    /// Answers the node's word and its lower bound, in units of time.
+    /// Returns the node's word and its lower bound, in units of time.
     pub fn into_parts(self) -> (SharedWord, u64)
         ensures word { result.0 ≡ self.word }
         ensures bound { result.1 ≡ self.bound }

@@ -11,7 +11,7 @@ use std::rt;
 pub trait Files {
     type File: Source + Drop;
 
-    /// What opening a path may give: a file as it stands then, or none where it can't be opened.
+    /// What opening a path may give: a file as it is then, or none if it can't be opened.
     ghost opens: { Self → List ℕ → Option Device → Type 0 };
 
     /// Opens the file at `path`. Fails if it can't be opened.
@@ -19,7 +19,7 @@ pub trait Files {
         ensures { opens self.now path.now (option_map Self.File.device (result_ok result)) };
 }
 
-/// The files of a runtime of std: which bytes stand at a path isn't known.
+/// The files of a runtime of std: which bytes are at a path isn't known.
 impl<R: rt::Files> Files for R {
     type File = Reading<R::File>;
 

@@ -1,6 +1,6 @@
 // What help says of the program, its commands and their arguments.
 
-/// What stands above and below the help of a command.
+/// What is printed above and below the help of a command.
 #[derive(Clone, Copy)]
 pub struct Help {
     pub about: &'static str,
@@ -82,7 +82,7 @@ Exit status:
   5  memory ran out",
 };
 
-/// Answers what help says of the argument `id`; nothing if there is no such argument.
+/// Returns what help says of the argument `id`; nothing if there is no such argument.
 pub fn help_of(id: &str) -> &'static str {
     match id {
         "format" => {

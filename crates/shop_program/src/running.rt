@@ -12,7 +12,7 @@ use std::env::args;
 use std::io::ErrorKind;
 use std::rt::Env;
 
-/// Runs a command on `source`, whatever its file, and answers the exit status. The report of `solve` doesn't depend on
+/// Runs a command on `source`, whatever its file, and returns the exit status. The report of `solve` doesn't depend on
 /// the crew. Fails with the fault of a text, with `ReadFailed` or `WriteFailed` if a device fails, or with `NoMemory`
 /// if memory runs out.
 fn run_from<R: Files + AllocGlobal, C: MakesCrew<R>, S: Source, K: Sink>(
@@ -44,7 +44,7 @@ fn run_from<R: Files + AllocGlobal, C: MakesCrew<R>, S: Source, K: Sink>(
     }
 }
 
-/// Answers the path of the text that a command is run on.
+/// Returns the path of the text that a command is run on.
 fn file_of(args: &Args) -> &Option<String>
     ensures { result.now ≡ file_in args.now }
 {
@@ -54,7 +54,7 @@ fn file_of(args: &Args) -> &Option<String>
 }
 
 /// Runs what a command line asks for on the files that it names, or on `source`, and writes to `out`; `crews` makes the
-/// crew that searches. Answers the exit status: 1 if `check` finds the schedule infeasible, else 0. Fails with the
+/// crew that searches. Returns the exit status: 1 if `check` finds the schedule infeasible, else 0. Fails with the
 /// fault of a text, with `ReadFailed` or `WriteFailed` if a device fails, or with `NoMemory` if memory runs out.
 pub fn run_args<R: Files + AllocGlobal, C: MakesCrew<R>, S: Source, K: Sink>(
     rt: &R,
@@ -73,7 +73,7 @@ pub fn run_args<R: Files + AllocGlobal, C: MakesCrew<R>, S: Source, K: Sink>(
     }
 }
 
-/// Answers the words of the process, the program's name first. Without them says why on `err`, and fails with the exit
+/// Returns the words of the process, the program's name first. Without them says why on `err`, and fails with the exit
 /// status: 2 (a word isn't UTF-8) or 5 (memory ran out).
 fn words_of<R: Env + AllocGlobal, E: Sink>(rt: &R, err: &mut E) -> Result<Vec<String>, u8>
     ensures { IfErr result IsNoWords }
@@ -89,7 +89,7 @@ fn words_of<R: Env + AllocGlobal, E: Sink>(rt: &R, err: &mut E) -> Result<Vec<St
 }
 
 /// Runs the program on the words of a command line, the program's name first. Reads files or `source`, writes to `out`,
-/// and says faults on `err`; `crews` makes the crew of as many workers as the words ask for. Answers the exit status: 0
+/// and says faults on `err`; `crews` makes the crew of as many workers as the words ask for. Returns the exit status: 0
 /// done, 1 infeasible, 2 a faulty command line, 3 a text refused, 4 a read or write that failed, 5 no memory.
 pub fn program<R: Files + AllocGlobal, C: MakesCrew<R>, S: Source, K: Sink, E: Sink>(
     rt: &R,
@@ -114,7 +114,7 @@ pub fn program<R: Files + AllocGlobal, C: MakesCrew<R>, S: Source, K: Sink, E: S
     }
 }
 
-/// Runs the program on the words of the process, and answers the exit status. A word that isn't UTF-8 is a fault of the
+/// Runs the program on the words of the process, and returns the exit status. A word that isn't UTF-8 is a fault of the
 /// command line.
 pub fn start<R: Env + Files + AllocGlobal, C: MakesCrew<R>, S: Source, K: Sink, E: Sink>(
     rt: &R,

@@ -44,7 +44,7 @@ fn say<K: Sink, D: Display + Drop>(err: &mut K, text: D) {
     let _ = write!(pieces, "{text}");
 }
 
-/// Says `fault` on one line, and answers the exit status.
+/// Says `fault` on one line, and returns the exit status.
 pub fn say_fault<K: Sink>(err: &mut K, fault: Fault) -> u8
     ensures { result ≡ status_of fault }
 {
@@ -57,14 +57,14 @@ pub fn say_fault<K: Sink>(err: &mut K, fault: Fault) -> u8
     }
 }
 
-/// Says that memory ran out, and answers the exit status.
+/// Says that memory ran out, and returns the exit status.
 pub fn say_no_memory<K: Sink>(err: &mut K) -> u8
     ensures { result ≡ 5 }
 {
     say_fault(err, Fault::NoMemory)
 }
 
-/// Says that a word of the command line isn't UTF-8, and answers the exit status.
+/// Says that a word of the command line isn't UTF-8, and returns the exit status.
 pub fn say_no_text<K: Sink>(err: &mut K) -> u8
     ensures { result ≡ 2 }
 {
@@ -72,7 +72,7 @@ pub fn say_no_text<K: Sink>(err: &mut K) -> u8
     COMMAND_LINE
 }
 
-/// Says clap's text of a fault of the command line, or that memory ran out, and answers the exit status.
+/// Says clap's text of a fault of the command line, or that memory ran out, and returns the exit status.
 pub fn say_line_fault<K: Sink>(err: &mut K, fault: LineFault) -> u8
     ensures { result ≡ status_of_line fault }
 {

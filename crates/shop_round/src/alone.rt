@@ -8,7 +8,7 @@ use shop_model::Instance;
 use shop_runs::{Answer, Crew, Entry, PieceSearch, Plan, Round, run};
 use std::alloc::{AllocError as NoMemory, Global};
 
-/// Answers the entry of piece `number`. Passes the piece if `hit` holds an earlier one. Otherwise searches it, and sets
+/// Returns the entry of piece `number`. Passes the piece if `hit` holds an earlier one. Otherwise searches it, and sets
 /// `hit` to `number` if the makespan of its sheet equals the opening bound. Fails with `NoMemory` if memory runs out.
 fn entry_up_to_hit<'r>(
     alloc: Global,
@@ -40,7 +40,7 @@ pub struct Alone;
 
 impl Alone {
     /// Searches the pieces of `round` in order until one's makespan equals the opening bound, and passes the rest.
-    /// Answers one entry for each piece, in number order. Fails with `NoMemory` if memory runs out.
+    /// Returns one entry for each piece, in number order. Fails with `NoMemory` if memory runs out.
     pub fn search_round<'r>(
         self,
         alloc: Global,

@@ -1,4 +1,4 @@
-// Open nodes for the order `Bound` where bounds are large: a map with a stack of words for each bound.
+// Open nodes for the order `Bound` if bounds are large: a map with a stack of words for each bound.
 ghost use Rattle.std.specs.Prelude.{◌≡◌, ◌==◌, ◌^◌, ◌≤◌, [], length, IfOk, OnOk, OnErr};
 ghost use Rattle.shop_nodes.specs.{Branching.insert_by, inner.HeldNodes.nodes_below};
 ghost use Rattle.shop_runs.specs.{inner.NodeLists.least_of_bounds, inner.Stacks.IsNextOf};
@@ -52,7 +52,7 @@ impl BoundMap {
         Ok(())
     }
 
-    /// Takes the first node of least bound, or answers `None` if no node is open. Fails with `NoMemory` if memory runs
+    /// Takes the first node of least bound, or returns `None` if no node is open. Fails with `NoMemory` if memory runs
     /// out.
     pub(crate) fn pop(&mut self) -> Result<Option<Node>, NoMemory>
         ensures { IfOk result (λ n. IsNextOf n self.old self.new) }
@@ -79,7 +79,7 @@ impl BoundMap {
         Ok(())
     }
 
-    /// Answers the least of `makespan` and the bounds of the nodes.
+    /// Returns the least of `makespan` and the bounds of the nodes.
     pub(crate) fn least_bound(&self, makespan: u64) -> u64
         ensures { result ≡ least_of_bounds makespan self.now }
     {
@@ -89,7 +89,7 @@ impl BoundMap {
         }
     }
 
-    /// Answers how many nodes the map holds. Fails with `NoMemory` if they are 2^64 or more, which no memory holds.
+    /// Returns how many nodes the map holds. Fails with `NoMemory` if they are 2^64 or more, which no memory holds.
     pub(crate) fn count(&self) -> Result<usize, NoMemory>
         ensures count { IfOk result (λ n. n ≡ length self.now) }
         ensures too_many { OnErr result (2 ^ 64 ≤ length self.now) }
@@ -101,7 +101,7 @@ impl BoundMap {
         Ok(count)
     }
 
-    /// Tells whether the map holds no node.
+    /// Returns whether the map holds no node.
     pub(crate) fn is_empty(&self) -> bool
         ensures { result ≡ (length self.now == 0) }
     {

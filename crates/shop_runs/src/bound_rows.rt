@@ -1,4 +1,4 @@
-// Open nodes for the order `Bound` where bounds are small: a row of stacks of words, one for each bound.
+// Open nodes for the order `Bound` if bounds are small: a row of stacks of words, one for each bound.
 ghost use Rattle.std.specs.Prelude.{◌≡◌, ◌==◌, ◌^◌, ◌<◌, ◌≤◌, ◌∷◌, [], length, vec_len, take, drop};
 ghost use Rattle.std.specs.Prelude.{IfOk, IfSome, OnOk, OnErr};
 ghost use Rattle.shop_nodes.specs.{Branching.insert_by, inner.HeldNodes.nodes_below};
@@ -38,7 +38,7 @@ fn push_at(alloc: Global, place: &mut Place, word: SharedWord) -> Result<(), NoM
     }
 }
 
-/// Takes the top word off the stack at a place, or answers `None` if there is no stack. Leaves no empty stack: the box
+/// Takes the top word off the stack at a place, or returns `None` if there is no stack. Leaves no empty stack: the box
 /// is given back with the last word.
 fn pop_at(place: &mut Place) -> Option<SharedWord>
     ensures { TakesTop result place.old place.new }
@@ -54,7 +54,7 @@ fn pop_at(place: &mut Place) -> Option<SharedWord>
     Some(Box::into_inner(stack).into_last())
 }
 
-/// Answers how many words the stack at a place holds. Fails with `NoMemory` if they are 2^64 or more.
+/// Returns how many words the stack at a place holds. Fails with `NoMemory` if they are 2^64 or more.
 fn count_at(place: &Place) -> Result<usize, NoMemory>
     ensures count { IfOk result (λ n. n ≡ length (words_at place.now)) }
     ensures too_many { OnErr result (2 ^ 64 ≤ length (words_at place.now)) }
@@ -65,7 +65,7 @@ fn count_at(place: &Place) -> Result<usize, NoMemory>
     }
 }
 
-/// Answers the first index from `from` on at which there is a stack, or else the number of places.
+/// Returns the first index from `from` on at which there is a stack, or else the number of places.
 fn first_from(stacks: &[Place], from: usize) -> usize
     requires { from ≤ length stacks.now }
     ensures { IsFirstFrom stacks.now from result }
@@ -78,7 +78,7 @@ fn first_from(stacks: &[Place], from: usize) -> usize
     stacks.len()
 }
 
-/// Counts the words of the stacks from `first` on until they are at least `most`. Answers the index behind the last
+/// Counts the words of the stacks from `first` on until they are at least `most`. Returns the index behind the last
 /// stack that was counted, or `None` if all of them hold fewer, and how many were counted. Fails with `NoMemory` if a
 /// stack holds 2^64 words or more.
 fn place_behind(
@@ -192,7 +192,7 @@ impl BoundRow {
         push_at(alloc, &mut self.stacks[index], word)
     }
 
-    /// Takes the first node of least bound, or answers `None` if no node is open.
+    /// Takes the first node of least bound, or returns `None` if no node is open.
     pub(crate) fn pop(&mut self) -> Option<Node>
         ensures { IsNextOf result self.old self.new }
     {
@@ -207,7 +207,7 @@ impl BoundRow {
     }
 
     /// Drops the nodes whose bounds are at least `makespan`. If the row is as long as that, also frees the stacks that
-    /// `retire` took out: they were cut off behind the row, so their bounds are no less.
+    /// `retire` took out: they were cut off at the row's end, so their bounds are no less.
     pub(crate) fn keep_below(&mut self, makespan: u64)
         ensures { self.new ≡ nodes_below makespan self.old }
     {
@@ -239,7 +239,7 @@ impl BoundRow {
         Ok(())
     }
 
-    /// Answers the least of `makespan` and the bounds of the nodes.
+    /// Returns the least of `makespan` and the bounds of the nodes.
     pub(crate) fn least_bound(&self, makespan: u64) -> u64
         ensures { result ≡ least_of_bounds makespan self.now }
     {
@@ -250,7 +250,7 @@ impl BoundRow {
         makespan.min(first as u64)
     }
 
-    /// Answers how many nodes the row holds. Fails with `NoMemory` if they are 2^64 or more, which no memory holds.
+    /// Returns how many nodes the row holds. Fails with `NoMemory` if they are 2^64 or more, which no memory holds.
     pub(crate) fn count(&self) -> Result<usize, NoMemory>
         ensures count { IfOk result (λ n. n ≡ length self.now) }
         ensures too_many { OnErr result (2 ^ 64 ≤ length self.now) }
@@ -262,7 +262,7 @@ impl BoundRow {
         Ok(count)
     }
 
-    /// Tells whether the row holds no node.
+    /// Returns whether the row holds no node.
     pub(crate) fn is_empty(&self) -> bool
         ensures { result ≡ (length self.now == 0) }
     {

@@ -14,11 +14,11 @@ pub trait PieceSearch<'r>: Drop {
     /// The round whose pieces the searcher searches.
     ghost searched: { Self → Round };
 
-    /// Answers the round whose pieces the searcher searches.
+    /// Returns the round whose pieces the searcher searches.
     fn round(&self) -> &'r Round<'r>
         ensures { result.now ≡ searched self.now };
 
-    /// Searches piece `number` of the round, and answers its sheet. Fails with `NoMemory` if memory runs out.
+    /// Searches piece `number` of the round, and returns its sheet. Fails with `NoMemory` if memory runs out.
     fn search(&mut self, alloc: Global, number: usize) -> Result<Sheet<'r>, NoMemory>
         requires { number < length (searched self.old).pieces.items }
         ensures of { IfOk result (λ s. IsOf (told (searched self.old)) s × (s.number ≡ number)) }
@@ -31,8 +31,8 @@ pub trait Crew<R> {
     /// What a caller of `search` must prove: that threads may share values, or nothing if the crew has no threads.
     ghost ready: { Type 0 };
 
-    /// Searches the pieces of `round`, and may pass those behind one whose sheet's makespan equals the opening bound.
-    /// Answers one entry for each piece, in number order. Fails with `NoMemory` if memory runs out.
+    /// Searches the pieces of `round`, and may pass those after one whose sheet's makespan equals the opening bound.
+    /// Returns one entry for each piece, in number order. Fails with `NoMemory` if memory runs out.
     fn search<'r>(
         &mut self,
         rt: &R,

@@ -47,7 +47,7 @@ impl DistantNodes {
         self.counts.truncate(makespan as usize);
     }
 
-    /// Answers how many nodes are counted. Fails with `NoMemory` if they are 2^64 or more.
+    /// Returns how many nodes are counted. Fails with `NoMemory` if they are 2^64 or more.
     pub(crate) fn count(&self) -> Result<usize, NoMemory>
         ensures { (nodes : List Node) → HaveCounts self.now.counts.items nodes
             → IfOk result (λ n. n ≡ length nodes) × OnErr result (2 ^ 64 ≤ length nodes) }

@@ -49,7 +49,7 @@ impl<'r> Entry<'r> {
         }
     }
 
-    /// Answers the number of the entry's piece.
+    /// Returns the number of the entry's piece.
     pub fn number(&self) -> usize
         ensures { result ≡ number_of self.now.kind }
     {

@@ -96,7 +96,7 @@ impl KeptStack {
         Ok(())
     }
 
-    /// Takes the top node, or answers `None` if the stack is empty.
+    /// Takes the top node, or returns `None` if the stack is empty.
     pub(crate) fn pop(&mut self) -> Option<Node>
         ensures { IsNextOf result self.old self.new }
     {
@@ -113,7 +113,7 @@ impl KeptStack {
         self.leasts.retain(|least| least.bound < makespan);
     }
 
-    /// Answers the least of `makespan` and the bounds of the nodes.
+    /// Returns the least of `makespan` and the bounds of the nodes.
     pub(crate) fn least_bound(&self, makespan: u64) -> u64
         ensures { result ≡ least_of_bounds makespan self.now }
     {
@@ -123,14 +123,14 @@ impl KeptStack {
         }
     }
 
-    /// Answers how many nodes the stack holds.
+    /// Returns how many nodes the stack holds.
     pub(crate) fn len(&self) -> usize
         ensures { result ≡ length self.now }
     {
         self.nodes.len()
     }
 
-    /// Tells whether the stack is empty.
+    /// Returns whether the stack is empty.
     pub(crate) fn is_empty(&self) -> bool
         ensures { result ≡ (length self.now == 0) }
     {

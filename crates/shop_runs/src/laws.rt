@@ -1,4 +1,4 @@
-// Laws of rounds and of answers, stated over their definitions and not over code.
+// Laws of rounds and of returns, stated over their definitions and not over code.
 ghost use Rattle.shop_runs.specs.Laws.{PiecesAreAll, OpeningCovers, CutsCover, GatheringCovers};
 ghost use Rattle.shop_runs.specs.Laws.{RoundsKeepTheCover, CountsStaySmall};
 ghost use Rattle.shop_runs.specs.{Trust.AnswersAreTrustworthy, Exact.{SearchesEnd, MoreRoundsAreNoWorse, SolvedStays}};

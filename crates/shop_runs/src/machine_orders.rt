@@ -13,11 +13,11 @@ use std::alloc::{AllocError as NoMemory, Global};
 /// a trial, so the order matters less, and bounding words takes longer.
 const MOST_OPERATIONS: usize = 400;
 
-/// From the bounds of how many words the order is made, at most. More tell little more.
+/// The most words whose bounds make the order of machines. More words hardly change it.
 const MOST_WORDS: usize = 4;
 
-/// How many rounds are done before the one whose layout is made anew: its words tell more than the empty word, the only
-/// one of the first round.
+/// How many rounds are done before the one whose layout is made anew: its words rank machines better than the empty
+/// word, the only one of the first round.
 const ROUND_TO_REORDER: u64 = 1;
 
 /// Adds the one-machine bound of each machine after `word` to the machine's number in `keys`. No sum gets near 2^64,
@@ -39,7 +39,7 @@ fn add_bounds(
     Ok(())
 }
 
-/// Answers for each machine the sum of its one-machine bounds after some words of `pieces`, taken evenly. No sum
+/// Returns for each machine the sum of its one-machine bounds after some words of `pieces`, taken evenly. No sum
 /// has to be right. Fails with `NoMemory` if memory runs out.
 fn machine_keys(alloc: Global, instance: &Instance, pieces: &[Piece]) -> Result<Vec<u64>, NoMemory>
     requires { ArePieces instance.now pieces.now }
@@ -63,10 +63,10 @@ fn machine_keys(alloc: Global, instance: &Instance, pieces: &[Piece]) -> Result<
     Ok(keys)
 }
 
-/// Answers the layout of a round with these `pieces`, before which `rounds` rounds were done: the one in `kept`, or a
+/// Returns the layout of a round with these `pieces`, before which `rounds` rounds were done: the one in `kept`, or a
 /// new one if there is none. Up to `MOST_OPERATIONS` operations machines are ordered, and once more after the first
 /// round: a child is closed as soon as one machine's bound is too high, so the machines with the greatest bounds after
-/// words of `pieces` come first. The empty word, the only one of a run's first round, tells this less well than the
+/// words of `pieces` come first. The empty word, the only one of a run's first round, ranks machines less well than the
 /// words of the second. Fails with `NoMemory` if memory runs out.
 pub(crate) fn layout_for<'r>(
     alloc: Global,

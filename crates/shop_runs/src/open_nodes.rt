@@ -26,7 +26,8 @@ const MOST_FOR_AN_OPERATION: u64 = 128;
 /// as nodes come.
 const FEW_NODES: usize = 16;
 
-/// Tells whether open nodes of bounds below `makespan` may stand in a row, for an instance of `operations` operations.
+/// Returns whether open nodes of bounds below `makespan` may stand in a row, for an instance of `operations`
+/// operations.
 fn fits_row(makespan: u64, operations: usize) -> bool {
     makespan <= MOST_IN_ROW && makespan / MOST_FOR_AN_OPERATION <= operations as u64
 }
@@ -216,7 +217,7 @@ impl OpenNodes {
         Ok(())
     }
 
-    /// Takes the first node, or answers `None` if no node is open. Fails with `NoMemory` if memory runs out.
+    /// Takes the first node, or returns `None` if no node is open. Fails with `NoMemory` if memory runs out.
     fn pop(&mut self) -> Result<Option<Node>, NoMemory>
         ensures { IfOk result (λ n. HasPopped n self.old self.new) }
     {
@@ -288,7 +289,7 @@ impl OpenNodes {
         }
     }
 
-    /// Answers the least of `makespan` and the bounds of the open nodes.
+    /// Returns the least of `makespan` and the bounds of the open nodes.
     pub(crate) fn least_bound(&self, makespan: u64) -> u64
         ensures { result ≡ least_of_bounds makespan (open_list self.now) }
     {
@@ -299,7 +300,7 @@ impl OpenNodes {
         }
     }
 
-    /// Answers how many nodes are open. Fails with `NoMemory` if they are 2^64 or more, which no memory holds.
+    /// Returns how many nodes are open. Fails with `NoMemory` if they are 2^64 or more, which no memory holds.
     pub(crate) fn count(&self) -> Result<usize, NoMemory>
         ensures count { IfOk result (λ n. n ≡ length (open_list self.now)) }
         ensures too_many { OnErr result (2 ^ 64 ≤ length (open_list self.now)) }
@@ -311,7 +312,7 @@ impl OpenNodes {
         }
     }
 
-    /// Tells whether no node is open.
+    /// Returns whether no node is open.
     pub(crate) fn is_empty(&self) -> bool
         ensures { result ≡ (length (open_list self.now) == 0) }
     {

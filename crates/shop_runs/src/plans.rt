@@ -34,7 +34,7 @@ pub const ORDERS: [Order; 2] = [Order::Kept, Order::Bound];
 pub static ORDER_WORDS: [&str; 2] = ["kept", "bound"];
 
 impl Order {
-    /// Answers the word for the order on a command line.
+    /// Returns the word for the order on a command line.
     pub fn word(self) -> &'static str
         ensures { result.now ≡ order_word self }
     {
@@ -71,7 +71,7 @@ pub struct Plan {
 impl Plan {
     ghost use Rattle.shop_runs.specs.{Plans.IsPlanMadeOf, declared.plans.Order.TheVariants.Kept};
 
-    /// Makes a plan, or answers `None` if `rounds`, `budget` or `piece` is outside its limits.
+    /// Makes a plan, or returns `None` if `rounds`, `budget` or `piece` is outside its limits.
     pub fn ordered(rounds: u64, budget: u64, piece: usize, order: Order) -> Option<Plan>
         ensures within { IsPlanWithin rounds budget piece ↔ IsSome result }
         ensures plan { IfSome result (λ p. IsPlanMadeOf rounds budget piece order p) }
@@ -93,7 +93,7 @@ impl Plan {
         }
     }
 
-    /// Makes a plan of the order `Kept`, or answers `None` if `rounds`, `budget` or `piece` is outside its limits.
+    /// Makes a plan of the order `Kept`, or returns `None` if `rounds`, `budget` or `piece` is outside its limits.
     pub fn new(rounds: u64, budget: u64, piece: usize) -> Option<Plan>
         ensures within { IsPlanWithin rounds budget piece ↔ IsSome result }
         ensures plan { IfSome result (λ p. IsPlanMadeOf rounds budget piece Kept p) }
@@ -110,7 +110,7 @@ pub struct Workers {
 }
 
 impl Workers {
-    /// Answers `count` as a number of workers, or `None` if it isn't 1 to 64.
+    /// Returns `count` as a number of workers, or `None` if it isn't 1 to 64.
     pub fn new(count: usize) -> Option<Workers>
         ensures within { IsSome result ↔ ((0 < count) × (count ≤ MAX_WORKERS)) }
         ensures keeps { IfSome result (λ workers. workers.count ≡ count) }

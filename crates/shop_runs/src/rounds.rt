@@ -65,7 +65,7 @@ impl<'r> Round<'r> {
         Ok(round)
     }
 
-    /// Answers the layout of the instance, which all who search the pieces share.
+    /// Returns the layout of the instance, which all who search the pieces share.
     pub fn layout(&self) -> &Layout<'r>
         ensures { result.now.asked ≡ self.now.instance.now }
     {
@@ -73,7 +73,7 @@ impl<'r> Round<'r> {
     }
 }
 
-/// Answers an empty list: that of the last piece of `spare`, which keeps its memory, or a new one if there is none.
+/// Returns an empty list: that of the last piece of `spare`, which keeps its memory, or a new one if there is none.
 fn spare_list(alloc: Global, spare: &mut Vec<Piece>) -> Vec<Node>
     ensures { result.items ≡ [] }
 {

@@ -17,9 +17,9 @@ use std::alloc::{AllocError as NoMemory, Global};
 use std::mem;
 
 /// A run between two rounds: the best word and its makespan, the rounds done, the nodes counted, and the store of the
-/// open nodes, in the order in which the next round takes them. `distant` counts the open nodes behind those of the
+/// open nodes, in the order in which the next round takes them. `distant` counts the open nodes beyond those of the
 /// store, which no round that is left can take. `spare` has the pieces of the last round, whose lists the next round
-/// takes over.
+/// reuses.
 #[derive(Drop)]
 pub(crate) struct OpenRun {
     pub(crate) word: Word,
@@ -71,7 +71,7 @@ impl OpenRun {
     }
 
     /// Cuts the first open nodes off into at most 256 pieces, which take over the lists of the run's spare ones.
-    /// Answers the round of these pieces, without a rest. The run's word moves into the round: until `next` sets it
+    /// Returns the round of these pieces, without a rest. The run's word moves into the round: until `next` sets it
     /// again, the run has an empty one, and no spare pieces. The other open nodes stay. `layout_for` chooses the
     /// layout; `kept` is the last round's, if there was one. Fails with `NoMemory` if memory runs out; the run is then
     /// of no use.
@@ -110,9 +110,9 @@ impl OpenRun {
         Ok(round)
     }
 
-    /// Searches one more round. Answers the round's layout, which `layout_for` chose; `kept` is the last round's, if
+    /// Searches one more round. Returns the round's layout, which `layout_for` chose; `kept` is the last round's, if
     /// there was one. A row of stacks by bound keeps at least as many nodes as the rounds left can take and one more,
-    /// which tells the least bound at the end. Fails with `NoMemory` if memory runs out; the run is then of no use.
+    /// which has the least bound at the end. Fails with `NoMemory` if memory runs out; the run is then of no use.
     fn next<'r, R, C: Crew<R>>(
         &mut self,
         rt: &R,
@@ -192,7 +192,7 @@ pub struct Answer {
     pub open_nodes: usize,
     pub rounds: u64,
     pub nodes: u64,
-    /// kept so that a caller may forget it, where dropping each node would take time for nothing
+    /// kept so that a caller may leak it, if freeing each node would take time for nothing
     store: OpenNodes,
 }
 

@@ -57,7 +57,7 @@ impl Stack {
         Ok(())
     }
 
-    /// Answers how many words the stack holds. Fails with `NoMemory` if they are 2^64 or more, which no memory holds.
+    /// Returns how many words the stack holds. Fails with `NoMemory` if they are 2^64 or more, which no memory holds.
     pub(crate) fn count(&self) -> Result<usize, NoMemory>
         ensures count { IfOk result (λ n. n ≡ length (words_on self.now)) }
         ensures too_many { OnErr result (2 ^ 64 ≤ length (words_on self.now)) }
@@ -69,7 +69,7 @@ impl Stack {
         Ok(count)
     }
 
-    /// Takes the top word, if other words lie below it. Else answers `None` and changes nothing.
+    /// Takes the top word, if other words lie below it. Else returns `None` and changes nothing.
     pub(crate) fn pop_if_more(&mut self) -> Option<SharedWord>
         ensures { IsTopIfMore result (words_on self.old) (words_on self.new) }
     {
@@ -80,7 +80,7 @@ impl Stack {
         Some(mem::replace(&mut self.top, next))
     }
 
-    /// Answers the only word.
+    /// Returns the only word.
     pub(crate) fn into_last(self) -> SharedWord
         requires { length (words_on self) ≤ 1 }
         ensures { words_on self ≡ result ∷ [] }

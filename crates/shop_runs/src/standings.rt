@@ -6,8 +6,7 @@ use shop_model::{Instance, Word, start_word};
 use shop_nodes::Node;
 use std::alloc::{AllocError as NoMemory, Global};
 
-/// Where a search stands between two rounds: the best word and its makespan, the open nodes, the rounds done and the
-/// nodes counted.
+/// A search between two rounds: the best word and its makespan, the open nodes, the rounds done and the nodes counted.
 #[derive(Drop)]
 pub struct Standing {
     pub word: Word,

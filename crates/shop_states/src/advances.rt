@@ -44,8 +44,8 @@ pub(crate) fn set_next<L: StateLanes>(
 }
 
 /// Strikes the operation of `dispatch` out of the lanes of a word's state, or out of a copy of them, and raises the
-/// heads that its end delays. `next` has the word's next operations. Answers the bound of the extended word if it is
-/// below `range.limit`; then `set_next` completes its state. Else answers `None`. `range.least` is at most that bound,
+/// heads that its end delays. `next` has the word's next operations. Returns the bound of the extended word if it is
+/// below `range.limit`; then `set_next` completes its state. Else returns `None`. `range.least` is at most that bound,
 /// and at least the former word's bound and the operation's own span: how late the operation, and the others of its
 /// machine with their tails, end if it goes first.
 #[inline(always)]
@@ -85,7 +85,7 @@ pub(crate) fn advance_below<L: StateLanes>(
     Some(bound)
 }
 
-/// Makes `to` a copy of the state `from` in which the next operation of `job` is dispatched, and answers as
+/// Makes `to` a copy of the state `from` in which the next operation of `job` is dispatched, and returns as
 /// `advance_below` does. The dispatch is looked up before the copy. Next operations are copied last, and only if the
 /// bound of the extended word is below the limit: else `to` is no word's state.
 #[inline(always)]

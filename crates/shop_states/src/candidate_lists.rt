@@ -17,7 +17,7 @@ use crate::states::State;
 use shop_lanes::{Marks, StateLanes};
 use shop_layout::Grid;
 
-/// Appends the candidates of the marked `jobs` whose `own` is below `limit`, and answers how many jobs are left out.
+/// Appends the candidates of the marked `jobs` whose `own` is below `limit`, and returns how many jobs are left out.
 /// `owns[i]` is the own span of the operation at position `first` + `i`: how late it, and the others of its machine
 /// with their tails, end if it goes first. Own spans are one higher, like heads in lanes; `own` is not.
 #[inline(always)]
@@ -65,7 +65,7 @@ pub(crate) struct FirstEnd {
     pub end: u64,
 }
 
-/// Fills the empty list with the candidates of the conflict set in `blocks` whose `own` is below `limit`, and answers
+/// Fills the empty list with the candidates of the conflict set in `blocks` whose `own` is below `limit`, and returns
 /// how many jobs are left out. `owns` holds the own spans from the first of these blocks on. The set has a bit for each
 /// job, in `NUMBERS` numbers of 64 bits.
 #[inline(always)]
@@ -100,7 +100,7 @@ fn list_conflict_set<const NUMBERS: usize, L: StateLanes>(
     others
 }
 
-/// Finds the next operation that can end first. Answers `None` if no operation is left.
+/// Finds the next operation that can end first. Returns `None` if no operation is left.
 #[inline(always)]
 fn first_end<L: StateLanes>(state: &State<L>, grid: &Grid<L>) -> Option<FirstEnd>
     requires { CanGather L.GREATEST grid.now (rows_in L.StateLanes grid.now state.now.lanes) state.now.next.items }
@@ -123,7 +123,7 @@ fn first_end<L: StateLanes>(state: &State<L>, grid: &Grid<L>) -> Option<FirstEnd
     })
 }
 
-/// Replaces `candidates` by the jobs of the conflict set whose `own` is below `limit`. Answers how many are left out.
+/// Replaces `candidates` by the jobs of the conflict set whose `own` is below `limit`. Returns how many are left out.
 /// Lists a sole candidate with `own` 0, whatever `limit` is.
 #[inline(always)]
 pub(crate) fn list_candidates<L: StateLanes>(

@@ -1,4 +1,4 @@
-// Raises heads after an operation is dispatched, where the bound is known: nothing is noted.
+// Raises heads after an operation is dispatched whose child's bound is known: nothing is noted.
 ghost use Rattle.std.specs.Prelude.{◌≤◌, ◌<◌, [], length, slice_index};
 ghost use Rattle.shop_states.specs.inner.{LaidLanes.{RaisesIn, rows_in}, RaiseCalls.CanDelay};
 ghost use Rattle.shop_states.specs.inner.{Raises.{AreWaiting, IsOnMachine, IsPosition, IsRaisable}, RisingLists.IsIn};

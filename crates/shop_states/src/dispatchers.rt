@@ -21,7 +21,8 @@ const ABOVE_BOUNDS: u64 = 1 << 50;
 /// The least number of candidates whose children are bounded together. A sole child is only tried.
 const LEAST_TOGETHER: usize = 2;
 
-/// Answers where the bound of a word extended by `candidate` is sought, if `bound` is the bound of the word itself.
+/// Returns the range for the child's bound: from the greater of `bound`, the bound of the word itself, and the
+/// candidate's `own` up to `limit`.
 #[inline(always)]
 fn range_of(candidate: Candidate, bound: u64, limit: u64, ceilings: &[u64]) -> BoundRange
     ensures least { result.least ≡ max bound candidate.own }

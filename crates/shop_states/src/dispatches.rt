@@ -1,4 +1,4 @@
-// A dispatch of an operation: where the operation stands, when it ends, and which heads its end raises.
+// A dispatch of an operation: its position, when it ends, and which heads its end raises.
 ghost use Rattle.std.specs.Prelude.{◌≡◌, ◌≤◌, ◌+◌, length, min};
 ghost use Rattle.shop_states.specs.inner.{Advances.CanGoOn, Dispatches.{AreDelayedOn, IsDispatchOf}, LaidLanes.rows_in};
 ghost use Rattle.shop_states.specs.inner.Raises.{HasBlocks};
@@ -21,7 +21,7 @@ pub(crate) struct Dispatch {
     pub delayed: Marks,
 }
 
-/// Answers the block behind those that are marked at once from block `from` on, of blocks up to `behind` (excluded).
+/// Returns the block behind those that are marked at once from block `from` on, of blocks up to `behind` (excluded).
 #[inline(always)]
 pub(crate) fn marks_end(from: usize, behind: usize) -> usize
     requires { from ≤ behind }

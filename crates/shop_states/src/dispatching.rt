@@ -60,7 +60,7 @@ pub trait Dispatching<S: Drop>: Drop {
         ensures state { (w : List ℕ) → IsStateOf self.now w from.now → IsStateOf self.now w to.new }
         ensures slot { IsSlot self.now to.new };
 
-    /// Replaces `candidates` by the jobs of the conflict set with `own` below `limit`, in ascending order. Answers how
+    /// Replaces `candidates` by the jobs of the conflict set with `own` below `limit`, in ascending order. Returns how
     /// many jobs are left out. Never leaves out the only job of the set if the word's bound is below `limit`.
     fn list_candidates(
         &self,
@@ -84,8 +84,8 @@ pub trait Dispatching<S: Drop>: Drop {
         ensures { (w : List ℕ) → IsStateOf self.now w state.old
             → conflict (shop self.now) w ≡ job ∷ [] → IsStateOf self.now (w ++ job ∷ []) state.new };
 
-    /// Dispatches the next operation of `candidate.job`. Answers the bound of the extended word if it is below `limit`;
-    /// else answers `None`, and `state` is no word's state any more. `bound` is the bound of the former word.
+    /// Dispatches the next operation of `candidate.job`. Returns the bound of the extended word if it is below `limit`;
+    /// else returns `None`, and `state` is no word's state any more. `bound` is the bound of the former word.
     fn dispatch_below(
         &self,
         scratch: &mut Self::Scratch,
@@ -133,9 +133,9 @@ pub trait Dispatching<S: Drop>: Drop {
             → KnowsChild self.now scratch.new w j };
 
     /// Bounds all children of the word of `state` together, before any candidate is dispatched. `bound` is the bound of
-    /// that word, and `list_candidates` listed the candidates. Answers a number: if `bound` or the `own` of a candidate
-    /// is at least this number, the bound of the child is the greater of the two. Answers `None` where each child is to
-    /// be bounded alone. Uses up `room`, and leaves in `scratch` what `dispatch_child_in_copy` needs.
+    /// that word, and `list_candidates` listed the candidates. Returns a number: if `bound` or the `own` of a candidate
+    /// is at least this number, the bound of the child is the greater of the two. Returns `None` if each child is to be
+    /// bounded alone. Uses up `room`, and leaves in `scratch` what `dispatch_child_in_copy` needs.
     fn bound_children(
         &self,
         scratch: &mut Self::Scratch,
@@ -157,7 +157,7 @@ pub trait Dispatching<S: Drop>: Drop {
         ensures room { IsSlot self.now room.new }
         ensures scratch { IsScratch self.now scratch.new };
 
-    /// Dispatches the next operation of `candidate.job` in `to`, made a copy of `from`, and answers as `dispatch_below`
+    /// Dispatches the next operation of `candidate.job` in `to`, made a copy of `from`, and returns as `dispatch_below`
     /// does, in fewer steps, with what `bound_children` left in `scratch`.
     fn dispatch_child_in_copy(
         &self,
@@ -182,8 +182,8 @@ pub trait Dispatching<S: Drop>: Drop {
         ensures kept { (w : List ℕ) (j : ℕ) → KnowsChild self.now scratch.old w j
             → KnowsChild self.now scratch.new w j };
 
-    /// Dispatches the next operation of `candidate.job` where the bound of the extended word is known already, and so
-    /// bounds nothing.
+    /// Dispatches the next operation of `candidate.job`. The bound of the extended word is known already, so nothing is
+    /// bounded.
     fn dispatch_settled(&self, state: &mut S, candidate: Candidate)
         requires { IsOfSomeWord (λ w. IsStateOf self.now w state.old × IsCandidate self.now w candidate) }
         ensures state { (w : List ℕ) → IsStateOf self.now w state.old

@@ -46,7 +46,7 @@ fn fill_route<L: StateLanes>(
 }
 
 /// Sets the heads of the unplaced operations of `job`, which is ready at `ready` for its next leg, the one at `index`,
-/// and the end of the first of them. Answers the position of this one, or the number of positions if the job has none
+/// and the end of the first of them. Returns the position of this one, or the number of positions if the job has none
 /// left: then its end stays as it was.
 #[inline(always)]
 fn fill_job<L: StateLanes>(

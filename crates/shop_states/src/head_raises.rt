@@ -15,7 +15,7 @@ pub(crate) struct LaneRaise<N> {
     pub to: N,
 }
 
-/// Answers the raise of a machine on which no head was noted.
+/// Returns the raise of a machine on which no head was noted.
 #[inline(always)]
 pub(crate) fn no_raise<L: StateLanes>() -> LaneRaise<L::Number>
     ensures { raise_in L.value result ≡ nothing_raised L.GREATEST }
@@ -26,7 +26,7 @@ pub(crate) fn no_raise<L: StateLanes>() -> LaneRaise<L::Number>
     }
 }
 
-/// Answers the lesser of `number` and `other`, in the width of the lanes.
+/// Returns the lesser of `number` and `other`, in the width of the lanes.
 #[inline(always)]
 fn lesser<L: StateLanes>(number: L::Number, other: u64) -> L::Number
     requires { other ≤ L.GREATEST }
@@ -38,7 +38,7 @@ fn lesser<L: StateLanes>(number: L::Number, other: u64) -> L::Number
     number
 }
 
-/// Answers the greater of `number` and `other`, in the width of the lanes.
+/// Returns the greater of `number` and `other`, in the width of the lanes.
 #[inline(always)]
 fn greater<L: StateLanes>(number: L::Number, other: u64) -> L::Number
     requires { other ≤ L.GREATEST }

@@ -43,7 +43,7 @@ impl<const NUMBERS: usize> JobSet<NUMBERS> {
         self.numbers[index] |= 1 << (job % BITS);
     }
 
-    /// Answers the set as bits, 64 jobs to each number, lowest job first.
+    /// Returns the set as bits, 64 jobs to each number, lowest job first.
     #[inline(always)]
     pub(crate) fn numbers(&self) -> &[u64]
         ensures members { members 0 result.now ≡ self.now }

@@ -26,7 +26,7 @@ pub(crate) struct LaidLanes<'a, L: StateLanes> {
     pub grid: &'a Grid<'a, L>,
 }
 
-/// Answers the greatest of `least` and the spans of the machine with these `rows` from its heads above `raise.from` and
+/// Returns the greatest of `least` and the spans of the machine with these `rows` from its heads above `raise.from` and
 /// up to `raise.to`. The span from a head is the greatest end, tail included, of the operations with no lesser head,
 /// served by rank from that head on. May stop once the bound reaches `limit`. `each` is the number of the machine's
 /// blocks, or 0 if unknown.
@@ -51,7 +51,7 @@ pub(crate) fn span_of_rows<L: StateLanes>(
     L::bound_raised(rows, each, range, least, limit)
 }
 
-/// Tells whether the ceiling of `machine`, if it has one, is at most `most`.
+/// Returns whether the ceiling of `machine`, if it has one, is at most `most`.
 #[inline(always)]
 fn is_ceiling_within(ceilings: &[u64], machine: usize, most: u64) -> bool
     ensures { IsTrue result → (machine < length ceilings.now) × (slice_index ceilings.now machine ≤ most) }
@@ -59,7 +59,7 @@ fn is_ceiling_within(ceilings: &[u64], machine: usize, most: u64) -> bool
     machine < ceilings.len() && ceilings[machine] <= most
 }
 
-/// Answers the greatest of `range.least` and the spans, explained at `span_of_rows`, of the machines in `raised` from
+/// Returns the greatest of `range.least` and the spans, explained at `span_of_rows`, of the machines in `raised` from
 /// the heads within their raises. May stop once the bound reaches `range.limit`. Empties the raises. Skips a machine
 /// whose ceiling, if it has one, is at most the bound so far. All numbers of `range` and the answer are one more than
 /// the bounds that they stand for, like heads in lanes. The machines all have `each` blocks, or any numbers of blocks
@@ -122,7 +122,7 @@ pub(crate) fn take_any_spans<L: StateLanes>(
     }
 }
 
-/// Answers `span`, or `u64::MAX` if `span` reaches `limit`, since the pass may then have stopped early.
+/// Returns `span`, or `u64::MAX` if `span` reaches `limit`, since the pass may then have stopped early.
 #[inline(always)]
 pub(crate) fn kept_ceiling(span: u64, limit: u64) -> u64
     ensures { ((span < limit) × (result ≡ span)) ⊎ ((limit ≤ span) × (result ≡ 2 ^ 64 - 1)) }

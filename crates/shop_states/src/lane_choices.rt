@@ -38,7 +38,7 @@ fn gather_marked<const NUMBERS: usize, L: StateLanes>(
     }
 }
 
-/// Tells whether no operation but the one at `position` waits in blocks `first` up to `behind` (excluded) with a head
+/// Returns whether no operation but the one at `position` waits in blocks `first` up to `behind` (excluded) with a head
 /// below `limit`. Stays out of line: most machines have at most `MOST_MARKED` blocks, which were looked at before.
 #[inline(never)]
 fn is_alone_in<L: StateLanes>(
@@ -64,7 +64,7 @@ fn is_alone_in<L: StateLanes>(
     true
 }
 
-/// Tells whether no operation but the one at `position` waits in `blocks` with a head below `blocks.end`. Proofs rely
+/// Returns whether no operation but the one at `position` waits in `blocks` with a head below `blocks.end`. Proofs rely
 /// on true alone: a sole candidate that isn't seen costs time, and changes no answer.
 #[inline(always)]
 pub(crate) fn is_alone<L: StateLanes>(blocks: &ConflictBlocks, lanes: &L, position: usize) -> bool
@@ -80,7 +80,7 @@ pub(crate) fn is_alone<L: StateLanes>(blocks: &ConflictBlocks, lanes: &L, positi
     is_alone_in(lanes, blocks.to, blocks.behind, blocks.end, position)
 }
 
-/// Answers the conflict set that lies in `blocks`: the chosen job, and each job with an operation that waits there with
+/// Returns the conflict set that lies in `blocks`: the chosen job, and each job with an operation that waits there with
 /// a head below the end of the chosen one. Each of these operations is its job's next one, since no next operation can
 /// end earlier.
 #[inline(always)]

@@ -19,7 +19,7 @@ use std::alloc::{AllocError as NoMemory, Global};
 use std::marker::Model;
 
 /// How far noted heads rose on each machine, in a dispatch or where children are bounded together; empty between.
-/// `raise` answers the set of the machines with a raise, so that `take_bound` visits these machines alone.
+/// `raise` returns the set of the machines with a raise, so that `take_bound` visits these machines alone.
 #[derive(Drop)]
 pub struct MachineRaises<L: StateLanes> {
     /// raises[machine]: of the heads noted on that machine, the least value before they rose and the greatest after
@@ -53,7 +53,7 @@ impl<L: StateLanes> MachineRaises<L> {
     }
 
     /// Raises the heads that `dispatch` delays to its end, then every later head on their routes that is now too early.
-    /// Updates the ends of next operations. Notes how far the later heads rose, and answers the set of their machines.
+    /// Updates the ends of next operations. Notes how far the later heads rose, and returns the set of their machines.
     #[inline(always)]
     pub(crate) fn raise(
         &mut self,
@@ -89,10 +89,10 @@ impl<L: StateLanes> MachineRaises<L> {
         raised
     }
 
-    /// Answers the greatest of `range.least` and the spans of the machines in `raised` from their raised heads. The span
-    /// from a head is the greatest end, tail included, of the machine's operations with no lesser head, served by rank
-    /// from that head on. May stop once the bound reaches `range.limit`. Empties the raises. Skips a machine whose entry
-    /// in `range.ceilings`, if it has one, is at most one more than the bound so far.
+    /// Returns the greatest of `range.least` and the spans of the machines in `raised` from their raised heads. The
+    /// span from a head is the greatest end, tail included, of the machine's operations with no lesser head, served by
+    /// rank from that head on. May stop once the bound reaches `range.limit`. Empties the raises. Skips a machine whose
+    /// entry in `range.ceilings`, if it has one, is at most one more than the bound so far.
     #[inline(always)]
     pub(crate) fn take_bound(
         &mut self,
@@ -121,7 +121,7 @@ impl<L: StateLanes> MachineRaises<L> {
     }
 
     /// Raises heads on the routes behind the operations that wait on a late machine, as `siblings::raise_late` does.
-    /// Answers the set of machines on which heads rose.
+    /// Returns the set of machines on which heads rose.
     #[inline(always)]
     pub(crate) fn raise_late(
         &mut self,
@@ -147,7 +147,7 @@ impl<L: StateLanes> MachineRaises<L> {
     }
 
     /// Writes into `ceilings`, for each machine, one more than the greatest of `least` and its spans from the heads
-    /// within its raise, or `u64::MAX` where that reaches `limit`. Answers one less than the greatest of these numbers.
+    /// within its raise, or `u64::MAX` where that reaches `limit`. Returns one less than the greatest of these numbers.
     /// Empties the raises.
     #[inline(always)]
     pub(crate) fn take_ceilings(

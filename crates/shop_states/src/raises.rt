@@ -12,7 +12,7 @@ use shop_lanes::{Marks, StateLanes};
 use shop_layout::{Grid, Routes};
 use std::mem;
 
-/// The routes of an instance, and at which position each job's next operation stands after a word.
+/// The routes of an instance, and the position of each job's next operation after a word.
 #[derive(Drop)]
 pub(crate) struct OpenRoutes<'a> {
     pub routes: Routes<'a>,
@@ -20,10 +20,11 @@ pub(crate) struct OpenRoutes<'a> {
 }
 
 /// Raises the head at `position` to `end`, then every later head on its route that is now too early. Notes in `raises`
-/// how far each later head rose, and puts its machine into `raised`; what heads up to `end` bring on the machine of the
-/// dispatch, its candidate's `own` tells. Takes a step for each head that rises; the legs of a route lie side by side,
-/// so that no step waits until the one before it has read where the next operation stands. At the end of a route the
-/// head is the greatest number, and the raise stops. `FEW` says that there are at most 64 machines, see `see`.
+/// how far each later head rose, and puts its machine into `raised`; the first head isn't noted, since the candidate's
+/// `own` already covers heads up to `end` on the dispatch's machine. Takes a step for each head that rises. The legs of
+/// a route are side by side in memory, so that no step waits for the one before it to read the next position. At the
+/// end of a route the head is the greatest number, and the raise stops. `FEW` says that there are at most 64 machines,
+/// see `see`.
 #[inline(always)]
 pub(crate) fn raise_route<L: StateLanes, const FEW: bool>(
     lanes: &mut L,

@@ -31,7 +31,7 @@ pub(crate) struct Latest {
     pub second: u64,
 }
 
-/// Answers when the next operation of `job` ends if it goes first. The end is one higher, like heads in lanes.
+/// Returns when the next operation of `job` ends if it goes first. The end is one higher, like heads in lanes.
 #[inline(always)]
 fn end_of<L: StateLanes>(lanes: &L, routes: &Routes, next: &[u32], job: usize) -> u64
     requires { CanEnd L.GREATEST routes.now (L.heads lanes.now) next.now job }
@@ -107,7 +107,7 @@ fn raise_behind<L: StateLanes, const FEW: bool>(
 }
 
 /// The machine on which all candidates wait, and delay the other operations. It has blocks `from` up to `behind`
-/// (excluded); the candidates' operation that ends last stands at `last`, and `latest` tells when.
+/// (excluded). The candidates' operation that ends last is at position `last`, and ends at `latest.end`.
 #[derive(Clone, Copy)]
 pub(crate) struct LateMachine {
     pub from: usize,
@@ -120,8 +120,8 @@ pub(crate) struct LateMachine {
 /// until which candidates can delay it: at `late.latest.end` or, if it stands at `late.last`, at `late.latest.second`.
 /// Notes how far heads rose. No head of a child is then higher, except on that machine, where a head rises only behind
 /// another operation of its route. Marks up to eight blocks at once, and visits only what waits there and can begin
-/// before the latest end: behind all else, heads are late enough. Behind a marked head that rose before its turn they
-/// are, too. `FEW` says that there are at most 64 machines, see `see`.
+/// before the latest end: after all others, and after a marked head that rose before its turn, heads on routes are late
+/// enough. `FEW` says that there are at most 64 machines, see `see`.
 pub(crate) fn raise_late<L: StateLanes, const FEW: bool>(
     lanes: &mut L,
     raises: &mut [LaneRaise<L::Number>],
@@ -152,7 +152,7 @@ pub(crate) fn raise_late<L: StateLanes, const FEW: bool>(
     }
 }
 
-/// Answers the greatest of `bound` and the `own` of each candidate.
+/// Returns the greatest of `bound` and the `own` of each candidate.
 fn greatest_own(candidates: &[Candidate], bound: u64) -> u64 {
     candidates
         .iter()
@@ -162,7 +162,7 @@ fn greatest_own(candidates: &[Candidate], bound: u64) -> u64 {
 
 /// Finds a ceiling for each machine: a number that no span of a child exceeds there, whichever of the candidates is
 /// dispatched; on their own machine no span from after the dispatched operation's end, since `own` tells the others.
-/// Writes one more than each ceiling into `ceilings`. Answers the greatest ceiling, or a number above the `own` of each
+/// Writes one more than each ceiling into `ceilings`. Returns the greatest ceiling, or a number above the `own` of each
 /// candidate. `lanes` holds the heads of the word and is used up; `next` has its next operations.
 #[inline(never)]
 pub(crate) fn bound_children<L: StateLanes>(

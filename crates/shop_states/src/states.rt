@@ -4,7 +4,7 @@ use crate::machine_raises::MachineRaises;
 use shop_lanes::StateLanes;
 
 /// The state of a word: the head of each waiting operation, by position, and each job's next operation with its end.
-/// Heads and ends in lanes are one higher than the times that they stand for; a head of 0 says that nothing waits.
+/// Heads and ends in lanes are one higher than the times that they mean; a head of 0 says that nothing waits.
 #[derive(Drop)]
 pub struct State<L: StateLanes> {
     pub(crate) lanes: L,

@@ -20,7 +20,7 @@ pub const FORMATS: [Format; 3] = [Format::Orlib, Format::Taillard, Format::Route
 pub static FORMAT_WORDS: [&str; 3] = ["orlib", "taillard", "routes"];
 
 impl Format {
-    /// Answers the word for the format on a command line.
+    /// Returns the word for the format on a command line.
     pub fn word(self) -> &'static str
         ensures { result.now ≡ word_of self }
     {

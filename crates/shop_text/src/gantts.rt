@@ -11,7 +11,7 @@ use std::alloc::{AllocError as NoMemory, Global};
 /// The characters of jobs 0 to 61; all later jobs have `#`.
 const CHARACTERS: &[u8; 62] = b"0123456789ABCDEFGHIJKLMNOPQRSTUVWXYZabcdefghijklmnopqrstuvwxyz";
 
-/// Answers the character of job `j`.
+/// Returns the character of job `j`.
 fn character(j: usize) -> u8
     ensures { result ≡ character_of j }
 {
@@ -77,7 +77,7 @@ fn show_machine(cells: &mut [u8], unit: u64, machine: usize, instance: &Instance
     }
 }
 
-/// Answers for how many units of time a column stands: the least number with at most 72 columns.
+/// Returns how many units of time a column shows: the least number with at most 72 columns.
 fn unit(makespan: u64) -> u64
     ensures unit { result ≡ unit_of makespan }
     ensures some { 0 < result }

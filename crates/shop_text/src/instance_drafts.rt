@@ -93,7 +93,7 @@ fn released_job(alloc: Global, line: usize, machines: usize, row: &[u64]) -> Res
     Ok(Job { release, route })
 }
 
-/// Tells whether each time in `row` is at most `MAX_TIME`.
+/// Returns whether each time in `row` is at most `MAX_TIME`.
 fn are_times(row: &[u64]) -> bool
     ensures tested { result ≡ list_all (λ time. nat_le time MAX_TIME) row.now }
     ensures each { IsTrue result ↔ All (λ time. time ≤ MAX_TIME) row.now }
@@ -176,15 +176,15 @@ impl Draft {
         }
     }
 
-    /// Tells whether the size line is still to come.
+    /// Returns whether the size line is still to come.
     pub(crate) fn is_fresh(&self) -> bool
         ensures { result ≡ (self.now.jobs_wanted == 0) }
     {
         self.jobs_wanted == 0
     }
 
-    /// Tells whether `format` skips a text line at this place of the instance: before the size line, and in `taillard`
-    /// before each matrix.
+    /// Returns whether `format` skips a text line at this place of the instance: before the size line, and in
+    /// `taillard` before each matrix.
     pub(crate) fn skips_text(&self, format: Format) -> bool
         ensures { (rows : List Row) → IsDraft format self.now rows → result ≡ (grammar_of format).skips rows }
     {
@@ -195,7 +195,7 @@ impl Draft {
         }
     }
 
-    /// Tells whether the next row is one of times.
+    /// Returns whether the next row is one of times.
     fn wants_times(&self, format: Format) -> bool
         ensures { result ≡ wants_times format self.now.jobs_wanted (vec_len self.now.times) }
     {
@@ -223,7 +223,7 @@ impl Draft {
         }
     }
 
-    /// Adds `job`. If the job is the last one, answers the instance, and the draft is empty again. Fails with
+    /// Adds `job`. If the job is the last one, returns the instance, and the draft is empty again. Fails with
     /// `NoMemory` if memory runs out.
     fn push_job(&mut self, alloc: Global, job: Job) -> Result<Option<Instance>, ReadFault>
         requires some { 0 < self.old.jobs_wanted }
@@ -240,7 +240,7 @@ impl Draft {
         Ok(Some(Instance::of_jobs(self.machines, jobs).unwrap()))
     }
 
-    /// Reads the number line `row`. Answers the instance if this was its last row. Fails with the fault of the line, or
+    /// Reads the number line `row`. Returns the instance if this was its last row. Fails with the fault of the line, or
     /// with `NoMemory` if memory runs out.
     pub(crate) fn take_row(
         &mut self,

@@ -13,14 +13,14 @@ use crate::lines::{next_line, next_number, next_token};
 use crate::names::Named;
 use std::alloc::Global;
 
-/// Tells whether `token` has bytes from 33 to 126 alone, as a name does.
+/// Returns whether `token` has bytes from 33 to 126 alone, as a name does.
 fn is_name(token: &[u8]) -> bool
     ensures { result ≡ list_all is_visible token.now }
 {
     token.iter().all(|b| 33 <= *b && *b <= 126)
 }
 
-/// Answers the name in a line `instance NAME`; `None` if the line is another.
+/// Returns the name in a line `instance NAME`; `None` if the line is another.
 fn name_in(line: &[u8]) -> Option<&[u8]>
     ensures { MatchOption result (header_of (Words (tokens_of line.now)) ≡ None)
         (λ n. header_of (Words (tokens_of line.now)) ≡ Some n.now) }
@@ -34,7 +34,7 @@ fn name_in(line: &[u8]) -> Option<&[u8]>
     }
 }
 
-/// Answers the name that a text line gives to an instance in `format`; `None` if it gives none.
+/// Returns the name that a text line gives to an instance in `format`; `None` if it gives none.
 fn header_in(format: Format, line: &[u8]) -> Option<&[u8]>
     ensures { MatchOption result ((grammar_of format).header (Words (tokens_of line.now)) ≡ None)
         (λ n. (grammar_of format).header (Words (tokens_of line.now)) ≡ Some n.now) }
@@ -45,7 +45,7 @@ fn header_in(format: Format, line: &[u8]) -> Option<&[u8]>
     }
 }
 
-/// The instances read so far, the name of the last header behind them, and the draft of the next instance.
+/// The instances read so far, the name of the last header after them, and the draft of the next instance.
 #[derive(Drop)]
 struct Reader {
     format: Format,
@@ -119,7 +119,7 @@ impl Reader {
         self.take_numbers(alloc, line, numbers.as_slice())
     }
 
-    /// Answers the instances at the end of the text, whose last line has the number `last`. Fails if the text ends
+    /// Returns the instances at the end of the text, whose last line has the number `last`. Fails if the text ends
     /// inside an instance or has none.
     fn finish(self, last: usize) -> Result<Vec<Named>, ReadFault>
         requires { last ≤ MAX_TEXT }
@@ -136,7 +136,7 @@ impl Reader {
     }
 }
 
-/// Answers the number of lines before the first header, and the text from there on; 0 and the whole text if it has no
+/// Returns the number of lines before the first header, and the text from there on; 0 and the whole text if it has no
 /// header.
 fn from_first_header(format: Format, text: &[u8]) -> (usize, &[u8])
     requires { length text.now ≤ MAX_TEXT }

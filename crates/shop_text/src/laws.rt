@@ -39,7 +39,7 @@ pub fn some_table_reading()
     ensures { (shop : Shop) → SomeTable shop }
 {}
 
-/// `read_table` answers a schedule text that has a fault by this fault, unless memory runs out.
+/// `read_table` returns a schedule text that has a fault by this fault, unless memory runs out.
 pub fn table_faults_are_answered()
     ensures { (shop : Shop) → TableFaultIsAnswered shop }
 {}
@@ -49,7 +49,7 @@ pub fn columns_show_the_job()
     ensures { ShowsTheJob }
 {}
 
-/// A report, alone or with its Gantt text behind it, is a schedule text of just its table.
+/// A report, alone or followed by its Gantt text, is a schedule text of just its table.
 pub fn reports_are_schedules()
     ensures { ReportsAreSchedules }
 {}

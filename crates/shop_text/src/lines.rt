@@ -10,7 +10,7 @@ fn line_end(text: &[u8]) -> Option<usize>
     text.iter().position(|b| *b == b'\n')
 }
 
-/// Splits a text that isn't empty into its first line and the text behind the line.
+/// Splits a text that isn't empty into its first line and the text after the line.
 pub(crate) fn next_line(text: &[u8]) -> (&[u8], &[u8])
     requires { 0 < length text.now }
     ensures cut { lines_of text.now ≡ result.0.now ∷ lines_of result.1.now }
@@ -22,7 +22,7 @@ pub(crate) fn next_line(text: &[u8]) -> (&[u8], &[u8])
     }
 }
 
-/// Tells whether the byte `b` separates tokens.
+/// Returns whether the byte `b` separates tokens.
 fn is_between_tokens(b: u8) -> bool
     ensures { result ≡ is_separator b }
 {
@@ -58,7 +58,7 @@ pub(crate) fn next_token(line: &[u8]) -> Option<(&[u8], &[u8])>
 /// The most digits whose value is sure to be below 2^64.
 const SAFE_DIGITS: usize = 19;
 
-/// Answers the value of the digits at the front of `text`, or `u64::MAX` if that is less, and their number. Looks at
+/// Returns the value of the leading digits of `text`, capped at `u64::MAX`, and how many digits there are. Looks at
 /// each byte once, and sums the first 19 digits without a test of overflow.
 fn leading_digits(text: &[u8]) -> (u64, usize)
     ensures { AreLeadingDigits text.now result.0 result.1 }
@@ -84,7 +84,7 @@ fn leading_digits(text: &[u8]) -> (u64, usize)
     (value, text.len())
 }
 
-/// Answers the value of `token`, or `u64::MAX` if that is less; `None` if it is no number.
+/// Returns the value of `token`, or `u64::MAX` if that is less; `None` if it is no number.
 pub(crate) fn number_of(token: &[u8]) -> Option<u64>
     ensures { result ≡ number_in token.now }
 {
@@ -92,8 +92,8 @@ pub(crate) fn number_of(token: &[u8]) -> Option<u64>
     (digits == token.len()).then_some(value)
 }
 
-/// Reads the first token of a line: answers its value, or `None` if it is no number, and what follows the separator
-/// after it. Answers `None` alone if the line is blank. Reads a number, and finds its end, in one pass.
+/// Reads the first token of a line: returns its value, or `None` if it is no number, and what follows the separator
+/// after it. Returns `None` alone if the line is blank. Reads a number, and finds its end, in one pass.
 pub(crate) fn next_number(line: &[u8]) -> Option<(Option<u64>, &[u8])>
     ensures cut { MatchOption result (tokens_of line.now ≡ []) (λ t. IsNumberCut line.now t.0 t.1.now) }
     ensures shorter { MatchOption result (Unit {0}) (λ t. length t.1.now < length line.now) }

@@ -12,7 +12,7 @@ pub struct Named {
     pub instance: Instance,
 }
 
-/// Answers the first instance of the name, or the first one if no name is given. Fails with `NoSuchName` if no instance
+/// Returns the first instance of the name, or the first one if no name is given. Fails with `NoSuchName` if no instance
 /// has the name.
 pub fn pick<'t>(named: &'t [Named], name: Option<&str>) -> Result<&'t Named, ReadFault>
     requires { 0 < length named.now }

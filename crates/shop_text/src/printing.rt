@@ -9,7 +9,7 @@ use crate::reports::Report;
 use shop_model::Verdict;
 use std::alloc::{AllocError as NoMemory, Global};
 
-/// Answers the status of a report: `optimal` if no node is open, else `open`.
+/// Returns the status of a report: `optimal` if no node is open, else `open`.
 fn status(open_nodes: usize) -> &'static str
     ensures { result.now ≡ status_word open_nodes }
 {
@@ -43,7 +43,7 @@ fn write_job(out: &mut String, j: usize, starts: &[u64]) -> Result<(), NoMemory>
     writeln!(out)
 }
 
-/// Makes the text of `report`: what the search answers, and a line for each job with the starts of its steps. The
+/// Makes the text of `report`: what the search returns, and a line for each job with the starts of its steps. The
 /// status is `optimal` if no node is open, else `open`. Fails with `NoMemory` if memory runs out.
 pub fn report(alloc: Global, report: &Report) -> Result<Vec<u8>, NoMemory>
     requires { HasShape report.now.instance.now report.now.table.now }

@@ -1,7 +1,7 @@
 // Reports.
 use shop_model::{Instance, Table};
 
-/// What a report tells of a search: the instance and its name; the best table found, which has the instance's shape,
+/// What a report says of a search: the instance and its name; the best table found, which has the instance's shape,
 /// and its makespan; a lower bound on the makespan of all feasible tables; the number of open nodes; the rounds done,
 /// and the nodes counted in them.
 #[derive(Drop)]

@@ -9,7 +9,7 @@ use crate::lines::{next_line, next_number, next_token, number_of};
 use shop_model::{Instance, MAX_JOBS, MAX_START, Table};
 use std::alloc::{AllocError as NoMemory, Global};
 
-/// Answers the rest of a line behind its first token if this is `job`, else `None`.
+/// Returns the rest of a line after its first token if this is `job`, else `None`.
 fn after_job(line: &[u8]) -> Option<&[u8]>
     ensures { FollowsJob (tokens_of line.now) result }
 {
@@ -17,7 +17,7 @@ fn after_job(line: &[u8]) -> Option<&[u8]>
     (token == b"job".as_slice()).then_some(rest)
 }
 
-/// Tells whether `token` is the number of job `j` with a colon behind it.
+/// Returns whether `token` is the number of job `j` and a colon.
 fn names_job(j: usize, token: &[u8]) -> bool
     requires { j ≤ MAX_JOBS }
     ensures { result ≡ is_label j token.now }
@@ -26,7 +26,7 @@ fn names_job(j: usize, token: &[u8]) -> bool
     last > 0 && token[last] == b':' && number_of(&token[..last]) == Some(j as u64)
 }
 
-/// Reads the starts behind the label of a line; `None` unless they are `steps` starts and nothing else. Fails with
+/// Reads the starts after the label of a line; `None` unless they are `steps` starts and nothing else. Fails with
 /// `NoMemory` if memory runs out.
 fn starts_behind(alloc: Global, steps: usize, behind: &[u8]) -> Result<Option<Vec<u64>>, NoMemory>
     ensures { IfOk result (λ row. row_read row ≡ starts_of_tokens steps (tokens_of behind.now)) }
@@ -46,7 +46,7 @@ fn starts_behind(alloc: Global, steps: usize, behind: &[u8]) -> Result<Option<Ve
     Ok((starts.len() == steps).then_some(starts))
 }
 
-/// Reads the starts of job `j` from `behind`, the rest of a line behind the token `job`; `None` if this is no line of
+/// Reads the starts of job `j` from `behind`, the rest of a line after the token `job`; `None` if this is no line of
 /// job `j`. Fails with `NoMemory` if memory runs out.
 fn row_behind(
     alloc: Global,

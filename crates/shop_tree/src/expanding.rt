@@ -12,8 +12,8 @@ use shop_model::{SharedWord, Word};
 use shop_states::Dispatching;
 use std::alloc::{AllocError as NoMemory, Global};
 
-/// The most states that are taken back from other words for the children of a word. Where more children are tried and
-/// no state is left, those that are walked later have none.
+/// The most states that are taken back from other words for the children of a word. If more children are tried and no
+/// state is left, those that are walked later have none.
 const MOST_WANTED: usize = 3;
 
 impl<'a, D: Dispatching<S>, S: Drop> Walker<'a, D, S> {
@@ -55,8 +55,8 @@ impl<'a, D: Dispatching<S>, S: Drop> Walker<'a, D, S> {
     }
 
     /// Follows the one listed candidate to its child, puts an entry for the `closed` other children, if any, on the
-    /// stack, and answers the child's bound. If there is no other child, that is `bound`, the bound of the current
-    /// word. If the child is closed too, calls `close` for all children instead and answers `None`. Fails with
+    /// stack, and returns the child's bound. If there is no other child, that is `bound`, the bound of the current
+    /// word. If the child is closed too, calls `close` for all children instead and returns `None`. Fails with
     /// `NoMemory` if memory runs out.
     #[inline(always)]
     fn go_on(&mut self, bound: u64, closed: usize) -> Result<Option<u64>, NoMemory>

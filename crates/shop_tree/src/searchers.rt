@@ -128,11 +128,11 @@ impl<'l, 'a> LaneWalker<'l, 'a> {
     }
 }
 
-/// The number of bytes, roughly, that the states of all waiting children may take together: those of some 250 at 50 x
-/// 15, and of one at 1000 x 100.
+/// Roughly how many bytes the states of all waiting children may take together: some 250 states at 50 x 15, one at
+/// 1000 x 100.
 const ROOM: usize = 400 << 10;
 
-/// Answers how many bytes one number of a state takes in `layout`.
+/// Returns how many bytes one number of a state takes in `layout`.
 fn bytes_of_number(layout: &Layout) -> usize
     ensures few { result ≤ 8 }
     ensures some { 0 < result }

@@ -72,7 +72,7 @@ impl<D: Dispatching<S>, S: Drop> WalkStates<D, S> {
             .fill(&mut self.scratch, path, &mut self.current);
     }
 
-    /// Replaces `candidates` by the current word's candidates with `own` below `limit`. Answers how many are left out.
+    /// Replaces `candidates` by the current word's candidates with `own` below `limit`. Returns how many are left out.
     #[inline(always)]
     pub(crate) fn list_candidates(&mut self, limit: u64, candidates: &mut Vec<Candidate>) -> usize
         requires sound { HoldSlots D.Dispatching self.old }
@@ -100,7 +100,7 @@ impl<D: Dispatching<S>, S: Drop> WalkStates<D, S> {
         self.dispatcher.strike(&mut self.current, job);
     }
 
-    /// Dispatches `candidate` in the current state. Answers the child's bound if it is below `limit`; else answers
+    /// Dispatches `candidate` in the current state. Returns the child's bound if it is below `limit`; else returns
     /// `None`, and the current state is no word's state any more. `bound` is the bound of the word before the dispatch.
     #[inline(always)]
     pub(crate) fn dispatch_below(
@@ -119,7 +119,7 @@ impl<D: Dispatching<S>, S: Drop> WalkStates<D, S> {
             .dispatch_below(scratch, state, candidate, bound, limit)
     }
 
-    /// Answers how many states are spare or can still be allocated.
+    /// Returns how many states are spare or can still be allocated.
     pub(crate) fn free(&self) -> usize {
         self.spare.len().saturating_add(self.unmade)
     }
@@ -156,7 +156,7 @@ impl<D: Dispatching<S>, S: Drop> WalkStates<D, S> {
         Ok(())
     }
 
-    /// Answers a spare state, else a new one, else `None` if the walk may allocate no more. Fails with `NoMemory` if
+    /// Returns a spare state, else a new one, else `None` if the walk may allocate no more. Fails with `NoMemory` if
     /// memory runs out.
     #[inline(always)]
     fn spare_state(&mut self, alloc: Global) -> Result<Option<Box<S>>, NoMemory>
@@ -171,7 +171,7 @@ impl<D: Dispatching<S>, S: Drop> WalkStates<D, S> {
         self.new_state(alloc)
     }
 
-    /// Allocates a state; answers `None` if the walk may allocate no more. Fails with `NoMemory` if memory runs out.
+    /// Allocates a state; returns `None` if the walk may allocate no more. Fails with `NoMemory` if memory runs out.
     #[inline(never)]
     fn new_state(&mut self, alloc: Global) -> Result<Option<Box<S>>, NoMemory>
         requires sound { HoldSlots D.Dispatching self.old }
@@ -186,7 +186,7 @@ impl<D: Dispatching<S>, S: Drop> WalkStates<D, S> {
         Ok(Some(Box::new(alloc, self.dispatcher.slot(alloc)?)?))
     }
 
-    /// Takes out the trial's state, and puts a spare or new one in its place. Answers `None` if neither can be had.
+    /// Takes out the trial's state, and puts a spare or new one in its place. Returns `None` if neither can be had.
     /// Fails with `NoMemory` if memory runs out.
     pub(crate) fn take_trial(&mut self, alloc: Global) -> Result<Option<Box<S>>, NoMemory>
         requires sound { HoldSlots D.Dispatching self.old }

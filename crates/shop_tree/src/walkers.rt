@@ -168,7 +168,7 @@ impl<'a, D: Dispatching<S>, S: Drop> Walker<'a, D, S> {
         self.walk_stack(alloc)
     }
 
-    /// Walks the tree below each of `nodes` in order, as long as the budget lasts. Answers how many were taken. Fails
+    /// Walks the tree below each of `nodes` in order, as long as the budget lasts. Returns how many were taken. Fails
     /// with `NoMemory` if memory runs out.
     fn walk_nodes(&mut self, alloc: Global, nodes: &[Node]) -> Result<usize, NoMemory>
         requires nodes { AreNodes self.old.instance.now nodes.now }
@@ -199,7 +199,7 @@ impl<'a, D: Dispatching<S>, S: Drop> Walker<'a, D, S> {
         Ok(())
     }
 
-    /// Answers where the walk halted: the path to its current word and the waiting children; `None` if no child waits.
+    /// Returns where the walk halted: the path to its current word and the waiting children; `None` if no child waits.
     /// Fails with `NoMemory` if memory runs out.
     fn halt(&self, alloc: Global) -> Result<Option<Halt>, NoMemory>
         requires in_order { IsInOrder (stage_of self.now) }

@@ -61,7 +61,7 @@ impl<'r> Board<'r> {
         Ok((Board { table }, Seat { seat }))
     }
 
-    /// Answers how many pieces the round has.
+    /// Returns how many pieces the round has.
     pub fn pieces(&self) -> usize
         ensures { result ≡ length (hits_of self.now) }
     {
@@ -97,8 +97,8 @@ impl<'r> Board<'r> {
         Seat { seat }
     }
 
-    /// Claims `piece` in one atomic step. Answers true if this seat wins the piece: no other seat has won it or ever
-    /// will. Answers false if some seat won it before.
+    /// Claims `piece` in one atomic step. Returns true if this seat wins the piece: no other seat has won it or ever
+    /// will. Returns false if some seat won it before.
     pub fn claim(&self, seat: &mut Seat, piece: usize) -> bool
         requires seat { IsSeatOf self.now seat.old }
         requires piece { piece < length (hits_of self.now) }
@@ -109,7 +109,7 @@ impl<'r> Board<'r> {
         self.table.shared.swap::<Claim>(&mut seat.seat, piece, 1) == 0
     }
 
-    /// Reads the least number of a marked piece, or the number of pieces if none is marked. The answer is never above a
+    /// Reads the least number of a marked piece, or the number of pieces if none is marked. The result is never above a
     /// number that this seat read or marked before.
     pub fn look(&self, seat: &mut Seat) -> usize
         requires { IsSeatOf self.now seat.old }
@@ -137,7 +137,7 @@ impl<'r> Board<'r> {
             .fetch_min::<Mark>(&mut seat.seat, self.pieces(), piece as u64);
     }
 
-    /// Answers the least number of a piece whose sheet's makespan equals the opening bound, or the number of pieces if
+    /// Returns the least number of a piece whose sheet's makespan equals the opening bound, or the number of pieces if
     /// there is none. `seat` must have won all pieces, and marked each such piece, except those above the least number
     /// that it read or marked. For library callers: the program doesn't use `close`.
     pub fn close(self, seat: Seat) -> usize

@@ -26,7 +26,7 @@ impl Pool {
         Pool { pieces, next: 0 }
     }
 
-    /// Takes the number `next`, and raises `next` by one. If no number is left, answers `None` and changes nothing.
+    /// Takes the number `next`, and raises `next` by one. If no number is left, returns `None` and changes nothing.
     pub fn take(&mut self) -> Option<usize>
         ensures pieces { self.new.pieces ≡ self.old.pieces }
         ensures number { IfSome result (λ n. (n ≡ self.old.next) × (n < self.old.pieces)) }
@@ -43,7 +43,7 @@ impl Pool {
     }
 }
 
-/// Searches piece `number`, or passes it if `low` is lower, and answers its entry. Sets `low` to `number` if the
+/// Searches piece `number`, or passes it if `low` is lower, and returns its entry. Sets `low` to `number` if the
 /// piece's makespan equals the opening bound. Before the worker's first such piece, `low` is the number of pieces.
 fn search_or_pass<'r, P: PieceSearch<'r>, G: Gate>(
     alloc: Global,
@@ -74,7 +74,7 @@ fn search_or_pass<'r, P: PieceSearch<'r>, G: Gate>(
     Ok(Entry::done(round, sheet))
 }
 
-/// Searches the pieces whose numbers worker `worker` takes from `pool`, and answers their entries. Once one's makespan
+/// Searches the pieces whose numbers worker `worker` takes from `pool`, and returns their entries. Once one's makespan
 /// equals the opening bound, passes the worker's pieces of higher numbers. Fails with `NoMemory` if memory runs out.
 pub fn serve<'r, P: PieceSearch<'r>, R: Wait, G: Gate>(
     rt: &R,

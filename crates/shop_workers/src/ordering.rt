@@ -72,7 +72,7 @@ pub fn place_all<'r>(
     Ok(slots)
 }
 
-/// Answers the entry that a worker brought for piece `number`, or searches the piece if `brought` is `None`.
+/// Returns the entry that a worker brought for piece `number`, or searches the piece if `brought` is `None`.
 fn or_search<'r, P: PieceSearch<'r>>(
     alloc: Global,
     searcher: &mut P,
@@ -94,7 +94,7 @@ fn or_search<'r, P: PieceSearch<'r>>(
     }
 }
 
-/// Answers one entry for each piece of the searcher's round, in number order: takes it from the piece's place in
+/// Returns one entry for each piece of the searcher's round, in number order: takes it from the piece's place in
 /// `slots`, or searches the piece if the place is empty. Fails with `NoMemory` if memory runs out.
 pub fn complete<'r, P: PieceSearch<'r>>(
     alloc: Global,

@@ -1,4 +1,4 @@
-// Tells contracts which pieces of a round have a makespan equal to the opening bound.
+// For contracts: which pieces of a round have a makespan equal to the opening bound.
 use shop_runs::Round;
 use std::marker::Model;
 

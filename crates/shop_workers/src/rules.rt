@@ -1,4 +1,4 @@
-// For proofs: the law that a board keeps between any two steps, and what each step tells the seat that takes it.
+// For proofs: the law that a board keeps between any two steps, and what a seat learns from each step that it takes.
 ghost use Rattle.shop_workers.specs.{Moments.IsLawful, Moves.{newcomer, empty_handed, joined}};
 ghost use Rattle.shop_workers.specs.inner.Steps.{Claims, Looks, Marks, Recalls, spent};
 

@@ -10,7 +10,7 @@ use shop_runs::{Entry, PieceSearch};
 use std::alloc::{AllocError as NoMemory, Global};
 
 /// Reads the least number of a marked piece, then claims piece `number`. If the seat wins piece `number`, passes it if
-/// the number read is lower; else searches it, and marks it if its makespan equals the opening bound. Answers the entry
+/// the number read is lower; else searches it, and marks it if its makespan equals the opening bound. Returns the entry
 /// of piece `number`, or `None` if the seat didn't win it.
 fn claim_and_search<'r, P: PieceSearch<'r>, G: SeatGate>(
     alloc: Global,
@@ -47,7 +47,7 @@ fn claim_and_search<'r, P: PieceSearch<'r>, G: SeatGate>(
 }
 
 /// Claims each piece of the board in order. Searches a piece that the seat wins, or passes it if the board shows an
-/// earlier piece as marked. Marks a searched piece whose sheet's makespan equals the opening bound. Answers the entries
+/// earlier piece as marked. Marks a searched piece whose sheet's makespan equals the opening bound. Returns the entries
 /// of the pieces that the seat won in this call, in number order. Fails with `NoMemory` if memory runs out; the seat
 /// then keeps what it won. Waits only for the gate.
 pub fn claim_and_search_all<'r, P: PieceSearch<'r>, G: SeatGate>(

@@ -14,7 +14,7 @@ use std::alloc::{AllocError as NoMemory, Global};
 use std::mem;
 
 impl<D: Dispatching<S>, S: Drop> WalkStates<D, S> {
-    /// Dispatches `candidate` in the trial's state, and answers the child's bound if it is below `limit`. That state is
+    /// Dispatches `candidate` in the trial's state, and returns the child's bound if it is below `limit`. That state is
     /// a copy of the current one or, for the last trial, the current state itself, which the walk no longer needs.
     /// `bound` is the bound of the current word.
     fn try_candidate(
@@ -60,7 +60,7 @@ impl<D: Dispatching<S>, S: Drop> WalkStates<D, S> {
             .bound_children(scratch, &self.current, room, candidates, bound)
     }
 
-    /// Dispatches `candidate` in a copy of the current state, the trial's, after `bound_children`. Answers the child's
+    /// Dispatches `candidate` in a copy of the current state, the trial's, after `bound_children`. Returns the child's
     /// bound if it is below `limit`. `bound` is the bound of the current word.
     pub(crate) fn try_child(&mut self, candidate: Candidate, bound: u64, limit: u64) -> Option<u64>
         requires sound { HoldSlots D.Dispatching self.old }
@@ -77,7 +77,7 @@ impl<D: Dispatching<S>, S: Drop> WalkStates<D, S> {
     }
 
     /// Dispatches the candidate of `branching` with this `job`, whose child's bound is known already, in the current
-    /// state itself. Answers whether the current state is the child's now: false if no candidate has this job.
+    /// state itself. Returns whether the current state is the child's now: false if no candidate has this job.
     pub(crate) fn dispatch_settled(&mut self, job: u16, branching: &Branching<'_>) -> bool
         requires sound { HoldSlots D.Dispatching self.old }
         requires can { All (λ c. IsOfSomeWord (λ w. IsStateIn D.Dispatching self.old w
@@ -99,7 +99,7 @@ impl<D: Dispatching<S>, S: Drop> WalkStates<D, S> {
         false
     }
 
-    /// Puts `child`, whose state is the trial's, among its siblings on the stack, which lie from index `from` on. If no
+    /// Puts `child`, whose state is the trial's, among its siblings on the stack, those from index `from` on. If no
     /// state is spare and none may be allocated, first gives back that of the topmost sibling, if it has one and the
     /// child goes above it, so that it can take the trial's place: what is walked next then keeps a state. If no state
     /// can take that place, the child goes without one. Fails with `NoMemory` if memory runs out.
@@ -128,9 +128,9 @@ impl<D: Dispatching<S>, S: Drop> WalkStates<D, S> {
     }
 
     /// Tries each candidate of `branching`, and puts the children of its word with bounds below its limit on the stack:
-    /// by bound, then by job, the first on top, each with its state while there is room. Answers how many children are
+    /// by bound, then by job, the first on top, each with its state while there is room. Returns how many children are
     /// closed: those tried in vain, and the others without a listed candidate. Where all children are bounded together,
-    /// `settle_candidates` goes on in place of the trials. Fails with `NoMemory` if memory runs out.
+    /// `settle_candidates` goes on instead of the trials. Fails with `NoMemory` if memory runs out.
     #[inline(always)]
     pub(crate) fn try_candidates(
         &mut self,
@@ -156,7 +156,7 @@ impl<D: Dispatching<S>, S: Drop> WalkStates<D, S> {
         let from = stack.len();
         let depth = branching.word.len() as u32;
         let mut closed = branching.closed;
-        // Tries the last job first, so that of equal bounds the lower job lies above.
+        // Tries the last job first, so that of equal bounds the lower job is above.
         for index in (0..candidates.len()).rev() {
             let candidate = candidates[index];
             let is_last = index == 0;
@@ -205,10 +205,10 @@ impl<D: Dispatching<S>, S: Drop> WalkStates<D, S> {
 
     /// Does what `try_candidates` does, after `bound_children` answered `top`. A child is settled if the bound of
     /// `branching` or the candidate's `own` reaches `top`: the greater of the two is then its bound, as a trial would
-    /// find. A settled child with a bound below the limit goes on the stack without a trial and without a state. If one
-    /// ends on top, where it is walked next, it gets a state, by a dispatch in the current one; if the turn of another
-    /// comes, its state is filled from its word. Children that aren't settled are tried in copies, since the current
-    /// state is needed to the end. Fails with `NoMemory` if memory runs out.
+    /// find. A settled child with a bound below the limit goes on the stack without a trial and without a state. The
+    /// one on top, which is walked next, gets a state by a dispatch in the current one, if a state is free to take that
+    /// one's place; when the turn of another comes, its state is filled from its word. Children that aren't settled are
+    /// tried in copies, since the current state is needed to the end. Fails with `NoMemory` if memory runs out.
     #[inline(never)]
     pub(crate) fn settle_candidates(
         &mut self,
