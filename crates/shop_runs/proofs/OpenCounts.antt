@@ -1,6 +1,6 @@
 -- How many nodes a run counts: their number stays below 2^64, for each bound and in all.
 use Rattle.std.proofs.Common.{◌≡◌, ℕ, zero, suc, ◌+◌, ◌*◌, ◌^◌, ◌≤◌, ◌<◌, min, List, [], ◌∷◌, ◌++◌, length, take, drop, get_or}
-use Rattle.std.proofs.{Common.{refl, sym, ◌∙◌, ap, arith, ltb, append-nil}, lemmas.List.{length-append, length-map, length-drop}}
+use Rattle.std.proofs.{Common.{◌∙◌, ap, arith, ltb, append-nil}, lemmas.List.{length-append, length-map, length-drop}}
 use Rattle.std.specs.List.{flat_map}
 use Rattle.shop_model.specs.{Limits.IsWithinLimits, Shop.Shop}
 use Rattle.shop_nodes.specs.{declared.nodes.Node.Node, inner.HeldNodes.nodes_below, Nodes.words_of}
@@ -8,10 +8,10 @@ use Rattle.shop_runs.specs.{Answers.answer, Laws.IsStanding, Plans.Planned, Roun
 use Rattle.shop_runs.specs.Round.{words_of_round, in_order}
 use Rattle.shop_runs.specs.declared.{open_nodes.OpenNodes.OpenNodes, plans.Order.TheVariants.{Kept, Bound}, plans.Order.Order}
 use Rattle.shop_runs.specs.declared.{distant_nodes.DistantNodes.DistantNodes, outcomes.RoundResult.RoundResult}
-use Rattle.shop_runs.specs.{declared.runs.OpenRun.OpenRun, inner.Searches.{stand_of, IsRunAt, IsRunOf, HasFewOpen, front_of}}
+use Rattle.shop_runs.specs.{declared.runs.OpenRun.OpenRun, inner.Searches.{stand_of, IsRunAt, HasFewOpen, front_of}}
 use Rattle.shop_runs.specs.inner.{Distant.{count_of, FitBelow, AreCountable, ArePutOrCounted}, Outcomes.{IsOutcome, left_open}}
 use Rattle.shop_runs.specs.inner.{Stacks.put_all_before, Stores.{open_list, order_of}}
-use Rattle.shop_runs.proofs.{DistantLemmas.{count_append, count_few, count_below, count_within}, DistantLists.count_put}
+use Rattle.shop_runs.proofs.{DistantLemmas.{count_few, count_below, count_within}, DistantLists.count_put}
 use Rattle.shop_runs.proofs.{Cutting.pieces_all, FrontLemmas.length_order, NodeLemmas.below_is, OpenSizes.{answer_few, few_words, few_filtered, gathered_few, times_at_most, times_both}, Trusting.answer_covers, Ways.many}
 
 -- all open nodes of a run

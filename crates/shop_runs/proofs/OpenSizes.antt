@@ -8,7 +8,7 @@ use Rattle.shop_model.specs.Word.{Placing, placing, start_jobs}
 use Rattle.shop_bound.specs.{Bound.lb, Conflicts.{open_jobs, chosen_of, conflicts_with, conflict, conflict_among}}
 use Rattle.shop_nodes.specs.{Branching.branch, Walking.{Walk, walk, walk_within, operations_left, sheet, taking, unless_cut}}
 use Rattle.shop_runs.specs.{Plans.Planned, Round.{Stand, Told, taken_of, sheet_in, sheets_of, up_to_hit, best_word}}
-use Rattle.shop_runs.specs.Round.{after_round, words_of_round, words_below, in_order, gathered, cut_of, round, opening}
+use Rattle.shop_runs.specs.Round.{after_round, words_of_round, in_order, gathered, cut_of, round, opening}
 use Rattle.shop_runs.specs.{Answers.{unless_closed, rounds_from, answer}, inner.Searches.HasFewOpen, Limits.IsCountWithin}
 use Rattle.shop_runs.proofs.{Cutting.pieces_all, FrontLemmas.{length_order, sort_length}}
 
