@@ -1,6 +1,6 @@
 -- Open nodes that a run only counts: what is counted, and how they lie behind those that it stores.
 use Rattle.std.proofs.Common.{◌≡◌, ℕ, zero, suc, ◌+◌, ◌≤◌, min, ◌&&◌, inl, inr, List, [], ◌∷◌, ◌++◌, length, get_or}
-use Rattle.std.proofs.{Common.{refl, ◌∙◌, ap, arith, leb, ltb}, lemmas.Bool.{cases_lt, cases_eq, lt-ltb, le-ltb}}
+use Rattle.std.proofs.{Common.{refl, ◌∙◌, ap, arith, leb, ltb}, lemmas.Bool.{cases_Bool, cases_lt, cases_eq, lt-ltb, le-ltb}}
 use Rattle.std.proofs.lemmas.{Bool.{eq-eqb, ne_eqb}, List.Elements.filter-append}
 use Rattle.shop_nodes.specs.{declared.nodes.Node.Node, inner.HeldNodes.nodes_below}
 use Rattle.shop_runs.specs.inner.Distant.{count_of, nodes_within, HaveCounts}
@@ -58,3 +58,16 @@ beyond (x ∷ counts) (suc b) h = beyond counts b (omega arith)
 pub count_end : (counts : List ℕ) (ns : List Node) → HaveCounts counts ns
     → length (nodes_below (length counts) ns) ≡ length ns
 count_end counts ns have = ap length (all_counted (length counts) ns (λ b le. have b ∙ beyond counts b le))
+
+-- no count is greater than the number of nodes
+pub count_few : (b : ℕ) (ns : List Node) → count_of b ns ≤ length ns
+count_few b [] = omega arith
+count_few b (n ∷ ns) = grind (arith, cases_Bool, count_few b ns)
+
+pub count_below : (b c d : ℕ) (ns : List Node) → c ≤ d → count_of b (nodes_below c ns) ≤ length (nodes_below d ns)
+count_below b c d [] le = omega arith
+count_below b c d (n ∷ ns) le = grind (arith, cases_Bool, cases_lt, lt-ltb, le-ltb, count_below b c d ns le)
+
+pub count_within : (b a c : ℕ) (ns : List Node) → count_of b (nodes_within a c ns) ≤ length (nodes_below c ns)
+count_within b a c [] = omega arith
+count_within b a c (n ∷ ns) = grind (arith, cases_Bool, cases_lt, lt-ltb, le-ltb, count_within b a c ns)

@@ -66,7 +66,7 @@ count_insert : (b : ℕ) (n : Node) (ns : List Node)
 count_insert b n [] = refl
 count_insert b n (m ∷ ns) = grind (arith, cases_Bool, count_insert b n ns)
 
-count_put : (b : ℕ) (ns nodes : List Node) → count_of b (put_all_before Bound ns nodes)
+pub count_put : (b : ℕ) (ns nodes : List Node) → count_of b (put_all_before Bound ns nodes)
     ≡ count_of b ns + count_of b nodes
 count_put b [] nodes = grind arith
 count_put b (n ∷ ns) nodes = grind (arith, count_insert, count_put b ns nodes)

@@ -95,7 +95,7 @@ module _ (shop : Shop) where
   insert_length w [] = refl
   insert_length w (v ∷ ws) = grind (arith, cases_Bool, insert_length w ws)
 
-  sort_length : (ws : List (List ℕ)) → length (sort_by (lb shop) ws) ≡ length ws
+  pub sort_length : (ws : List (List ℕ)) → length (sort_by (lb shop) ws) ≡ length ws
   sort_length [] = refl
   sort_length (w ∷ ws) = insert_length w (sort_by (lb shop) ws) ∙ ap suc (sort_length ws)
 

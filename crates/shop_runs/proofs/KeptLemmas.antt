@@ -1,11 +1,11 @@
 -- The stack of the kept order: its least bounds.
 use Rattle.std.proofs.Common.{◌≡◌, ℕ, suc, ◌+◌, ◌-◌, ◌<◌, ◌≤◌, min, inl, inr, List, [], ◌∷◌, ◌++◌, length, get_or, take}
-use Rattle.std.proofs.{Common.{set, reverse, refl, sym, ◌∙◌, ap, arith, filter, ltb}, lemmas.Bool.{cases_eq, cases_lt}}
+use Rattle.std.proofs.{Common.{set, reverse, refl, sym, ◌∙◌, ap, subst, arith, filter, ltb}, lemmas.Bool.{cases_Bool, cases_eq, cases_lt}}
 use Rattle.std.proofs.lemmas.{Bool.{lt-ltb, le-ltb, eq-eqb, ne_eqb}, List.{reverse-append, take_more, take_more_set}}
-use Rattle.std.{proofs.lemmas.List.{take_all, length-set}, specs.List.AllByRecursion}
+use Rattle.std.{proofs.lemmas.List.{take_all, length-set, length-reverse}, specs.List.AllByRecursion}
 use Rattle.shop_nodes.specs.{declared.nodes.Node.Node, inner.HeldNodes.nodes_below}
 use Rattle.shop_runs.specs.{inner.NodeLists.least_of_bounds, declared.kept_stacks.Least.Least}
-use Rattle.shop_runs.specs.inner.KeptStacks.{with_bound, without_bound, leasts_of, AreLeasts}
+use Rattle.shop_runs.specs.inner.KeptStacks.{with_bound, without_bound, leasts_of, AreFewEach, AreLeasts}
 use Rattle.shop_runs.proofs.StoreLemmas.{least_min, below_reverse, filter-reverse}
 
 -- from the top down
@@ -183,3 +183,27 @@ pub still_popped : (nodes : List Node) (n : Node) (before after : List Least) �
 still_popped nodes n before after told is =
     is ∙ (ap (without_bound n.bound) (told ∙ ap leasts_of (top_first nodes n))
     ∙ taken_again n.bound (leasts_of (reverse nodes)))
+
+-- a bound has fewer others than there are nodes
+few_more : (n m : ℕ) (leasts : List Least) → n ≤ m → AreFewEach n leasts → AreFewEach m leasts
+few_more n m [] le few = tt
+few_more n m (l ∷ leasts) le few = ((let a = few.0 in omega arith), few_more n m leasts le few.1)
+
+few_with : (b n : ℕ) (leasts : List Least) → AreFewEach n leasts → AreFewEach (suc n) (with_bound b leasts)
+few_with b n [] few = (omega arith, tt)
+few_with b n (l ∷ leasts) few = grind (arith, cases_Bool, few_more n (suc n) leasts (omega arith))
+
+leasts_few : (ns : List Node) → AreFewEach (length ns) (leasts_of ns)
+leasts_few [] = tt
+leasts_few (n ∷ ns) = few_with n.bound (length ns) (leasts_of ns) (leasts_few ns)
+
+pub few_each : (nodes : List Node) (leasts : List Least) (n : ℕ) → AreLeasts nodes leasts → length nodes ≤ n
+    → AreFewEach n (reverse leasts)
+few_each nodes leasts n told le =
+    subst (AreFewEach n) (sym told) (few_more (length (reverse nodes)) n (leasts_of (reverse nodes))
+    (let a = length-reverse nodes in omega arith) (leasts_few (reverse nodes)))
+
+-- the last one, too
+pub last_few : (n : ℕ) (xs : List Least) (l : Least) → 0 < length xs → l ≡ get_or xs (length xs - 1) l
+    → AreFewEach n (reverse xs) → l.more < n
+last_few n xs l some is few = (subst (AreFewEach n) (last_first xs l some is) few).0

@@ -35,3 +35,5 @@ pub mod KeptLemmas
 pub mod FrontLemmas
 pub mod FrontCuts
 mod OrderWords
+pub mod OpenSizes
+pub mod OpenCounts

@@ -1,11 +1,12 @@
 -- Nodes that are put into a store or counted, one after the other from the last to the first.
-use Rattle.std.proofs.Common.{◌≡◌, ℕ, ◌+◌, min, List, [], ◌++◌, get_or, refl, sym, ◌∙◌, ap, subst, arith, ltb, ◌∷◌}
-use Rattle.std.proofs.{Common.append-nil, lemmas.List.Elements.filter-append}
+use Rattle.std.proofs.Common.{◌≡◌, ℕ, ◌+◌, ◌-◌, ◌<◌, ◌≤◌, min, List, [], ◌++◌, length, take, get_or, refl, sym, ◌∙◌, ap, subst, arith, ltb, ◌∷◌}
+use Rattle.std.proofs.{Common.append-nil, lemmas.List.{take_more, Elements.filter-append}}
 use Rattle.shop_nodes.specs.{declared.nodes.Node.Node, inner.HeldNodes.nodes_below}
 use Rattle.shop_runs.specs.declared.{distant_nodes.DistantNodes.DistantNodes, open_nodes.OpenNodes.OpenNodes}
 use Rattle.shop_runs.specs.{declared.plans.Order.TheVariants.Kept, inner.Distant.{count_of, nodes_within, AreAdded}}
-use Rattle.shop_runs.specs.inner.{Distant.ArePutOrCounted, Stacks.put_all_before, Stores.{open_list, order_of}}
-use Rattle.shop_runs.proofs.{DistantLemmas.{count_append, within_append, within_both}, StoreLemmas.put_append}
+use Rattle.shop_runs.specs.inner.{Distant.{IsCountable, FitBelow, ArePutOrCounted}, Stacks.put_all_before}
+use Rattle.shop_runs.specs.inner.Stores.{open_list, order_of}
+use Rattle.shop_runs.proofs.{DistantLemmas.{count_append, within_append, within_both, none_within}, StoreLemmas.put_append}
 use Rattle.shop_runs.proofs.StoreLemmas.{below_both}
 
 -- with the rest of the nodes, store and counts come to what they came to at first with all
@@ -47,6 +48,18 @@ module _ (c : ℕ) (all : List Node) (store : OpenNodes) (distant : DistantNodes
       here = step.put.1
           ∙ (λ i. put_all_before (left.order i) (nodes_below (min c (left.horizon i)) part) (open_list now))
 
+  -- if all fit, so does the part that is next
+  pub part_fits : (rest part : List Node) (now : OpenNodes) (counts : DistantNodes) → FitBelow c all distant
+      → IsLeftToPut c all store distant (rest ++ part) now counts → FitBelow c part counts
+  part_fits rest part now counts fits left = λ b. (
+      let e = left.counted b
+      in let f = fits b
+      in let g = ap (count_of b) (within_append distant.horizon c rest part)
+      ∙ count_append b (nodes_within distant.horizon c rest) (nodes_within distant.horizon c part)
+      in let h = ap (λ k. count_of b (nodes_within k c part)) left.horizon
+      in omega arith
+      )
+
   pub all_put : (now : OpenNodes) (counts : DistantNodes) → IsLeftToPut c all store distant [] now counts
       → ArePutOrCounted c all store distant now counts
   all_put now counts left = record {
@@ -71,6 +84,29 @@ own_put c own nodes store after distant later put =
       counted = subst (λ ns. AreAdded ns distant.counts.items later.counts.items)
           (sym (within_both distant.horizon c own nodes)) put.counted;
     }
+
+-- the last of the first nodes
+pub last_taken : (ns : List Node) (k : ℕ) (n : Node) → 0 < k → k ≤ length ns → n ≡ get_or ns (k - 1) n
+    → take k ns ≡ take (k - 1) ns ++ n ∷ []
+last_taken ns k n some within is =
+    let one : k ≡ k - 1 + 1 = omega arith
+    in ap (λ m. take m ns) one
+    ∙ (take_more ns (k - 1) n (omega arith) ∙ ap (λ m. take (k - 1) ns ++ m ∷ []) (sym is))
+
+pub own_fits : (c own : ℕ) (nodes : List Node) (distant : DistantNodes) → FitBelow c (nodes_below own nodes) distant
+    → FitBelow (min c own) nodes distant
+own_fits c own nodes distant fits =
+    λ b. subst (λ ns. IsCountable b (count_of b ns) distant.counts.items) (within_both distant.horizon c own nodes)
+    (fits b)
+
+-- where no node is counted all fit
+pub none_fit : (c : ℕ) (nodes : List Node) (distant : DistantNodes) → c ≤ distant.horizon
+    → ((b : ℕ) → get_or distant.counts.items b 0 ≡ 0) → FitBelow c nodes distant
+none_fit c nodes distant near none = λ b. (
+    let e = none b
+    in let f = ap (count_of b) (none_within distant.horizon c nodes near)
+    in omega arith
+    )
 
 put_kept : (ns nodes : List Node) → put_all_before Kept ns nodes ≡ ns ++ nodes
 put_kept [] nodes = refl

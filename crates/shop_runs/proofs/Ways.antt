@@ -6,17 +6,19 @@ use Rattle.shop_nodes.specs.{declared.nodes.Node.Node, Nodes.{words_of, AreNodes
 use Rattle.shop_runs.specs.{Plans.Planned, Round.{Stand, round, opening, cut_of}, Answers.answer, Runs.Says}
 use Rattle.shop_runs.specs.{Laws.{IsStanding, StandsCovering}, declared.runs.{Answer.Answer, OpenRun.OpenRun}}
 use Rattle.shop_runs.specs.inner.{Distant.HaveCounts, NodeLists.least_of_bounds, Searches.{stand_of, in_full}}
-use Rattle.shop_runs.specs.inner.{Searches.{IsSearchAt, IsRunAt, IsRunOf}, Stores.{open_list, order_of}}
+use Rattle.shop_runs.specs.inner.{Searches.{IsSearchAt, IsRunAt, IsRunOf, HasFewOpen}, Stores.{open_list, order_of}}
 use Rattle.shop_runs.proofs.Answering.{GoesTo, goes_first, goes_on, goes_closed, goes_last, says_search}
 use Rattle.shop_runs.proofs.{Counting.counts_small, Covering.{opens_covering, round_covers}, DistantLists.least_near}
 use Rattle.shop_runs.proofs.{DistantRuns.{list_is, order_is, whole, stored_enough}, FrontLemmas.search_of}
 use Rattle.shop_runs.proofs.{FrontLemmas.length_order, KeptBelow.all_below, Trusting.none_from}
+use Rattle.shop_runs.proofs.OpenSizes.{opening_few, round_few}
 
 -- a run on its way: it stands where the definition does, which covers the instance, and goes to the answer
 pub record OnTheWay (shop : Shop) (plan : Planned) (i : ℕ) (t : OpenRun) : Type 0 where
   pub stand : Stand
   pub at : IsRunAt shop plan stand t
   pub covering : StandsCovering shop stand
+  pub few : HasFewOpen shop stand
   pub goes : GoesTo shop plan i stand
   pub rounds : stand.rounds ≡ i
 
@@ -52,6 +54,7 @@ way_first shop plan t at horizon none = record {
   stand = opening shop;
   at = run_whole shop plan (opening shop) t at (opens_covering shop).0 horizon none;
   covering = opens_covering shop;
+  few = opening_few shop;
   goes = goes_first shop plan;
   rounds = refl;
 }
@@ -59,7 +62,7 @@ way_first shop plan t at horizon none = record {
 -- as many nodes are open as words where the run stands; some are stored, if any is open
 module _ (shop : Shop) (plan : Planned) (s : Stand) (t : OpenRun) (run : IsRunAt shop plan s t)
     (standing : IsStanding shop s) where
-  many : length (open_list t.open) + length run.distant ≡ length s.open_words
+  pub many : length (open_list t.open) + length run.distant ≡ length s.open_words
   many =
       let words = ap (λ (x : Stand). length x.open_words) run.at.stands_at
       in let mapped = length-map (open_list (in_full t run.distant).open) (λ (n : Node). n.word)
@@ -90,7 +93,7 @@ module _ (shop : Shop) (plan : Planned) (s : Stand) (t : OpenRun) (run : IsRunAt
 module _ (shop : Shop) (plan : Planned) (i : ℕ) (t : OpenRun) (way : OnTheWay shop plan i t) where
   -- a run on its way is a standing of the instance
   pub way_search : IsRunOf shop plan t
-  way_search = (way.stand, way.at, way.covering.0)
+  way_search = (way.stand, way.at, way.covering.0, way.few)
 
   pub way_closed : length (open_list t.open) ≡ 0 → IsRunAt shop plan (answer shop plan) t
   way_closed e = subst (λ x. IsRunAt shop plan x t)
@@ -107,6 +110,7 @@ module _ (shop : Shop) (plan : Planned) (i : ℕ) (t : OpenRun) (way : OnTheWay 
     stand = round shop plan way.stand;
     at = next way.stand way.at way.covering.0;
     covering = round_covers shop plan way.stand way.covering;
+    few = round_few shop plan way.stand way.few;
     goes = goes_on shop plan i way.stand way.goes h
         (let m = many shop plan way.stand t way.at way.covering.0 in omega arith);
     rounds = (counts_small (cut_of shop plan way.stand)).0 ∙ ap (λ k. k + 1) way.rounds;

@@ -3,7 +3,7 @@ ghost use Rattle.std.specs.Prelude.{◌≡◌, ◌==◌, ◌^◌, ◌<◌, ◌�
 ghost use Rattle.std.specs.Prelude.{IfOk, IfSome, OnOk, OnErr};
 ghost use Rattle.shop_nodes.specs.{Branching.insert_by, inner.HeldNodes.nodes_below};
 ghost use Rattle.shop_runs.specs.inner.BoundRows.{IsBehind, IsFirstFrom, StaysEmpty, TakesTop};
-ghost use Rattle.shop_runs.specs.inner.{Distant.{AreAdded, IsRetired}, NodeLists.least_of_bounds};
+ghost use Rattle.shop_runs.specs.inner.{Distant.{AreAdded, AreCountable, IsRetired}, NodeLists.least_of_bounds};
 ghost use Rattle.shop_runs.specs.inner.Stacks.{words_at, nodes_in_row, IsNextOf};
 
 use crate::distant_nodes::DistantNodes;
@@ -101,6 +101,7 @@ fn place_behind(
 
 /// Counts the words of the stacks from `from` on in `distant`. Fails with `NoMemory` if memory runs out.
 fn count_from(stacks: &[Place], from: usize, distant: &mut DistantNodes) -> Result<(), NoMemory>
+    requires { AreCountable (nodes_in_row from (drop from stacks.now)) distant.old }
     ensures horizon { distant.new.horizon ≡ distant.old.horizon }
     ensures added { OnOk result (AreAdded (nodes_in_row from (drop from stacks.now))
         distant.old.counts.items distant.new.counts.items) }
@@ -223,6 +224,7 @@ impl BoundRow {
     /// a node was put for each place and for every eighth node that the last call counted: so a call takes no longer,
     /// on average, than to put the nodes since the last one. Fails with `NoMemory` if memory runs out.
     pub(crate) fn retire(&mut self, most: usize, distant: &mut DistantNodes) -> Result<(), NoMemory>
+        requires { AreCountable self.old distant.old }
         ensures { OnOk result (IsRetired most self.old distant.old self.new distant.new) }
     {
         if self.wait > 0 {

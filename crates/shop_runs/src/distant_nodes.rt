@@ -10,9 +10,9 @@ pub(crate) struct DistantNodes {
 }
 
 impl DistantNodes {
-    ghost use Rattle.std.specs.Prelude.{◌≡◌, ◌^◌, ◌≤◌, [], List, take, length, IfOk, OnOk, OnErr};
+    ghost use Rattle.std.specs.Prelude.{◌≡◌, [], List, take, length, OnOk};
     ghost use Rattle.shop_nodes.specs.declared.nodes.Node.{Node};
-    ghost use Rattle.shop_runs.specs.inner.Distant.{HaveCounts, IsAdded};
+    ghost use Rattle.shop_runs.specs.inner.Distant.{HaveCounts, HaveFewCounts, IsCountable, IsAdded};
 
     /// Makes the record of no nodes from `horizon` on. Takes no memory.
     pub(crate) fn none(alloc: Global, horizon: u64) -> DistantNodes
@@ -25,9 +25,10 @@ impl DistantNodes {
         }
     }
 
-    /// Counts `count` nodes more of bound `bound`. Fails with `NoMemory` if memory runs out, or if the nodes of this
-    /// bound are 2^64 or more.
+    /// Counts `count` nodes more of bound `bound`, which are then fewer than 2^64. Fails with `NoMemory` if memory runs
+    /// out.
     pub(crate) fn add(&mut self, bound: u64, count: usize) -> Result<(), NoMemory>
+        requires { IsCountable bound count self.old.counts.items }
         ensures horizon { self.new.horizon ≡ self.old.horizon }
         ensures added { OnOk result (IsAdded bound count self.old.counts.items self.new.counts.items) }
     {
@@ -35,7 +36,7 @@ impl DistantNodes {
         while self.counts.len() <= index {
             self.counts.push(0)?;
         }
-        self.counts[index] = self.counts[index].checked_add(count).ok_or(NoMemory)?;
+        self.counts[index] += count;
         Ok(())
     }
 
@@ -47,15 +48,15 @@ impl DistantNodes {
         self.counts.truncate(makespan as usize);
     }
 
-    /// Returns how many nodes are counted. Fails with `NoMemory` if they are 2^64 or more.
-    pub(crate) fn count(&self) -> Result<usize, NoMemory>
-        ensures { (nodes : List Node) → HaveCounts self.now.counts.items nodes
-            → IfOk result (λ n. n ≡ length nodes) × OnErr result (2 ^ 64 ≤ length nodes) }
+    /// Returns how many nodes are counted: fewer than 2^64.
+    pub(crate) fn count(&self) -> usize
+        requires { HaveFewCounts self.now.counts.items }
+        ensures { (nodes : List Node) → HaveCounts self.now.counts.items nodes → result ≡ length nodes }
     {
-        let mut all = 0_usize;
+        let mut all = 0;
         for &count in &self.counts {
-            all = all.checked_add(count).ok_or(NoMemory)?;
+            all += count;
         }
-        Ok(all)
+        all
     }
 }

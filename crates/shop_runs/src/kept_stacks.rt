@@ -1,7 +1,7 @@
 // A stack of open nodes that knows the least of their bounds, for the order `Kept`.
-ghost use Rattle.std.specs.Prelude.{◌≡◌, ◌==◌, ◌∷◌, [], length, reverse, OnOk, OnErr};
+ghost use Rattle.std.specs.Prelude.{◌≡◌, ◌==◌, ◌^◌, ◌-◌, ◌∷◌, [], length, reverse, OnOk, OnErr};
 ghost use Rattle.shop_nodes.specs.inner.HeldNodes.{nodes_below};
-ghost use Rattle.shop_runs.specs.inner.{NodeLists.least_of_bounds, KeptStacks.{with_bound, without_bound}};
+ghost use Rattle.shop_runs.specs.inner.{NodeLists.least_of_bounds, KeptStacks.{with_bound, without_bound, AreFewEach}};
 ghost use Rattle.shop_runs.specs.inner.Stacks.{IsNextOf};
 
 use shop_nodes::{Node, SharedNode};
@@ -18,6 +18,7 @@ pub(crate) struct Least {
 /// Counts a node of `bound` that is put on a stack with these least bounds. Fails with `NoMemory` if memory runs out;
 /// then nothing has changed.
 fn count_put(leasts: &mut Vec<Least>, bound: u64) -> Result<(), NoMemory>
+    requires { AreFewEach (2 ^ 64 - 1) (reverse leasts.old.items) }
     ensures put { OnOk result (reverse leasts.new.items ≡ with_bound bound (reverse leasts.old.items)) }
     ensures same { OnErr result (leasts.new.items ≡ leasts.old.items) }
 {
@@ -26,7 +27,7 @@ fn count_put(leasts: &mut Vec<Least>, bound: u64) -> Result<(), NoMemory>
             return Ok(());
         }
         if least.bound == bound {
-            least.more = least.more.checked_add(1).ok_or(NoMemory)?;
+            least.more += 1;
             return Ok(());
         }
     }

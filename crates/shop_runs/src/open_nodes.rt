@@ -52,7 +52,7 @@ impl Drop for OpenNodes {
 
 impl OpenNodes {
     ghost use Rattle.shop_runs.specs.inner.Stores.{open_list, order_of, IsPut, IsTaken, IsKeptBelow, HasPopped};
-    ghost use Rattle.shop_runs.specs.inner.Distant.{ArePutOrCounted, IsRetired};
+    ghost use Rattle.shop_runs.specs.inner.Distant.{AreCountable, ArePutOrCounted, FitBelow, IsRetired};
     ghost use Rattle.shop_runs.specs.declared.plans.Order.TheVariants.{Kept};
 
     /// Makes an empty store, which will hold open nodes of bounds below `makespan` in `order`, of an instance of
@@ -96,7 +96,8 @@ impl OpenNodes {
         node: &Node,
         distant: &mut DistantNodes,
     ) -> Result<(), NoMemory>
-        requires { CanBeShared node.now.word }
+        requires word { CanBeShared node.now.word }
+        requires fits { FitBelow limit (node.now ∷ []) distant.old }
         ensures { OnOk result (ArePutOrCounted limit (node.now ∷ []) self.old distant.old self.new distant.new) }
     {
         if node.bound >= limit {
@@ -117,7 +118,8 @@ impl OpenNodes {
         nodes: &[Node],
         distant: &mut DistantNodes,
     ) -> Result<(), NoMemory>
-        requires { AreSharable nodes.now }
+        requires words { AreSharable nodes.now }
+        requires fits { FitBelow limit nodes.now distant.old }
         ensures { OnOk result (ArePutOrCounted limit nodes.now self.old distant.old self.new distant.new) }
     {
         let mut left = nodes.len();
@@ -139,7 +141,8 @@ impl OpenNodes {
         waiting: Waiting,
         distant: &mut DistantNodes,
     ) -> Result<(), NoMemory>
-        requires { IsWithin (arc_slice_items path.now) waiting }
+        requires within { IsWithin (arc_slice_items path.now) waiting }
+        requires fits { FitBelow limit (child_nodes (arc_slice_items path.now) waiting) distant.old }
         ensures { OnOk result (ArePutOrCounted limit (child_nodes (arc_slice_items path.now) waiting)
             self.old distant.old self.new distant.new) }
     {
@@ -165,7 +168,9 @@ impl OpenNodes {
         halt: &Halt,
         distant: &mut DistantNodes,
     ) -> Result<(), NoMemory>
-        requires { AreWithin (arc_slice_items halt.now.path) halt.now.waiting.items }
+        requires within { AreWithin (arc_slice_items halt.now.path) halt.now.waiting.items }
+        requires fits { FitBelow limit (stack_nodes (arc_slice_items halt.now.path) halt.now.waiting.items)
+            distant.old }
         ensures { OnOk result (ArePutOrCounted limit
             (stack_nodes (arc_slice_items halt.now.path) halt.now.waiting.items)
             self.old distant.old self.new distant.new) }
@@ -185,6 +190,7 @@ impl OpenNodes {
         left: &Left,
         distant: &mut DistantNodes,
     ) -> Result<(), NoMemory>
+        requires { FitBelow makespan (open_of left.now) distant.old }
         ensures { OnOk result (ArePutOrCounted makespan (open_of left.now) self.old distant.old self.new distant.new) }
     {
         let (own, halt, untaken) = left.parts();
@@ -208,6 +214,7 @@ impl OpenNodes {
         mut left: Vec<Left>,
         distant: &mut DistantNodes,
     ) -> Result<(), NoMemory>
+        requires { FitBelow makespan (left_open left.items) distant.old }
         ensures { OnOk result (ArePutOrCounted makespan (left_open left.entry.items)
             self.old distant.old self.new distant.new) }
     {
@@ -278,6 +285,7 @@ impl OpenNodes {
     // out of line, so that what it holds takes no stack while pieces are searched
     #[inline(never)]
     pub(crate) fn retire(&mut self, most: usize, distant: &mut DistantNodes) -> Result<(), NoMemory>
+        requires { AreCountable (open_list self.old) distant.old }
         ensures order { OnOk result (order_of self.new ≡ order_of self.old) }
         ensures retired { OnOk result (IsRetired most (open_list self.old) distant.old
             (open_list self.new) distant.new) }

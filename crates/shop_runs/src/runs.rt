@@ -131,6 +131,7 @@ impl OpenRun {
             → IsRunAt instance.now (planned plan.now) (next_round instance.now (planned plan.now) s) self.new) }
         ensures layout { IfOk result (λ l. l.asked ≡ instance.now) }
     {
+        instance.keeps_limits();
         let rounds_left = (plan.rounds - self.rounds - 1) as usize;
         let most = rounds_left * (MAX_PIECES * plan.piece) + 1;
         let round = self.cut(alloc, instance, kept, plan)?;
@@ -211,10 +212,11 @@ pub fn run<R, C: Crew<R>>(
     ensures trust { IfOk result (λ a. IsTrusted instance.now a) }
     ensures nodes { IfOk result (λ a. a.nodes < 2 ^ 50) }
 {
+    instance.keeps_limits();
     let end = OpenRun::at_end(rt, alloc, instance, plan, crew)?;
     let bound = end.open.least_bound(end.makespan);
-    let distant = end.distant.count()?;
-    let open_nodes = end.open.count()?.checked_add(distant).ok_or(NoMemory)?;
+    let stored = end.open.count()?;
+    let open_nodes = stored + end.distant.count();
     let table = place(alloc, instance, &end.word)?;
     Ok(Answer {
         word: end.word,

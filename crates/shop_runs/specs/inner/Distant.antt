@@ -2,6 +2,10 @@
 --     count_of b nodes                  how many of the nodes have bound b
 --     nodes_within a c nodes            those with bounds from a on that are below c
 --     HaveCounts counts nodes           of the nodes so many have each bound
+--     HaveFewCounts counts              of some nodes so many have each bound, and they are fewer than 2^64
+--     IsCountable b n counts            with n nodes of bound b more its count stays below 2^64
+--     AreCountable nodes distant        so do all counts with these nodes
+--     FitBelow c nodes distant          so do all counts with those of them from the horizon on and below c
 --     AreAdded nodes before after       the counts went up by these nodes
 --     IsAdded bound n before after      the counts went up by n nodes of one bound
 --     ArePutOrCounted c nodes ..        of these nodes those of bounds below c were put into the store, or counted if
@@ -9,7 +13,7 @@
 --     IsRetired most nodes ..           `most` nodes or more are kept and the others counted, or nothing is done
 --     AreDistant most c store ..        these nodes, which are counted, are open behind those of the store: the store
 --                                       has `most` or more, or the horizon isn't below the makespan c
-use Rattle.std.specs.Prelude.{◌≡◌, ℕ, ◌+◌, ◌≤◌, ◌<◌, ◌⊎◌, ◌==◌, ◌&&◌, nat_le, nat_lt, List, [], ◌∷◌, ◌++◌, length}
+use Rattle.std.specs.Prelude.{◌≡◌, ℕ, ◌+◌, ◌^◌, ◌≤◌, ◌<◌, ◌⊎◌, ◌==◌, ◌&&◌, nat_le, nat_lt, List, [], ◌∷◌, ◌++◌, length}
 use Rattle.std.specs.Prelude.{filter, get_or, min, if◌then◌else◌}
 use Rattle.std.specs.List.{AllByRecursion}
 use Rattle.shop_nodes.specs.{declared.nodes.Node.Node, inner.HeldNodes.nodes_below}
@@ -26,6 +30,18 @@ nodes_within a c nodes = filter (λ n. nat_le a n.bound && nat_lt n.bound c) nod
 
 abbrev pub HaveCounts : List ℕ → List Node → Type 0
 HaveCounts counts nodes = (b : ℕ) → count_of b nodes ≡ get_or counts b 0
+
+abbrev pub HaveFewCounts : List ℕ → Type 0
+HaveFewCounts counts = (nodes : List Node) × HaveCounts counts nodes × (length nodes < 2 ^ 64)
+
+abbrev pub IsCountable : ℕ → ℕ → List ℕ → Type 0
+IsCountable bound n counts = get_or counts bound 0 + n < 2 ^ 64
+
+abbrev pub AreCountable : List Node → DistantNodes → Type 0
+AreCountable nodes distant = (b : ℕ) → IsCountable b (count_of b nodes) distant.counts.items
+
+abbrev pub FitBelow : ℕ → List Node → DistantNodes → Type 0
+FitBelow c nodes distant = AreCountable (nodes_within distant.horizon c nodes) distant
 
 abbrev pub AreAdded : List Node → List ℕ → List ℕ → Type 0
 AreAdded nodes before after = (b : ℕ) → get_or after b 0 ≡ get_or before b 0 + count_of b nodes

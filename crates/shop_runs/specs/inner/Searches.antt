@@ -6,10 +6,11 @@
 --     in_full t distant                 run t, if it stored these nodes behind its own, too
 --     most_left plan i              one more than the nodes that the rounds behind the first i can take
 --     IsRunAt shop plan s t         run t, with some nodes behind its own, stands at s
---     IsRunOf shop plan t           and that is a standing of the instance
+--     HasFewOpen shop s             at most one word is open at first, and for each node taken one for each job
+--     IsRunOf shop plan t           and that is a standing of the instance with few open words
 --     front_of r                    the round without its rest
 --     IsFront shop plan t r others  r is the front of what is cut, the others its rest
-use Rattle.std.specs.Prelude.{◌≡◌, ℕ, ◌+◌, ◌-◌, ◌*◌, List, [], ◌++◌, drop}
+use Rattle.std.specs.Prelude.{◌≡◌, ℕ, ◌+◌, ◌-◌, ◌*◌, ◌≤◌, List, [], ◌++◌, length, drop}
 use Rattle.shop_model.specs.Shop.{Shop}
 use Rattle.shop_nodes.specs.{declared.nodes.Node.Node, Nodes.{words_of, AreNodes}}
 use Rattle.shop_runs.specs.{Round.{Stand, Told, in_order, makespan_of, cut_of}, Laws.IsStanding, Entries.told}
@@ -51,8 +52,11 @@ pub record IsRunAt (shop : Shop) (plan : Planned) (s : Stand) (t : OpenRun) : Ty
   pub are_distant : AreDistant (most_left plan t.rounds) t.makespan t.open t.distant distant
   pub at : IsSearchAt shop plan.order s (in_full t distant)
 
+abbrev pub HasFewOpen : Shop → Stand → Type 0
+HasFewOpen shop s = length s.open_words ≤ 1 + s.nodes * length shop.jobs
+
 abbrev pub IsRunOf : Shop → Planned → OpenRun → Type 0
-IsRunOf shop plan t = (s : Stand) × IsRunAt shop plan s t × IsStanding shop s
+IsRunOf shop plan t = (s : Stand) × IsRunAt shop plan s t × IsStanding shop s × HasFewOpen shop s
 
 abbrev pub front_of : Told → Told
 front_of r = record r { rest = [] }

@@ -1,4 +1,4 @@
-use Rattle.std.proofs.Common.{◌∙◌, arith}
+use Rattle.std.proofs.{Common.{refl, ◌∙◌, arith}, lemmas.Bool.eq-eqb}
 use Rattle.shop_runs.proofs.BoundRowLemmas.{count_behind}
 use Rattle.shop_runs.proofs.bound_rows.count_from.Goals as goal
 
@@ -12,3 +12,12 @@ loop-index-preserved c = record {
       in grind arith
       );
 }
+
+pub add-requires : goal.add-requires
+add-requires c =
+    let i = c.loop-index.index
+    in let e = c.loop-index.invariant.counts i
+    in let f = c.requires i
+    in let g = count_behind i i c.args.stacks.now c.index-stacks-index.result c.loop-index-test.true
+    in let h = eq-eqb i i refl
+    in grind arith

@@ -1,11 +1,29 @@
-use Rattle.std.{proofs.Common.{refl, ◌∙◌, ap, subst, arith}, specs.Prelude.unwrap_or}
+use Rattle.std.{proofs.Common.{get_or, refl, ◌∙◌, ap, subst, arith}, specs.Prelude.unwrap_or}
 use Rattle.shop_nodes.proofs.LeftLemmas.{can_be_shared}
-use Rattle.shop_runs.{specs.inner.{Distant.ArePutOrCounted, Outcomes.left_open}, proofs.GatheredLemmas.stands_gathered}
-use Rattle.shop_runs.proofs.{GatheredLemmas.{gathered_standing, gathered_covering}, PutLemmas.all_gathered}
+use Rattle.shop_runs.specs.inner.{Distant.{count_of, ArePutOrCounted}, Outcomes.left_open}
+use Rattle.shop_runs.proofs.GatheredLemmas.{stands_gathered, gathered_standing, gathered_covering}
+use Rattle.shop_runs.proofs.{DistantLemmas.none_within, PutLemmas.{all_gathered, none_fit}}
 use Rattle.shop_runs.proofs.outcomes.gather.Goals as goal
 
-pub put_nodes-requires : goal.put_nodes-requires
-put_nodes-requires c = grind (arith, can_be_shared)
+pub put_nodes-requires-clause-words : goal.put_nodes-requires-clause-words
+put_nodes-requires-clause-words c = grind (arith, can_be_shared)
+
+pub put_nodes-requires-clause-fits : goal.put_nodes-requires-clause-fits
+put_nodes-requires-clause-fits c = none_fit c.in_ok-found.field-0.makespan c.as_slice.result.now c.none-distant.result
+    (let e = c.none-distant.ensures.horizon in omega arith) (λ b. ap (λ xs. get_or xs b 0) c.none-distant.ensures.counts)
+
+pub put_left-requires : goal.put_left-requires
+put_left-requires c =
+    let o = c.in_ok-found.field-0
+    in let put = c.in_ok-put_nodes.ensures
+    in let first = c.none-distant.ensures.horizon
+    in let low = put.horizon
+    in none_fit o.makespan (left_open o.left.items) c.put_nodes.new.distant (omega arith) (λ b. (
+    let e = put.counted b
+    in let f = ap (λ xs. get_or xs b 0) c.none-distant.ensures.counts
+    in let g = ap (count_of b) (none_within c.none-distant.result.horizon o.makespan c.as_slice.result.now (omega arith))
+    in omega arith
+    ))
 
 pub returns-clause-gathered : goal.returns-clause-gathered
 returns-clause-gathered c =

@@ -1,8 +1,8 @@
-use Rattle.std.{proofs.Common.{take, drop, min, sym, ◌∙◌, ap, subst, arith}, specs.Prelude.IfSome}
+use Rattle.std.{proofs.Common.{◌≡◌, ◌+◌, take, drop, min, sym, ◌∙◌, ap, subst, arith}, specs.Prelude.IfSome}
 use Rattle.std.proofs.lemmas.Grind.{common_steps}
 use Rattle.shop_runs.specs.declared.distant_nodes.DistantNodes.{DistantNodes}
-use Rattle.shop_runs.specs.inner.{BoundRows.IsBehind, Distant.AreAdded, Distant.IsRetired, Stacks.nodes_in_row}
-use Rattle.shop_runs.proofs.BoundRowLemmas.{cut_empty, retired_row}
+use Rattle.shop_runs.specs.inner.{BoundRows.IsBehind, Distant.{count_of, IsCountable, AreAdded, IsRetired}, Stacks.nodes_in_row}
+use Rattle.shop_runs.proofs.{BoundRowLemmas.{cut_empty, retired_row, row_split}, DistantLemmas.count_append}
 use Rattle.shop_runs.proofs.bound_rows.BoundRow.retire.Goals as goal
 
 pub returns : goal.returns
@@ -34,3 +34,18 @@ invariant_of-self-in_err-set_aside c =
 
 pub invariant_of-self-2 : goal.invariant_of-self-2
 invariant_of-self-2 c = grind (arith, common_steps)
+
+pub count_from-requires : goal.count_from-requires
+count_from-requires c =
+    let os = c.self.inside.stacks.items
+    in let end = c.in-Some.end
+    in let counts = c.args.distant.now.counts.items
+    in λ b. subst (λ s. IsCountable b (count_of b (nodes_in_row end (drop end s))) counts)
+    (sym c.as_slice-2.ensures.value)
+    (let e = c.requires b
+    in let f = ap (count_of b) (sym c.self.view_is)
+    in let g = ap (count_of b) (row_split end 0 os)
+    in let h = count_append b (nodes_in_row 0 (take end os)) (nodes_in_row (0 + end) (drop end os))
+    in let same : 0 + end ≡ end = omega arith
+    in let k = ap (λ i. count_of b (nodes_in_row i (drop end os))) same
+    in omega arith)

@@ -1,7 +1,7 @@
 use Rattle.std.proofs.{Common.{◌≡◌, ◌++◌, [], Some, sym, ◌∙◌, ap, subst}, lemmas.Result.on_ok_weaker}
 use Rattle.shop_nodes.specs.inner.HeldNodes.{nodes_below, halted_nodes}
-use Rattle.shop_runs.{specs.inner.{Distant.ArePutOrCounted, Outcomes.open_of}, proofs.PutLemmas.{all_left, part_put}}
-use Rattle.shop_runs.proofs.PutLemmas.{all_put, own_put}
+use Rattle.shop_runs.specs.inner.{Distant.{FitBelow, ArePutOrCounted}, Outcomes.open_of}
+use Rattle.shop_runs.proofs.PutLemmas.{all_left, part_put, all_put, own_put, part_fits, own_fits}
 use Rattle.shop_runs.proofs.open_nodes.OpenNodes.put_open.Goals as goal
 
 pub returns-in-Some : goal.returns-in-Some
@@ -38,3 +38,33 @@ returns-in-None c =
     (own_put c.args.makespan own untaken c.args.self.now last.self c.args.distant.now last.distant
     (subst (λ m. ArePutOrCounted m untaken c.args.self.now c.args.distant.now last.self last.distant)
     c.min-limit.ensures c.in_ok-put_nodes.ensures))
+
+pub put_nodes-requires-clause-fits : goal.put_nodes-requires-clause-fits
+put_nodes-requires-clause-fits c =
+    let waiting = halted_nodes c.parts-own.result.1.now
+    in let untaken = c.parts-own.result.2.now
+    in let own = c.parts-own.result.0
+    in let nodes = waiting ++ untaken
+    in let whole = subst (λ m. FitBelow m nodes c.args.distant.now) (sym c.min-limit.ensures)
+    (own_fits c.args.makespan own nodes c.args.distant.now
+    (subst (λ ns. FitBelow c.args.makespan ns c.args.distant.now) c.parts-own.ensures.open c.requires))
+    in part_fits c.min-limit.result nodes c.args.self.now c.args.distant.now waiting untaken c.args.self.now
+    c.args.distant.now whole (all_left c.min-limit.result nodes c.args.self.now c.args.distant.now)
+
+pub put_waiting-requires-clause-fits : goal.put_waiting-requires-clause-fits
+put_waiting-requires-clause-fits c =
+    let waiting = halted_nodes (Some c.in-Some.halt)
+    in let untaken = c.parts-own.result.2.now
+    in let own = c.parts-own.result.0
+    in let nodes = waiting ++ untaken
+    in let store = c.args.self.now
+    in let distant = c.args.distant.now
+    in let limit = c.min-limit.result
+    in let then = c.put_nodes.new
+    in let words = c.parts-own.ensures.open ∙ ap (λ h. nodes_below own (halted_nodes h ++ untaken)) c.in-Some.is
+    in let whole = subst (λ m. FitBelow m nodes distant) (sym c.min-limit.ensures)
+    (own_fits c.args.makespan own nodes distant
+    (subst (λ ns. FitBelow c.args.makespan ns distant) words c.requires))
+    in part_fits limit nodes store distant [] waiting then.self then.distant whole
+    (part_put limit nodes store distant waiting untaken store then.self distant then.distant
+    (all_left limit nodes store distant) c.in_ok-put_nodes.ensures)

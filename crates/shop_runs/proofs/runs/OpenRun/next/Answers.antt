@@ -1,6 +1,7 @@
 use Rattle.std.proofs.Common.{◌≡◌, ◌+◌, ◌-◌, ◌*◌, ◌<◌, take, refl, ◌∙◌, ap, subst, arith}
 use Rattle.shop_runs.specs.{Plans.planned, inner.{Distant.IsRetired, Searches.most_left, Stores.open_list}}
-use Rattle.shop_runs.proofs.{DistantRuns.near_search, DistantRounds.run_next}
+use Rattle.shop_runs.{specs.Entries.told, proofs.{DistantRuns.near_search, DistantRounds.run_next}}
+use Rattle.shop_runs.proofs.OpenCounts.{put_fits, retire_fits}
 use Rattle.shop_runs.proofs.runs.OpenRun.next.Goals as goal
 
 pub cut-requires-clause-search : goal.cut-requires-clause-search
@@ -64,3 +65,23 @@ returns-clause-layout g c = grind arith
 
 pub invariant_of-self : goal.invariant_of-self
 invariant_of-self g c = grind arith
+
+pub put_left-requires : goal.put_left-requires
+put_left-requires g c =
+    let run = c.requires.search
+    in let o = c.in_ok-found.field-0
+    in put_fits c.args.instance.now (planned c.args.plan.now) run.0 c.args.self.now run.1 run.2 run.3
+    c.keeps_limits.ensures (told c.in_ok-round.round) o c.in_ok-round.ensures.front.round c.in_ok-found.ensures
+    c.keep_below-2.new.self
+    (c.keep_below-2.ensures.counts ∙ ap (λ d. take o.makespan d.counts.items) c.in_ok-round.ensures.distant)
+
+pub retire-requires : goal.retire-requires
+retire-requires g c =
+    let run = c.requires.search
+    in let o = c.in_ok-found.field-0
+    in let cut = c.in_ok-round.ensures.front
+    in retire_fits c.args.instance.now (planned c.args.plan.now) run.0 c.args.self.now run.1 run.2 run.3
+    c.keeps_limits.ensures (told c.in_ok-round.round) o cut.round c.in_ok-found.ensures c.keep_below-2.new.self
+    (c.keep_below-2.ensures.counts ∙ ap (λ d. take o.makespan d.counts.items) c.in_ok-round.ensures.distant)
+    c.cut.new.self.open c.keep_below.new.self c.put_left.new.self c.put_left.new.distant (256 * c.args.plan.now.piece)
+    cut.left c.in_ok-keep_below.ensures.1 c.in_ok-put_left.ensures

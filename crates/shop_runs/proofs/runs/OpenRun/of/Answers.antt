@@ -1,12 +1,16 @@
 use Rattle.std.proofs.Common.{◌≡◌, ◌++◌, min, get_or, sym, ◌∙◌, ap, subst, arith, append-nil}
 use Rattle.shop_nodes.{specs.{Nodes.{words_of, AreNodes}, inner.HeldNodes.nodes_below}, proofs.LeftLemmas.can_be_shared}
 use Rattle.shop_runs.specs.{Round.words_below, Standings.stands, inner.{Distant.count_of, Stacks.put_all_before}}
-use Rattle.shop_runs.{specs.inner.Stores.{open_list, order_of}, proofs.DistantLemmas.none_within}
+use Rattle.shop_runs.{specs.inner.Stores.{open_list, order_of}, proofs.{DistantLemmas.none_within, PutLemmas.none_fit}}
 use Rattle.shop_runs.proofs.{FrontLemmas.{IsInOrder, joined_at, none_in_order}, KeptBelow.{all_below, none_closed}}
 use Rattle.shop_runs.proofs.runs.OpenRun.of.Goals as goal
 
-pub put_nodes-requires : goal.put_nodes-requires
-put_nodes-requires c = grind (arith, can_be_shared)
+pub put_nodes-requires-clause-words : goal.put_nodes-requires-clause-words
+put_nodes-requires-clause-words c = grind (arith, can_be_shared)
+
+pub put_nodes-requires-clause-fits : goal.put_nodes-requires-clause-fits
+put_nodes-requires-clause-fits c = none_fit c.args.standing.makespan c.as_slice.result.now c.none-distant.result
+    (let e = c.none-distant.ensures.horizon in omega arith) (λ b. ap (λ xs. get_or xs b 0) c.none-distant.ensures.counts)
 
 pub returns-clause-at : goal.returns-clause-at
 returns-clause-at c =
