@@ -18,7 +18,7 @@ from pathlib import Path
 from given import FORMATS
 from texts import instance
 
-NO_MODULE = "no module jobshop is found: set PYTHONPATH to PREFIX/lib/jobshop of an install, or to library of a checkout"
+NO_MODULE = "there is no module jobshop: set PYTHONPATH to lib/jobshop of an install, or to library of a checkout"
 
 
 class Words(argparse.ArgumentParser):
