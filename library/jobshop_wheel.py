@@ -9,6 +9,7 @@ from pathlib import Path
 
 HERE = Path(__file__).resolve().parent
 MODULES = [HERE / "jobshop.py", HERE / "jobshop" / "__init__.py"]
+MAINS = [HERE / "jobshop_main.py", HERE / "jobshop" / "__main__.py"]
 LIBRARIES = [HERE / "out" / "libjobshop.so.1", HERE.parent / "libjobshop.so.1"]
 TAG = "py3-none-linux_x86_64"
 
@@ -34,6 +35,7 @@ def build_wheel(wheel_directory, config_settings=None, metadata_directory=None):
     folder, name = f"jobshop-{version}.dist-info", f"jobshop-{version}-{TAG}.whl"
     files = {
         "jobshop/__init__.py": first_of(MODULES).read_bytes(),
+        "jobshop/__main__.py": first_of(MAINS).read_bytes(),
         "jobshop/py.typed": b"",
         "jobshop/libjobshop.so.1": library.read_bytes(),
         f"{folder}/METADATA": f"Metadata-Version: 2.1\nName: jobshop\nVersion: {version}\nSummary: {about}\n".encode(),
