@@ -21,10 +21,10 @@
 #include <stddef.h>
 #include <stdint.h>
 
-/* The version of this header; `jobshop_version` returns that of the library. The number is 10000 times the first part
- * plus 100 times the second plus the third. */
-#define JOBSHOP_VERSION "1.2.0"
-#define JOBSHOP_VERSION_NUMBER 10200
+/* The version of this header; `jobshop_version` returns that of the library. Between two releases it is the next one,
+ * with "-dev" behind it. The number is 10000 times the first part plus 100 times the second plus the third. */
+#define JOBSHOP_VERSION "1.3.0-dev"
+#define JOBSHOP_VERSION_NUMBER 10300
 
 /* Room for any report but the bytes of the instance's name. The most is 1717852: 100000 starts of at most 16 digits,
  * each behind a blank; 9 bytes more for each of 1000 jobs; 86 for each of 100 lines of the Gantt text; and 9 other
@@ -88,7 +88,7 @@ typedef struct {
 
 #define JOBSHOP_DEFAULTS {1000, 100000, 1, JOBSHOP_KEPT, false}
 
-/* The version of the library, as "1.2.0". */
+/* The version of the library, as JOBSHOP_VERSION. */
 const char *jobshop_version(void);
 
 /* Lists the instances of a text, a line for each: name, jobs and machines. */

@@ -8,7 +8,9 @@ pub struct Help {
 }
 
 pub const PROGRAM: Help = Help {
-    about: "An exact solver of the job shop whose answers are proved",
+    about: "\
+An exact solver of the job shop whose answers are proved
+The version is the last line of jobshop --help.",
     end: "\
 Examples:
   jobshop solve ft06.txt > ft06.schedule
@@ -22,7 +24,7 @@ Exit status:
   4  a read or a write failed
   5  memory ran out
 
-jobshop 1.2.0",
+jobshop 1.3.0-dev",
 };
 
 pub const LIST: Help = Help {
