@@ -66,7 +66,6 @@ PLACES = [
     Place("docs/jobshop-formats.5", r'^(\.TH .*"jobshop )(.*)(")$'),
     Place("checks/words", r"^(jobshop )(\S+)()$"),
     Place("docs/GUIDE.md", r'()(?<="jobshop )(\S+)( \(sha256 )'),
-    Place("docs/GUIDE.md", r"^()(\d+\.\d+\.\d+\S*)()$"),
 ]
 
 
