@@ -1,4 +1,4 @@
-/* Judges a schedule of the first instance of a text: judge FILE SCHEDULE. Ends with 0 if it is feasible, else with 1. */
+/* Judges a schedule of the first instance of a text: judge FILE SCHEDULE. Ends with 0 if it is feasible, 1 if not. */
 #include <jobshop.h>
 #include <stdio.h>
 

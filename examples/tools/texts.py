@@ -17,7 +17,7 @@ def lines_of(text):
 
 
 def value(token):
-    """The value of a number, which may begin with zeros. With more than 16 digits after these it is over every limit."""
+    """The value of a number, which may begin with zeros; with more than 16 digits after them it is over every limit."""
     digits = token.lstrip(b"0") or b"0"
     if not token.isdigit() or len(digits) > 16:
         raise ValueError(f"{token[:40]!r} is no number, or over every limit")
