@@ -36,6 +36,7 @@ import threading
 from _thread import start_new_thread
 from collections.abc import Iterable
 from functools import partial
+from itertools import chain
 from pathlib import Path
 from queue import Empty, SimpleQueue
 from typing import NamedTuple, Optional, Union
@@ -226,7 +227,7 @@ def _name(name):
 def _whole(number, most, place, what):
     """A whole number of a list, from 0 to `most`; `place` is the job and perhaps the step."""
     try:
-        value = operator.index(number)
+        value = int(operator.index(number))
     except TypeError:
         raise TypeError(f"{_said(place)}: {what} {number!r} is no whole number") from None
     if not 0 <= value <= most:
@@ -263,27 +264,23 @@ def _starts(job, row):
 
 
 def _lines_of(rows):
-    """The text of a schedule whose rows are lists or tuples, as Python shows these: by far the fastest way. Of whole
-    numbers that is right; all else that has no starts in it is refused."""
-    return "".join([f"job {job}: {str(row)[1:-1].replace(',', '')}\n" for job, row in enumerate(rows)])
+    """The text of a schedule. Plain ints are written all at once, which is the fastest way."""
+    numbers = tuple(chain.from_iterable(rows))
+    if set(map(type, numbers)) - {int}:
+        return _lines_of([_starts(job, row) for job, row in enumerate(rows)])
+    return "".join([f"job {job}:{' %s' * len(row)}\n" for job, row in enumerate(rows)]) % numbers
 
 
 def _judge_rows(judge, schedule):
-    """What `judge` answers on the text of a schedule that is a list."""
+    """What `judge` says of a schedule that is a list."""
     rows = [row if type(row) in (list, tuple) else _starts(job, row) for job, row in enumerate(schedule)]
     try:
         return judge(*_bytes(_lines_of(rows)))
     except Refused as refused:
         if refused.kind != BAD_SCHEDULE:
             raise
-    # rows that Python shows in another way, as those of True, or that are faulty
-    rows = [_starts(job, row) for job, row in enumerate(rows)]
-    try:
-        return judge(*_bytes(_lines_of(rows)))
-    except Refused as refused:
-        if refused.kind != BAD_SCHEDULE:
-            raise
         job = refused.line - 1
+    rows = [_starts(job, row) for job, row in enumerate(rows)]
     if job < len(rows):
         fault = f"job {job}: {len(rows[job])} starts aren't one for each step, or there is no such job"
     else:
@@ -398,7 +395,8 @@ def check(
     of the first jobs. The schedule is a text with a line `job 0: 0 3` for each job, or a list with the starts of each
     job; without one the instance's text has these lines, too.
 
-    To judge many schedules of one instance, give the instance as a text: `routes` makes it of a list. SPEED"""
+    To judge many schedules of one instance, give the instance as a text: `routes` makes it of a list. A schedule that
+    is a text is judged two to three times as fast as a list."""
     number, instance = _instance(text, format, releases)
     call = partial(_answer, 256, [text, schedule], _library.jobshop_check, number, *_name(name), *instance)
     if _is_list(schedule):
