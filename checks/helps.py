@@ -12,9 +12,11 @@ ENTRY = re.compile(r"^ {2,}((?:\[|-)\S*(?:, --\S+)?(?: <\w+>)?) {2,}(.*)$")
 
 
 class Help(NamedTuple):
-    """What a command is for, how it is called, the lines of its parts by heading, and its text without one."""
+    """What a command is for, the lines below that, how it is called, the lines of its parts by heading, and its text
+    without one."""
 
     about: str
+    more: list
     usage: str
     parts: dict
     prose: list
@@ -26,9 +28,11 @@ class Help(NamedTuple):
 
 
 def help_of(*words):
-    about, _, usage, *lines = run([*words, "--help"]).err.decode().splitlines()
+    lines = run([*words, "--help"]).err.decode().splitlines()
+    first = lines.index("")
+    (about, *more), usage = lines[:first], lines[first + 1]
     parts, prose, heading = {}, [], None
-    for line in lines:
+    for line in lines[first + 2:]:
         found = HEADING.match(line)
         if found:
             heading = found[1]
@@ -40,7 +44,7 @@ def help_of(*words):
             parts[heading].append(line)
         else:
             prose.append(line)
-    return Help(about, usage.removeprefix("Usage: "), parts, [line for line in prose if line])
+    return Help(about, more, usage.removeprefix("Usage: "), parts, [line for line in prose if line])
 
 
 def version():

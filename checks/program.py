@@ -1,4 +1,4 @@
-"""The built program, and how the checks run it."""
+"""The built program, or the one that checks/run is given, and how the checks run it."""
 
 import os
 import subprocess
@@ -10,7 +10,8 @@ from typing import NamedTuple
 TOP = Path(__file__).resolve().parent.parent
 # the random instances of the measurements serve the checks too
 sys.path.append(str(TOP / "bench"))
-PROGRAM = TOP / "crates" / "jobshop" / "out" / "jobshop"
+BUILT = TOP / "crates" / "jobshop" / "out" / "jobshop"
+PROGRAM = Path(os.environ.get("JOBSHOP_PROGRAM", BUILT))
 SECONDS = 60
 
 CROSSING = "2 2\n0 3 1 2\n1 2 0 4\n"

@@ -6,9 +6,9 @@
  *
  * A caller owes:
  *   - each pointer leads to as many bytes as the length beside it, and nobody else writes there while a call runs;
- *   - `gantt` is 0 or 1: another byte isn't refused, and what it does isn't defined;
- *   - a call has 24 KB of stack, whatever the instance: a main thread has more unless its limit was lowered, a thread
- *     of the least size, 16 KB, is too small for a search;
+ *   - `gantt` is 0 or 1: any other byte is undefined behaviour;
+ *   - a call has 24 KB of stack, whatever the instance: a main thread has more unless its limit was lowered, but a
+ *     thread of the least size, 16 KB, has too little for a search;
  *   - no call is made in a signal handler, nor in the child of a fork of a process with threads: calls use malloc.
  *
  * A null pointer means an empty text, no name, no schedule, or the default options. A search can't be stopped, and may
@@ -21,14 +21,14 @@
 #include <stddef.h>
 #include <stdint.h>
 
-/* The version of this header; `jobshop_version` returns that of the library. The number is 10000 times the first part
- * plus 100 times the second plus the third. */
-#define JOBSHOP_VERSION "1.2.0"
-#define JOBSHOP_VERSION_NUMBER 10200
+/* The version of this header; `jobshop_version` returns that of the library. Between two releases it is the next one,
+ * with "-dev" behind it. The number is 10000 times the first part plus 100 times the second plus the third. */
+#define JOBSHOP_VERSION "1.3.0-dev"
+#define JOBSHOP_VERSION_NUMBER 10300
 
-/* Room for any report but the bytes of the instance's name. The most is 1717852: 100000 starts of at most 16 digits,
- * each behind a blank; 9 bytes more for each of 1000 jobs; 86 for each of 100 lines of the Gantt text; and 9 other
- * lines of at most 28. */
+/* As many bytes hold any report but the instance's name. The most is 1717852: 100000 starts of at most 16 digits, each
+ * after a blank; 9 bytes more for each of 1000 jobs; 86 for each of 100 lines of the chart; and 9 other lines of at
+ * most 28. */
 #define JOBSHOP_LONGEST_REPORT 1800000
 
 #ifdef __cplusplus
@@ -51,7 +51,7 @@ enum {
 /* How a call ended. 1 to 12 are the numbers of the refusals that the program prints; docs/FORMATS.md (man
  * jobshop-formats) explains them and the lines of a report. A room is written only if the status is JOBSHOP_DONE. */
 enum {
-    JOBSHOP_DONE = 0, /* also where a search ended open */
+    JOBSHOP_DONE = 0, /* also if a search ended open */
     JOBSHOP_NO_MEMORY = 1,
     JOBSHOP_TEXT_TOO_LONG = 3,
     JOBSHOP_NO_INSTANCE = 4,
@@ -88,7 +88,7 @@ typedef struct {
 
 #define JOBSHOP_DEFAULTS {1000, 100000, 1, JOBSHOP_KEPT, false}
 
-/* The version of the library, as "1.2.0". */
+/* The version of the library, as JOBSHOP_VERSION. */
 const char *jobshop_version(void);
 
 /* Lists the instances of a text, a line for each: name, jobs and machines. */

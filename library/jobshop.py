@@ -9,19 +9,22 @@
 
 This plan takes seconds up to some 50 x 15; the default plan of `solve` may take hours.
 
-A text is `str` or bytes, and never a path. Its format is "orlib" (the default), "taillard" or "routes". An instance may
-also be a list: for each job its steps in order, as pairs of machine (from 0) and time. (`routes` makes a text of such a
-list, with releases too.) A schedule is a text, or a list with the starts of each job. Times and releases are whole
-numbers from 0 to 1,000,000,000.
+A text is `str` or bytes, never a path. Its format is "orlib" (the default), "taillard" or "routes". An instance may
+also be a list: for each job its steps in order, as pairs of machine (from 0) and time. The keyword `releases` says when
+each job may begin; `routes` makes a text of such a list. A schedule is a text, or a list with the starts of each job.
+Times and releases are whole numbers from 0 to 1,000,000,000, starts from 0 to 10^15.
 
-    report = jobshop.solve([[(0, 3), (1, 2)], [(1, 2), (0, 4)]])
+    report = jobshop.solve([[(0, 3), (1, 2)], [(1, 2), (0, 4)]], releases=[0, 1])
 
-The text of a report and the line of a verdict are those that the program prints, byte for byte. A text that is refused
-raises `Refused`. A call keeps nothing, and lets other threads run.
+The text of a report and the line of a verdict are the ones that the program prints, byte for byte. A text that is
+refused raises `Refused`; a list in a wrong form raises TypeError or ValueError, with the job and the step. A call keeps
+nothing, and lets other threads run.
 
 Ctrl-C ends the wait for `solve` with KeyboardInterrupt, and a process that ends waits for no search. The search itself
 can't be stopped: it goes on in a thread of its own until it is done or Python ends. To stop a search while Python goes
 on, run the program `jobshop` instead.
+
+`python -m jobshop` runs `list`, `check` and `solve` as the program does, with one worker.
 
 The shared library is looked for beside this file, in a folder lib above it, or where JOBSHOP_LIBRARY says.
 """
@@ -32,6 +35,8 @@ import os
 import threading
 from _thread import start_new_thread
 from collections.abc import Iterable
+from functools import partial
+from itertools import chain
 from pathlib import Path
 from queue import Empty, SimpleQueue
 from typing import NamedTuple, Optional, Union
@@ -47,8 +52,12 @@ Starts = Iterable[Iterable[int]]
 TEXTS = (str, bytes, bytearray, memoryview)
 FORMATS = ("orlib", "taillard", "routes")
 ORDERS = ("kept", "bound")
+OUT_OF_MEMORY = 1
+BAD_SCHEDULE = 12
 TOO_SMALL = 100
 BAD_ARGUMENT = 101
+MOST_JOBS, MOST_STEPS, LAST_MACHINE = 1_000, 100, 99
+LONGEST_TIME, LATEST_START = 1_000_000_000, 10**15
 # JOBSHOP_LONGEST_REPORT of jobshop.h
 LONGEST_REPORT = 1_800_000
 HALF_A_SECOND = 0.5
@@ -68,8 +77,9 @@ WORDS = {
 
 
 class Refused(ValueError):
-    """A text is refused: `kind` is the number of the refusal and `line` its line, or None where it has none. The
-    message ends with a hint where a text is the path of a file."""
+    """A text is refused, or memory is missing (kind 1). `kind` is the number of the refusal and `line` its line, or
+    None if it has none. The message may end with a hint: that memory is missing, that a path was given in place of a
+    text, or which job of a list it is about."""
 
     def __init__(self, kind: int, line: Optional[int] = None, hint: str = "") -> None:
         self.kind = kind
@@ -103,7 +113,7 @@ class Fault(NamedTuple):
 
 class Verdict(NamedTuple):
     """The verdict of `check`: is the schedule feasible, and the line that the program prints, as `feasible 55`. As a
-    condition it is true where the schedule is feasible."""
+    condition it is true if the schedule is feasible."""
 
     is_feasible: bool
     line: str
@@ -130,7 +140,7 @@ class Verdict(NamedTuple):
 
 class Report(NamedTuple):
     """The report of `solve`: its text as the program prints it, and its numbers. No schedule ends before `bound`, and
-    where it `is_optimal` none before `makespan`; `starts` has those of each job's steps."""
+    if it `is_optimal` none before `makespan`; `starts` has the starts of each job's steps."""
 
     text: str
     name: str
@@ -187,10 +197,17 @@ _library = _load()
 __version__: str = _library.jobshop_version().decode()
 
 
+def _is_list(given):
+    """Is this a list, or anything else that gives one thing after another, but no text and no open file?"""
+    return isinstance(given, Iterable) and not isinstance(given, TEXTS) and not hasattr(given, "read")
+
+
 def _bytes(text):
     """A text and its length as a call takes them."""
     if not isinstance(text, TEXTS):
-        raise TypeError(f"a text is str or bytes, not {type(text).__name__}")
+        is_path, is_file = isinstance(text, os.PathLike), hasattr(text, "read")
+        advice = ": give path.read_bytes()" if is_path else ": give file.read()" if is_file else ""
+        raise TypeError(f"a text is str or bytes, not {type(text).__name__}{advice}")
     text = text.encode() if isinstance(text, str) else bytes(text)
     return text, len(text)
 
@@ -207,28 +224,90 @@ def _name(name):
     return name, length
 
 
-def _schedule(schedule):
-    """A schedule's text and its length as a call takes them; None is no schedule."""
-    if schedule is None:
-        return None, 0
-    if isinstance(schedule, Iterable) and not isinstance(schedule, TEXTS):
-        rows = (" ".join(str(operator.index(start)) for start in row) for row in schedule)
-        schedule = "".join(f"job {job}: {row}\n" for job, row in enumerate(rows))
-    return _bytes(schedule)
+def _whole(number, most, place, what):
+    """A whole number of a list, from 0 to `most`; `place` is the job and perhaps the step."""
+    try:
+        value = int(operator.index(number))
+    except TypeError:
+        raise TypeError(f"{_said(place)}: {what} {number!r} is no whole number") from None
+    if not 0 <= value <= most:
+        raise ValueError(f"{_said(place)}: {what} {value} is not 0 to {most}")
+    return value
 
 
-def _instance(text, format):
+def _said(place):
+    return " ".join(f"{word} {number}" for word, number in zip(("job", "step"), place))
+
+
+def _route(job, route):
+    """The machine and the time of each step of a job, one after another."""
+    if not _is_list(route):
+        raise TypeError(f"job {job}: its steps are a list of pairs of machine and time, not {route!r}")
+    numbers = []
+    for step, pair in enumerate(route):
+        try:
+            machine, time = pair
+        except (TypeError, ValueError):
+            raise TypeError(f"job {job} step {step}: {pair!r} is no pair of machine and time") from None
+        place = job, step
+        numbers += _whole(machine, LAST_MACHINE, place, "machine"), _whole(time, LONGEST_TIME, place, "time")
+    if len(numbers) > 2 * MOST_STEPS:
+        raise ValueError(f"job {job}: {len(numbers) // 2} steps are more than {MOST_STEPS}")
+    return numbers
+
+
+def _starts(job, row):
+    """The starts of a job, each looked at."""
+    if not _is_list(row):
+        raise TypeError(f"job {job}: its starts are a list of whole numbers, not {row!r}")
+    return [_whole(start, LATEST_START, (job, step), "start") for step, start in enumerate(row)]
+
+
+def _lines_of(rows):
+    """The text of a schedule. Plain ints are written all at once, which is the fastest way."""
+    numbers = tuple(chain.from_iterable(rows))
+    if set(map(type, numbers)) - {int}:
+        return _lines_of([_starts(job, row) for job, row in enumerate(rows)])
+    return "".join([f"job {job}:{' %s' * len(row)}\n" for job, row in enumerate(rows)]) % numbers
+
+
+def _judge_rows(judge, schedule):
+    """What `judge` says of a schedule that is a list."""
+    rows = [row if type(row) in (list, tuple) else _starts(job, row) for job, row in enumerate(schedule)]
+    try:
+        return judge(*_bytes(_lines_of(rows)))
+    except Refused as refused:
+        if refused.kind != BAD_SCHEDULE:
+            raise
+        job = refused.line - 1
+    rows = [_starts(job, row) for job, row in enumerate(rows)]
+    if job < len(rows):
+        fault = f"job {job}: {len(rows[job])} starts aren't one for each step, or there is no such job"
+    else:
+        fault = f"{len(rows)} rows of starts are fewer than the jobs"
+    raise Refused(BAD_SCHEDULE, None, f" ({fault})")
+
+
+def _instance(text, format, releases):
     """The number of a format, and an instance's text in it, with its length; a list of jobs is written as `routes`."""
     number = _number_of(format, FORMATS)
-    if isinstance(text, Iterable) and not isinstance(text, TEXTS):
-        text, number = routes(text), FORMATS.index("routes")
+    if _is_list(text):
+        text, number = routes(text, () if releases is None else releases), FORMATS.index("routes")
+    elif releases is not None:
+        raise TypeError("releases are for a list of jobs: a text has its own")
     return number, _bytes(text)
 
 
-def _hint(texts):
-    """What a refusal says besides, where a text is the path of a file."""
-    path = next((text for text in texts if isinstance(text, str) and os.path.isfile(text)), None)
-    return "" if path is None else f" ({path!r} is a file: give what it holds, not its path)"
+def _hint(kind, texts):
+    """What a refusal says besides: that memory is missing, or that a text is a path or has one line alone."""
+    if kind == OUT_OF_MEMORY:
+        return " (memory is missing, and no text is at fault)"
+    for text in (text for text in texts if isinstance(text, str)):
+        if os.path.isfile(text):
+            return f" ({text!r} is a file: give what it holds, not its path)"
+        if "\n" not in text and text.split()[:1] != ["job"]:
+            return f" ({text[:60]!r} has no line end: a text is wanted here, not a path or a name)"
+    return ""
 
 
 def _number_of(word, words):
@@ -238,15 +317,15 @@ def _number_of(word, words):
 
 
 def _answer(length, texts, call, *arguments):
-    """The outcome of a call on these texts and its answer, for which a room of this length is enough."""
+    """The outcome of a call on these texts and its answer, for which a buffer of this length is enough."""
     room = ctypes.create_string_buffer(length)
     outcome = call(*arguments, room, length)
     if outcome.status == BAD_ARGUMENT:
         raise ValueError("an option is out of range")
     if outcome.status == TOO_SMALL:
-        raise RuntimeError(f"the answer has {outcome.length} bytes, and its room {length}")
+        raise RuntimeError(f"the answer has {outcome.length} bytes, and its buffer {length}")
     if outcome.status:
-        raise Refused(outcome.status, outcome.line, _hint(texts))
+        raise Refused(outcome.status, outcome.line, _hint(outcome.status, texts))
     return outcome, ctypes.string_at(room, outcome.length).decode()
 
 
@@ -277,11 +356,17 @@ def _apart(call):
 def routes(jobs: Jobs, releases: Iterable[int] = ()) -> str:
     """The text of an instance in the format "routes": for each job its steps in order, as pairs of machine (from 0) and
     time. The releases are those of the first jobs, in order; each other job's is 0."""
-    rows = [[operator.index(number) for machine, time in route for number in (machine, time)] for route in jobs]
-    machines = 1 + max((machine for row in rows for machine in row[::2]), default=0)
-    earliest = [operator.index(release) for release in releases]
+    if not _is_list(jobs):
+        raise TypeError(f"the jobs are a list with a list of steps for each, not {type(jobs).__name__}")
+    rows = [_route(job, route) for job, route in enumerate(jobs)]
+    if not 1 <= len(rows) <= MOST_JOBS:
+        raise ValueError(f"{len(rows)} jobs are not 1 to {MOST_JOBS}")
+    if not _is_list(releases):
+        raise TypeError(f"the releases are a list of whole numbers, not {type(releases).__name__}")
+    earliest = [_whole(release, LONGEST_TIME, [job], "release") for job, release in enumerate(releases)]
     if len(earliest) > len(rows):
         raise ValueError(f"{len(earliest)} releases of {len(rows)} jobs")
+    machines = 1 + max((machine for row in rows for machine in row[::2]), default=0)
     earliest += [0] * (len(rows) - len(earliest))
     lines = (" ".join(map(str, [release, *row])) for release, row in zip(earliest, rows))
     return "\n".join([f"{len(rows)} {machines}", *lines, ""])
@@ -303,13 +388,21 @@ def check(
     *,
     name: Optional[Text] = None,
     format: str = "orlib",
+    releases: Optional[Iterable[int]] = None,
 ) -> Verdict:
     """Judges a schedule of the text's first instance, or of the one with this name; the format is "orlib", "taillard"
-    or "routes". The instance may also be a list of jobs, each a list of pairs of machine and time. The schedule is a
-    text with a line `job 0: 0 3` for each job, or a list with the starts of each job; without one the instance's text
-    has these lines, too. Times and starts are whole numbers, starts up to 10^15."""
-    given, (number, instance) = [text, schedule], _instance(text, format)
-    outcome, line = _answer(256, given, _library.jobshop_check, number, *_name(name), *instance, *_schedule(schedule))
+    or "routes". The instance may also be a list of jobs, each a list of pairs of machine and time, with the `releases`
+    of the first jobs. The schedule is a text with a line `job 0: 0 3` for each job, or a list with the starts of each
+    job; without one the instance's text has these lines, too.
+
+    To judge many schedules of one instance, give the instance as a text: `routes` makes it of a list. A schedule that
+    is a text is judged two to three times as fast as a list."""
+    number, instance = _instance(text, format, releases)
+    call = partial(_answer, 256, [text, schedule], _library.jobshop_check, number, *_name(name), *instance)
+    if _is_list(schedule):
+        outcome, line = _judge_rows(call, schedule)
+    else:
+        outcome, line = call(*((None, 0) if schedule is None else _bytes(schedule)))
     return Verdict(outcome.feasible, line.rstrip("\n"))
 
 
@@ -323,24 +416,26 @@ def solve(
     gantt: bool = False,
     name: Optional[Text] = None,
     format: str = "orlib",
+    releases: Optional[Iterable[int]] = None,
 ) -> Report:
     """Searches for a schedule of least makespan, with one worker, and reports the best one found with a proved lower
     bound. The instance is the text's first one, or the one with this name; the format is "orlib", "taillard" or
-    "routes". It may also be a list of jobs, each a list of pairs of machine and time.
+    "routes". It may also be a list of jobs, each a list of pairs of machine and time, with the `releases` of the first
+    jobs; the other jobs have release 0.
 
     The plan says how long the search may go on: at most `rounds` (0 to 100,000), each of up to 256 pieces of `piece`
-    open nodes (1 to 1,000), each of which may take `budget` nodes (1 to 10,000,000). The order "bound" takes open nodes
-    of least bound first, "kept" as they stand. The default plan may look at 25 billion nodes and take hours:
-    `rounds=100, budget=1000, order="bound"` takes seconds up to some 50 x 15. With `gantt` the report's text ends with
-    a chart."""
+    open nodes (1 to 1,000); a piece may take `budget` nodes (1 to 10,000,000). The order "bound" takes open nodes of
+    least bound first, "kept" in the order in which they are stored. The default plan may look at 25 billion nodes and
+    take hours: `rounds=100, budget=1000, order="bound"` takes seconds up to some 50 x 15. With `gantt` the report's
+    text ends with a chart."""
     limits = ("rounds", rounds, 0, 100_000), ("budget", budget, 1, 10_000_000), ("piece", piece, 1, 1_000)
     for option, number, least, most in limits:
         if not least <= number <= most:
             raise ValueError(f"{option} is {number}, and not {least} to {most}")
     options = _Options(rounds, budget, piece, _number_of(order, ORDERS), gantt)
-    number, instance = _instance(text, format)
+    number, instance = _instance(text, format, releases)
     arguments = [number, *_name(name), ctypes.byref(options), *instance]
-    # a step has at least 4 bytes in the text and at most 17 in the report, a name is part of the text
+    # a step has at least 4 bytes in the text and at most 17 in the report; a name is part of the text
     room = min(5 * instance[1] + 65_536, LONGEST_REPORT) + instance[1]
     return _read(_answer(room, [text], _apart(_library.jobshop_solve), *arguments)[1])
 
@@ -359,3 +454,11 @@ def _read(report):
         nodes=int(said["nodes"]),
         starts=[[int(start) for start in row.split()] for row in rows],
     )
+
+
+if __name__ == "__main__":
+    import sys
+
+    import jobshop_main
+
+    sys.exit(jobshop_main.main())

@@ -3,20 +3,21 @@
     python3 dispatch.py FORMAT TEXT [NAME]
 
 FORMAT is orlib, taillard or routes. Without NAME the first instance is taken. Prints the lines `job ..` of the
-schedule, which `jobshop check` judges. No machine waits while a step could begin on it (a non-delay schedule). Where
-several could, the step of the job with most work remaining begins, of equal ones that of the lowest job.
+schedule, which `jobshop check` judges. No machine waits while a step could begin on it (a non-delay schedule). If
+several could, the job with most work remaining goes first; among equal ones the lowest.
 """
 
 from heapq import heapify, heappop, heappush
 
 from given import instance_given
+from output import until_closed
 
 
 def schedule_of(jobs):
     """The starts of each job, by the rule."""
     starts = [[] for _ in jobs]
     remaining = [sum(time for _, time in route) for _, route in jobs]
-    # when each job comes to its next step; the steps that wait at a machine; when it ends what it serves
+    # when each job reaches its next step; the jobs that wait at each machine; when each machine is free
     arrivals = [(release, job) for job, (release, _) in enumerate(jobs)]
     heapify(arrivals)
     waiting, free = {}, {}
@@ -25,7 +26,7 @@ def schedule_of(jobs):
         while arrivals and arrivals[0][0] == now:
             _, job = heappop(arrivals)
             route, step = jobs[job][1], len(starts[job])
-            # the machine that the job leaves, and the one that it comes to
+            # the machine that the job leaves, and the one that it reaches
             touched.update((machine, None) for machine, _ in route[max(step - 1, 0) : step + 1])
             if step < len(route):
                 heappush(waiting.setdefault(route[step][0], []), (-remaining[job], job))
@@ -41,5 +42,6 @@ def schedule_of(jobs):
 
 
 _, jobs = instance_given(__doc__)
-for job, row in enumerate(schedule_of(jobs)):
-    print(f"job {job}:", *row)
+with until_closed():
+    for job, row in enumerate(schedule_of(jobs)):
+        print(f"job {job}:", *row)

@@ -9,7 +9,7 @@ FORMATS = ("orlib", "taillard", "routes")
 
 
 def instance_given(usage):
-    """The format and the jobs of the instance; of faulty words, or where there is none, ends with what is wrong."""
+    """The format and the jobs of the instance. Ends with what is wrong if the words are faulty or name no instance."""
     if len(sys.argv) not in (3, 4) or sys.argv[1] not in FORMATS:
         sys.exit(usage)
     form, path, *name = sys.argv[1:]

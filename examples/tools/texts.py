@@ -17,7 +17,7 @@ def lines_of(text):
 
 
 def value(token):
-    """The value of a number, which may begin with zeros. More than 16 digits behind them are over every limit."""
+    """The value of a number, which may begin with zeros; with more than 16 digits after them it is over every limit."""
     digits = token.lstrip(b"0") or b"0"
     if not token.isdigit() or len(digits) > 16:
         raise ValueError(f"{token[:40]!r} is no number, or over every limit")
@@ -41,7 +41,7 @@ def rows_of(lines, count):
 
 
 def jobs_of(form, lines, count):
-    """The jobs that the next lines give: the release of each, and its pairs of machine and time."""
+    """The release of each of the next jobs, and its pairs of machine and time."""
     if form == "taillard":
         times, machines = (rows_of(dropwhile(is_text_line, lines), count) for _ in range(2))
         return [(0, [(machine - 1, time) for machine, time in zip(*rows)]) for rows in zip(machines, times)]

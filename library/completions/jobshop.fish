@@ -13,7 +13,7 @@ __jobshop check -l format -x -a 'orlib taillard routes' -d 'How the instance tex
 __jobshop check -l name -x -d 'The instance of this name'
 __jobshop solve -l format -x -a 'orlib taillard routes' -d 'How the instance text is written'
 __jobshop solve -l name -x -d 'The instance of this name'
-__jobshop solve -l rounds -x -d 'At most so many rounds, 0 to 100000'
+__jobshop solve -l rounds -x -d 'Maximum number of rounds, 0 to 100000'
 __jobshop solve -l budget -x -d 'Nodes that the search of a piece takes before it leaves the rest open, 1 to 10000000'
 __jobshop solve -l piece -x -d 'Open nodes in a piece, 1 to 1000'
 __jobshop solve -l order -x -a 'kept bound' -d 'Which open nodes a round takes first'
