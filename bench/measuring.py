@@ -5,7 +5,7 @@ import sys
 
 from programs import HERE, OUT
 
-# what the clock of processor time tells apart at best
+# the resolution of the clock of processor time
 LEAST_TIME = 1e-4
 
 

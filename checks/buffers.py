@@ -1,4 +1,4 @@
-"""Where the buffers of the library's calls may lie, and where they may not."""
+"""Where the buffers of the library's calls may be, and where they may not."""
 
 import ctypes
 
@@ -22,7 +22,7 @@ LONG = 2**25
 
 
 class Memory:
-    """A block of memory with all buffers of a call in it: the room behind the texts, and free space behind the room."""
+    """A block of memory with all buffers of a call in it: the room after the texts, and free space after the room."""
 
     def __init__(self, module):
         self.block = ctypes.create_string_buffer(8192)

@@ -58,7 +58,7 @@ def peak_of(words):
 
 
 def number_in(report, word):
-    """The number behind a word that begins a line of a report."""
+    """The number after a word that begins a line of a report."""
     return int(report.split(f"\n{word} ".encode(), 1)[1].split()[0])
 
 
@@ -84,7 +84,7 @@ def example(name):
 
 
 def judge(check, program=PROGRAM, maker="./build"):
-    """Runs a check of a program, and ends with status 1 where something isn't as it must be."""
+    """Runs a check of a program, and ends with status 1 if something isn't as it must be."""
     if not program.exists():
         sys.exit(f"{program} isn't built yet: run {maker} first")
     tally = Tally()

@@ -1,5 +1,5 @@
-/* Refuses allocations and the start of threads in a process, and counts these and what it reads and writes: a shim for
- * LD_PRELOAD, used by the checks.
+/* Refuses allocations and the start of threads in a process, and counts these, what is freed, and what it reads and
+ * writes: a shim for LD_PRELOAD, used by the checks.
  *
  * Allocations (malloc, calloc, realloc, aligned_alloc, posix_memalign) and started threads are counted from 1, once
  * the program's own libraries are loaded. What is refused, by variables of the environment; none of them: nothing.
@@ -16,12 +16,16 @@
  *     REFUSE_LOG=FILE       the file gets one line: the allocations, how many of them were refused, the same of
  *                           threads, which the system may refuse too, the bytes that were asked for in all and at
  *                           most at a time, the most started threads alive at a time, the calls of read and of
- *                           write, and the peak in KB
+ *                           write, the peak in KB, how many allocations were refused on started threads, how many of
+ *                           these threads began and how many were joined, the blocks that nobody freed and their
+ *                           bytes, and the most bytes of such blocks at a time. Blocks that the C library allocates to
+ *                           start a thread aren't among these, since it keeps some for later threads
  */
 #define _GNU_SOURCE
 #include <dlfcn.h>
 #include <errno.h>
 #include <fcntl.h>
+#include <malloc.h>
 #include <pthread.h>
 #include <stdatomic.h>
 #include <stdint.h>
@@ -35,6 +39,7 @@ extern void *__libc_malloc(size_t);
 extern void *__libc_calloc(size_t, size_t);
 extern void *__libc_realloc(void *, size_t);
 extern void *__libc_memalign(size_t, size_t);
+extern void __libc_free(void *);
 
 /* What is counted, and which of it is refused. */
 struct kind {
@@ -49,9 +54,14 @@ static atomic_long bytes, greatest, alive, most_alive, begun;
 static long held;
 static atomic_int is_in_vain;
 static atomic_long reads, writes;
+static atomic_long refused_on_threads, joined;
+static atomic_long blocks, live_bytes, most_live_bytes;
 static const char *log_name;
 static int is_ready, refuses_all_sizes, refuses_next;
-static __thread int is_next __attribute__((tls_model("initial-exec")));
+
+#define OF_EACH_THREAD static __thread __attribute__((tls_model("initial-exec")))
+/* Is the thread's next allocation refused, was the thread started by the process, and does it start or join one? */
+OF_EACH_THREAD int is_next, is_started, is_in_system;
 
 static long number_in(const char *name) {
     const char *text = getenv(name);
@@ -101,26 +111,59 @@ static int refuses_memory(size_t size) {
     is_next = refuses_next && number == allocations.at;
     if (!is_refused) return 0;
     atomic_fetch_add(&allocations.refused, 1);
+    atomic_fetch_add(&refused_on_threads, is_started);
     errno = ENOMEM;
     return 1;
 }
 
-void *malloc(size_t size) { return refuses_memory(size) ? NULL : __libc_malloc(size); }
+/* Counts a block, if there is one, as allocated. */
+static void *taken(void *block) {
+    if (!block || is_in_system) return block;
+    atomic_fetch_add(&blocks, 1);
+    long size = (long)malloc_usable_size(block);
+    raise_to(&most_live_bytes, atomic_fetch_add(&live_bytes, size) + size);
+    return block;
+}
 
-void *calloc(size_t count, size_t size) { return refuses_memory(count * size) ? NULL : __libc_calloc(count, size); }
+/* Counts a block of this size as freed. */
+static void give_back(long size) {
+    if (is_in_system) return;
+    atomic_fetch_sub(&blocks, 1);
+    atomic_fetch_sub(&live_bytes, size);
+}
 
-void *realloc(void *old, size_t size) { return refuses_memory(size) ? NULL : __libc_realloc(old, size); }
+void *malloc(size_t size) { return refuses_memory(size) ? NULL : taken(__libc_malloc(size)); }
 
-void *aligned_alloc(size_t align, size_t size) { return refuses_memory(size) ? NULL : __libc_memalign(align, size); }
+void *calloc(size_t count, size_t size) {
+    return refuses_memory(count * size) ? NULL : taken(__libc_calloc(count, size));
+}
+
+void *realloc(void *old, size_t size) {
+    if (refuses_memory(size)) return NULL;
+    long old_size = old ? (long)malloc_usable_size(old) : 0;
+    void *block = __libc_realloc(old, size);
+    if (old && (block || !size)) give_back(old_size);
+    return taken(block);
+}
+
+void *aligned_alloc(size_t align, size_t size) {
+    return refuses_memory(size) ? NULL : taken(__libc_memalign(align, size));
+}
 
 int posix_memalign(void **out, size_t align, size_t size) {
-    void *block = refuses_memory(size) ? NULL : __libc_memalign(align, size);
+    void *block = aligned_alloc(align, size);
     if (!block) return ENOMEM;
     *out = block;
     return 0;
 }
 
+void free(void *block) {
+    if (block) give_back((long)malloc_usable_size(block));
+    __libc_free(block);
+}
+
 typedef int create(pthread_t *, const pthread_attr_t *, void *(*)(void *), void *);
+typedef int join(pthread_t, void **);
 
 /* What a started thread is to do, and which one it is. */
 struct started {
@@ -146,7 +189,8 @@ static void note_begin(void) {
 
 static void *live(void *started) {
     struct started now = *(struct started *)started;
-    free(started);
+    __libc_free(started);
+    is_started = 1;
     note_begin();
     void *result = now.work(now.given);
     wait_for_others(now.number);
@@ -160,11 +204,24 @@ int pthread_create(pthread_t *thread, const pthread_attr_t *how, void *(*work)(v
         atomic_fetch_add(&threads.refused, 1);
         return EAGAIN;
     }
+    is_in_system++;
     create *real = (create *)dlsym(RTLD_NEXT, "pthread_create");
     struct started *started = __libc_malloc(sizeof *started);
     *started = (struct started){work, given, number};
     int result = real(thread, how, live, started);
-    if (result) atomic_fetch_add(&threads.refused, 1);
+    is_in_system--;
+    if (!result) return 0;
+    __libc_free(started);
+    atomic_fetch_add(&threads.refused, 1);
+    return result;
+}
+
+int pthread_join(pthread_t thread, void **its_result) {
+    is_in_system++;
+    join *real = (join *)dlsym(RTLD_NEXT, "pthread_join");
+    int result = real(thread, its_result);
+    is_in_system--;
+    if (!result) atomic_fetch_add(&joined, 1);
     return result;
 }
 
@@ -193,11 +250,14 @@ static long peak(void) {
 static void write_log(void) {
     if (!log_name) return;
     is_ready = 0;
-    char line[200];
-    int length = snprintf(line, sizeof line, "%ld %ld %ld %ld %ld %ld %ld %ld %ld %ld\n",
-                          (long)allocations.count, (long)allocations.refused, (long)threads.count,
-                          (long)threads.refused, (long)bytes, (long)greatest, (long)most_alive, (long)reads,
-                          (long)writes, peak());
+    const long counts[] = {
+        allocations.count, allocations.refused, threads.count, threads.refused, bytes, greatest, most_alive, reads,
+        writes, peak(), refused_on_threads, begun, joined, blocks, live_bytes, most_live_bytes,
+    };
+    char line[500];
+    int length = 0;
+    for (size_t i = 0; i < sizeof counts / sizeof *counts; i++)
+        length += snprintf(line + length, sizeof line - length, "%ld ", counts[i]);
     int file = open(log_name, O_WRONLY | O_CREAT | O_TRUNC, 0644);
     if (file < 0) return;
     ssize_t written = write(file, line, (size_t)length);

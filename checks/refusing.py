@@ -1,4 +1,4 @@
-"""Runs of the built program in which memory or threads are refused."""
+"""Runs of the built program in which memory or threads are refused, and what they asked for and left."""
 
 import os
 import subprocess
@@ -10,7 +10,7 @@ from program import PROGRAM, TOP, run
 
 
 class Counted(NamedTuple):
-    """What a run asked for, and how much of it was refused."""
+    """What a run asked for, how much of it was refused, and what was left of it at the end."""
 
     allocations: int
     refused_allocations: int
@@ -22,6 +22,17 @@ class Counted(NamedTuple):
     reads: int
     writes: int
     peak_kilobytes: int
+    refused_on_threads: int
+    threads_begun: int
+    threads_joined: int
+    blocks_left: int
+    bytes_left: int
+    most_bytes: int
+
+    @property
+    def threads_left(self):
+        """How many threads were started and nobody waited for."""
+        return self.threads - self.refused_threads - self.threads_joined
 
 
 class Refusing:

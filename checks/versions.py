@@ -1,6 +1,6 @@
-"""Where the version stands in the sources, and what CHANGELOG.md says of versions.
+"""Where the version is in the sources, and what CHANGELOG.md says of versions.
 
-Between two releases the sources have the next version with `-dev` behind it, and what is new stands in CHANGELOG.md
+Between two releases the sources have the next version with `-dev` after it, and what is new is in CHANGELOG.md
 under `Unreleased`.
 """
 

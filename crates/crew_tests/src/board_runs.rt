@@ -14,8 +14,8 @@ use std::thread::Threads;
 
 /// A crew that searches each round by all its workers, however short the round is.
 #[derive(Drop)]
-struct AllWorkers {
-    crew: BoardCrew<OpenGate>,
+pub struct AllWorkers {
+    pub crew: BoardCrew<OpenGate>,
 }
 
 impl<R: Threads + Sync> Crew<R> for AllWorkers {
@@ -31,7 +31,8 @@ impl<R: Threads + Sync> Crew<R> for AllWorkers {
     }
 }
 
-fn assert_run<R: Abort, C: Crew<R>>(
+/// Asserts what a crew answers by a plan.
+pub fn assert_run<R: Abort, C: Crew<R>>(
     rt: &R,
     alloc: Global,
     instance: &Instance,

@@ -34,6 +34,9 @@ pub const FT06_STRETCHED: &str = "6 6\n\
 /// Four jobs on three machines, on which the two orders of open nodes find different schedules.
 pub const SHORT_JOBS: &str = "4 3\n0 0 5 1 3\n1 0 1 2 6\n0 1 1\n0 1 1\n";
 
+/// Two jobs that cross two machines, of which one has a release, and a job without operations.
+pub const RELEASED: &str = "3 2\n0 0 3 1 2\n4 1 2 0 4\n7\n";
+
 /// Reads the instance of a text.
 pub fn instance_of(rt: &impl Abort, alloc: Global, text: &str) -> Instance {
     let mut named = read_routes(alloc, text.as_bytes()).expect(rt, "an instance");

@@ -21,3 +21,5 @@ mod runs;
 mod sharing;
 #[cfg(test)]
 mod telling;
+#[cfg(test)]
+mod worked_rows;
