@@ -77,6 +77,8 @@ def check_lists(tally):
         ("starts in tuples", lambda: check(((0, 3), range(0, 4, 3))).makespan, 7),
         ("starts one by one", lambda: check(iter(row) for row in RIGHT).makespan, 7),
         ("starts that are true", lambda: jobshop.check([[(0, 0)], [(0, 1)]], [[True], [False]]).makespan, 1),
+        ("no starts", lambda: jobshop.check(JOBS), "TypeError: a list of jobs has no schedule in it: give one"),
+        ("an empty text", lambda: jobshop.check(""), "Refused: error 4: no instance"),
         ("starts of no instance", lambda: jobshop.check("x\n", RIGHT), "Refused: error 4: no instance"),
     ]:
         tally.expect_equal(f"in lists: {title}", raised(call), told)

@@ -305,7 +305,7 @@ def _hint(kind, texts):
     for text in (text for text in texts if isinstance(text, str)):
         if os.path.isfile(text):
             return f" ({text!r} is a file: give what it holds, not its path)"
-        if "\n" not in text and text.split()[:1] != ["job"]:
+        if text and "\n" not in text and text.split()[:1] != ["job"]:
             return f" ({text[:60]!r} has no line end: a text is wanted here, not a path or a name)"
     return ""
 
@@ -398,6 +398,8 @@ def check(
     To judge many schedules of one instance, give the instance as a text: `routes` makes it of a list. A schedule that
     is a text is judged two to three times as fast as a list."""
     number, instance = _instance(text, format, releases)
+    if schedule is None and _is_list(text):
+        raise TypeError("a list of jobs has no schedule in it: give one")
     call = partial(_answer, 256, [text, schedule], _library.jobshop_check, number, *_name(name), *instance)
     if _is_list(schedule):
         outcome, line = _judge_rows(call, schedule)
