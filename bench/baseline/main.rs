@@ -20,8 +20,8 @@
 //! - Threads and their states last for the run, there for a round; short rounds have all workers, there fewer. The
 //!   calling thread searches too, there it waits. Who shares a word is counted plainly, there by atomic steps, which
 //!   shows in small pieces.
-//! - Open nodes by bound are in std's map of lists; there in a row of stacks if bounds are small, else in std's map. The
-//!   least bound of open nodes as kept is sought in all of them each round, there it is in a list of least bounds.
+//! - Open nodes by bound are in std's map of lists; there in a row of stacks if bounds are small, else in std's map.
+//!   The least bound of open nodes as kept is sought in all of them each round; there it is in a list of least bounds.
 //! - A walk of its own for 1, 2, 4, 7 and 8 blocks a machine in lanes of each width; there for 2, 3 and 4 in lanes of
 //!   16 bits.
 
