@@ -2,9 +2,7 @@
 worker. An install and a wheel have this file as jobshop/__main__.py."""
 
 import argparse
-import os
 import sys
-from pathlib import Path
 
 import jobshop
 
@@ -43,7 +41,9 @@ def parser_of_words():
 
 def read(path):
     try:
-        return sys.stdin.buffer.read() if path is None else Path(path).read_bytes()
+        # by its number, so that a closed one is a failed read
+        with open(0 if path is None else path, "rb", closefd=path is not None) as file:
+            return file.read()
     except OSError:
         raise ReadFailed from None
 
@@ -77,11 +77,9 @@ def main():
     except KeyboardInterrupt:
         return 130
     try:
-        sys.stdout.buffer.write(printed.encode())
-        sys.stdout.buffer.flush()
+        with open(1, "wb", closefd=False) as out:
+            out.write(printed.encode())
     except OSError:
-        # else Python tries again as it ends
-        os.dup2(os.open(os.devnull, os.O_WRONLY), sys.stdout.fileno())
         print("error 14: write failed", file=sys.stderr)
         return 4
     return status
