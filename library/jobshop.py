@@ -317,7 +317,7 @@ def _number_of(word, words):
 
 
 def _answer(length, texts, call, *arguments):
-    """The outcome of a call on these texts and its answer, for which a buffer of this length is enough."""
+    """Makes a call on these texts, with a buffer of this length for its answer. Returns the outcome and the answer."""
     room = ctypes.create_string_buffer(length)
     outcome = call(*arguments, room, length)
     if outcome.status == BAD_ARGUMENT:

@@ -44,7 +44,7 @@ CHANGED = "the sheet, --units-an-hour or --start isn't the one that the report's
 
 
 class Words(argparse.ArgumentParser):
-    """The words of a call. If they are faulty, the usage is printed with what is wrong."""
+    """Reads the words of a call. If they are faulty, prints the usage and what is wrong, and exits."""
 
     def error(self, message):
         sys.exit(f"{__doc__}\n{message}")
