@@ -61,7 +61,7 @@ TEXTS = {
 
 
 def write_texts(folder, names):
-    """Writes the texts of these names, and returns the file of each."""
+    """Writes the texts of these names to files in a folder. Returns the files by name."""
     files = {name: Path(folder, name.replace(" ", "_")) for name in names}
     for name, file in files.items():
         file.write_text(TEXTS[name]())

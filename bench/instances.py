@@ -42,7 +42,7 @@ def text_to_and_fro(jobs, steps, seed):
 
 
 def text_of_long_routes(jobs, seed):
-    """Routes of some 95 steps on three machines, each for 0 to 3."""
+    """An instance in the format `routes`: some 95 steps for each job, on three machines; times of 0 to 3."""
     numbers = Numbers(seed)
     lengths = [90 + numbers.below(11) for _ in range(jobs)]
     return text_of_routes(3, [(0, [(numbers.below(3), numbers.below(4)) for _ in range(n)]) for n in lengths])
@@ -57,14 +57,15 @@ def text_of_spaced_jobs(jobs, machines, seed):
 
 
 def text_of_one_machine(jobs, steps, seed):
-    """All operations of all jobs on one machine, each for 1 to 99, as `routes`."""
+    """An instance in the format `routes` with all operations on one machine; times of 1 to 99."""
     numbers = Numbers(seed)
     return text_of_routes(1, [(0, [(0, 1 + numbers.below(99)) for _ in range(steps)]) for _ in range(jobs)])
 
 
 def starts_of(routes, machines):
-    """The starts of a feasible schedule, the operations placed step by step, each as early as the ones before it let
-    it; and the job and the step of the last one that waits for its machine."""
+    """The starts of a feasible schedule, and the job and the step of the last operation that waits for its machine.
+
+    Places the first steps of all jobs, then the second ones, and so on: each as early as those before it allow."""
     last = None
     ready = [0] * len(routes)
     free = [0] * machines
@@ -85,7 +86,7 @@ def lines_of(starts):
 
 
 def schedule_of(routes, machines):
-    """A feasible schedule."""
+    """A feasible schedule of these routes, as a text."""
     return lines_of(starts_of(routes, machines)[0])
 
 

@@ -16,7 +16,7 @@ SEEDS = [
 
 
 class Numbers:
-    """The generator of Bratley, Fox and Schrage, which Taillard took."""
+    """Random numbers by the generator of Bratley, Fox and Schrage, as in Taillard's instances."""
 
     def __init__(self, seed):
         self.state = seed

@@ -39,7 +39,8 @@ class Memory:
             call.argtypes, call.restype = [ctypes.c_uint32, *place, *options, *others], module._Outcome
 
     def ended(self, name, given, answer):
-        """The status of a call that is given these places, and whether its outcome and what it wrote go with that."""
+        """Calls with buffers at these places. Returns the status, and whether the outcome fits it and only the room's
+        front was written, by a call that is done."""
         places = {buffer: given.get(buffer, self.places[buffer]) for buffer in BUFFERS[name]}
         self.block.raw = b"." * len(self.block)
         for buffer, (address, length) in places.items():

@@ -20,11 +20,11 @@ NAME = re.compile(r"\w+(?:::\w+)+|[A-Za-z]\w*_\w*|[A-Z][A-Z0-9]*[a-z]\w*")
 WORD = re.compile(r"[A-Za-z_]\w*")
 # paths of a machine, of an install or of a build
 ELSEWHERE = re.compile(r"/|(PREFIX|STAGE|bin|lib|share)/|(crates/\w+/)?out\b")
-# what stands for any name of a file
+# words of a page that mean any name
 PLACEHOLDER = re.compile(r"\b(NAME|CRATE|MODULE|TYPE|FUNCTION|FOLDER)")
 # words of the toolchain that the sources don't use
 KNOWN = {"RT_SECONDS"}
-# names of the start of docs/PERF.md, which shows them beside those of now
+# names that only older sources have: docs/PERF.md shows them beside the new ones
 GONE = {"work_by", "run_list", "add_open"}
 
 
@@ -36,7 +36,7 @@ def tree():
 
 
 def words_of_sources(paths):
-    """For each source file but this one its words, and those of its path."""
+    """For each source file but this one the words of its text and of its path."""
     for file in (TOP / path for path in sorted(paths) if path.startswith(SOURCES)):
         if file.is_file() and file != Path(__file__).resolve():
             yield frozenset(WORD.findall(str(file.relative_to(TOP))) + WORD.findall(file.read_text(errors="replace")))

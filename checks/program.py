@@ -45,7 +45,8 @@ def run(words, text="", program=PROGRAM, **given):
 
 
 def peak_of(words):
-    """How a run ended, and its peak memory in MB, or that of this process if that is more. It has no standard input."""
+    """Runs the program without standard input. Returns how it ended, and its peak memory in MB, or the peak of this
+    process if that is more."""
     with tempfile.TemporaryFile() as out, tempfile.TemporaryFile() as err:
         started = subprocess.Popen([PROGRAM, *words], stdin=subprocess.DEVNULL, stdout=out, stderr=err)
         _, status, usage = os.wait4(started.pid, 0)

@@ -46,8 +46,8 @@ class Refusing:
         subprocess.run(["cc", "-O1", "-shared", "-fPIC", "-o", self.shim, source, "-ldl"], check=True)
 
     def run(self, words, text, given=None, **refused):
-        """How a run ended, and what it asked for. What is given is passed to the run; the other keywords are the
-        shim's variables, as at=3."""
+        """Runs the program under the shim. Returns how the run ended, and what it asked for. `given` has more arguments
+        of the run; other keywords, such as at=3, are the shim's variables."""
         log = self.folder / f"log-{threading.get_ident()}"
         log.unlink(missing_ok=True)
         variables = {f"REFUSE_{name.upper()}": str(value) for name, value in refused.items()}

@@ -41,14 +41,14 @@ def as_number(version):
 
 
 class Place(NamedTuple):
-    """Where a version stands, in which form: between the two groups of a pattern that matches one line."""
+    """A place of the version in the sources: between two groups of a pattern that matches one line. And its form."""
 
     file: str
     pattern: str
     form: callable = as_it_is
 
     def found(self):
-        """What stands there, of each line that matches."""
+        """The text at this place, for each line that matches."""
         return [middle for _, middle, _ in re.findall(self.pattern, (TOP / self.file).read_text(), re.MULTILINE)]
 
     def put(self, version):

@@ -317,7 +317,7 @@ def _number_of(word, words):
 
 
 def _answer(length, texts, call, *arguments):
-    """The outcome of a call on these texts and its answer, for which a buffer of this length is enough."""
+    """Makes a call on these texts, with a buffer of this length for its answer. Returns the outcome and the answer."""
     room = ctypes.create_string_buffer(length)
     outcome = call(*arguments, room, length)
     if outcome.status == BAD_ARGUMENT:
@@ -355,7 +355,7 @@ def _apart(call):
 
 def routes(jobs: Jobs, releases: Iterable[int] = ()) -> str:
     """The text of an instance in the format "routes": for each job its steps in order, as pairs of machine (from 0) and
-    time. The releases are those of the first jobs, in order; each other job's is 0."""
+    time. `releases` has one for each of the first jobs, in order; other jobs have release 0."""
     if not _is_list(jobs):
         raise TypeError(f"the jobs are a list with a list of steps for each, not {type(jobs).__name__}")
     rows = [_route(job, route) for job, route in enumerate(jobs)]

@@ -22,7 +22,7 @@ NO_MODULE = "there is no module jobshop: set PYTHONPATH to lib/jobshop of an ins
 
 
 class Words(argparse.ArgumentParser):
-    """The words of a call. If they are faulty, the usage is printed with what is wrong."""
+    """Reads the words of a call. If they are faulty, prints the usage and what is wrong, and exits."""
 
     def error(self, message):
         sys.exit(f"{__doc__}\n{message}")

@@ -10,8 +10,8 @@ step, the steps of a job in order. A job's first row has its release, before whi
 hours as 2, 1.5, 1,25 or 1:30. Jobs and machines are numbered as they come.
 
 A unit of the instance is half an hour, or with --units-an-hour N an N-th of an hour. With --start 7:45 the list has
-times of the day, those of the next day from 24:00 on. A release like 8:30 is a time of the day then; a release like 2
-or 1.5 counts hours from the start: both 8:45 and 1 are an hour after 7:45. Give the same options to all calls.
+times of the day; from 24:00 on they are of the next day. Then a release like 8:30 is a time of the day, and a release
+like 2 or 1.5 counts hours from the start: both 8:45 and 1 are an hour after 7:45. Give the same options to all calls.
 
 `routes` remarks on standard error: columns that it leaves out, names that differ only in case, a job whose rows are in
 two places, and releases like 8:30 without --start. `list` prints nothing if the report's schedule doesn't fit the
@@ -44,7 +44,7 @@ CHANGED = "the sheet, --units-an-hour or --start isn't the one that the report's
 
 
 class Words(argparse.ArgumentParser):
-    """The words of a call. If they are faulty, the usage is printed with what is wrong."""
+    """Reads the words of a call. If they are faulty, prints the usage and what is wrong, and exits."""
 
     def error(self, message):
         sys.exit(f"{__doc__}\n{message}")
