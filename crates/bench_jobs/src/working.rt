@@ -11,7 +11,7 @@ use shop_engine::{
 use shop_round::Alone;
 use std::alloc::Global;
 
-/// The work of a kind: the numbers that its inputs are made of, and the digest of all returns so far.
+/// The work of a kind: the numbers that its inputs are made of, and the digest of all answers so far.
 #[derive(Drop)]
 struct Workload {
     numbers: Numbers,
@@ -118,7 +118,7 @@ impl Workload {
     }
 }
 
-/// Does the tasks of `kind` on inputs made from `seed`, and returns the digest of what the engine returns. Fails if
+/// Does the tasks of `kind` on inputs made from `seed`, and returns the digest of the engine's answers. Fails if
 /// there is no such kind, or with the engine's fault.
 pub fn digest_of(alloc: Global, kind: &str, seed: u64) -> Result<u64> {
     let is_known = TASKS.iter().any(|task| task.0 == kind);

@@ -1,4 +1,4 @@
-// Returns by one thread alone, and by the workers of a crew behind a lock.
+// Answers by one thread alone, and by the workers of a crew behind a lock.
 ghost use Rattle.shop_runs.specs.Standings.{IsStandingOf};
 
 use crate::instances::{CROSSING, GAP, ZEROS, instance_of};

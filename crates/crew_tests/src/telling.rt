@@ -1,4 +1,4 @@
-// What is told of returns, nodes and entries, and texts and numbers that are asserted.
+// What is said of answers, nodes and entries, and texts and numbers that are asserted.
 ghost use Rattle.std.specs.Prelude.{◌≡◌};
 
 use shop_model::Table;

@@ -1,4 +1,4 @@
-// Texts cut to their first n bytes, for each n; the returns are derived from the formats' description.
+// Texts cut to their first n bytes, for each n; the answers are derived from the formats' description.
 use crate::readers::assert_read;
 use crate::runs::{CROSSING, TAILLARD, TWO_EXAMPLES};
 use shop_text::Format;

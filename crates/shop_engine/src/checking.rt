@@ -26,9 +26,9 @@ fn judge(alloc: Global, instance: &Instance, schedule: &[u8]) -> Result<(bool, V
     }
 }
 
-/// Judges a schedule for the instance of `text` that the arguments name: returns whether it is feasible, and returns
-/// the line of the verdict. Without `schedule`, the schedule stands in the instance text itself. Reads and writes no
-/// device. For library callers: the program doesn't use `check_bytes`.
+/// Judges a schedule for the instance of `text` that the arguments name: returns whether it is feasible, and the line
+/// of the verdict. Without `schedule`, the schedule is in the instance text itself. Reads and writes no device. For
+/// library callers: the program doesn't use `check_bytes`.
 ///
 /// Fails with the fault of the instance text, with `NoSuchName`, or with the fault of the schedule text. Fails with
 /// `NoMemory` if memory runs out.

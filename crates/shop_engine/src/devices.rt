@@ -118,9 +118,9 @@ impl<W: Write + Drop> Sink for Writing<W> {
     }
 }
 
-/// Reads all bytes of `source` up to its end, and doesn't read again once the end is told. Fails with `ReadFailed` if
-/// the source fails, and with `TooLong` after the first byte above `MAX_TEXT`. Fails with `NoMemory` if memory runs
-/// out.
+/// Reads all bytes of `source` up to its end, and doesn't read again after a read that returned the end. Fails with
+/// `ReadFailed` if the source fails, and with `TooLong` after the first byte above `MAX_TEXT`. Fails with `NoMemory` if
+/// memory runs out.
 pub fn read_all<S: Source>(alloc: Global, source: &mut S) -> Result<Vec<u8>, Fault>
     ensures short { IfOk result (λ text. length text.items ≤ MAX_TEXT) }
     ensures read { IfOk result (λ text. IsReadToEnd (S.device source.old) (S.device source.new) text.items) }

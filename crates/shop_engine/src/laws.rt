@@ -1,4 +1,4 @@
-// Laws of the engines, of instances and of returns, stated on what contracts say.
+// Laws of the engines, of instances and of answers, stated on what contracts say.
 ghost use Rattle.shop_engine.specs.{Limits.{AreLimits, TextsKeepTheLimits}, OneReport.OneReport, WholeRun.OneWholeRun};
 ghost use Rattle.shop_engine.specs.Refusing.{ListingRefuses, CheckingRefuses, SolvingRefuses};
 ghost use Rattle.shop_engine.specs.{Easier.{EasierInstancesEndNoLater, EachHasOneLeast}, Renaming.RenamingAsksTheSame};
@@ -74,10 +74,10 @@ pub fn scaling_keeps_the_least()
     ensures { ScalingKeepsTheLeast }
 {}
 
-// ---- returns
+// ---- answers
 
 /// A report that `solve_bytes` writes has the makespan, the bound and the status of the plan's answer, and its instance
-/// is within the limits. So the laws of returns hold for the report.
+/// is within the limits. So the laws of answers hold for the report.
 pub fn reports_tell_the_answer()
     ensures { ReportsTellTheAnswer }
 {}

@@ -113,7 +113,8 @@ pub fn solve_bytes<R, C: Crew<R>>(
 /// Writes nothing before the search ends. Fails as `solve_bytes` does, and with `ReadFailed` or `WriteFailed` if a
 /// device fails.
 ///
-/// Leaks the open nodes, since freeing each takes time; meant for a program that exits after the report.
+/// Leaks the answer with its open nodes, since freeing each takes time: meant for a program that exits after the
+/// report.
 pub fn solve_text<R, S: Source, K: Sink, C: Crew<R>>(
     rt: &R,
     alloc: Global,

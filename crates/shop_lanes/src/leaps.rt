@@ -64,8 +64,8 @@ pub(crate) fn leap<B: Block>(
     bound
 }
 
-/// Calls `leap` for any number of blocks, with a literal `count` for one to eight blocks (in lanes of 64 bits, for one
-/// to three). Kept out of line.
+/// `leap` for any number of blocks, out of line. Up to eight blocks (three in lanes of 64 bits) have code of their own,
+/// with a literal `count`.
 #[inline(never)]
 pub(crate) fn leap_any<B: Block>(
     rows: &LaneRows<B::Number>,

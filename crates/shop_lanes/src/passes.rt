@@ -60,8 +60,8 @@ fn bits_of<B: Block>(count: usize, numbers: &[B::Number], equal: bool, number: u
     bits
 }
 
-/// Returns whether lanes that hold numbers up to `greatest` have 64 bits. Few instances need such lanes. Code for each
-/// number of blocks would be three times as long as for narrower lanes, so from four blocks on they share one loop.
+/// Returns whether lanes that hold numbers up to `greatest` have 64 bits. Such lanes are rare, and unrolled code for
+/// them is three times as long: so there machines of four blocks and more share one loop.
 #[inline(always)]
 pub fn are_wide(greatest: u64) -> bool {
     greatest > u32::MAX as u64

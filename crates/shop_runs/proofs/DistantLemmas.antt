@@ -1,6 +1,7 @@
 -- Open nodes that a run only counts: what is counted, and how they lie behind those that it stores.
 use Rattle.std.proofs.Common.{◌≡◌, ℕ, zero, suc, ◌+◌, ◌≤◌, min, ◌&&◌, inl, inr, List, [], ◌∷◌, ◌++◌, length, get_or}
-use Rattle.std.proofs.{Common.{refl, ◌∙◌, ap, arith, leb, ltb}, lemmas.Bool.{cases_Bool, cases_lt, cases_eq, lt-ltb, le-ltb}}
+use Rattle.std.proofs.{Common.{refl, ◌∙◌, ap, arith, leb, ltb}}
+use Rattle.std.proofs.{lemmas.Bool.{cases_Bool, cases_lt, cases_eq, lt-ltb, le-ltb}}
 use Rattle.std.proofs.lemmas.{Bool.{eq-eqb, ne_eqb}, List.Elements.filter-append}
 use Rattle.shop_nodes.specs.{declared.nodes.Node.Node, inner.HeldNodes.nodes_below}
 use Rattle.shop_runs.specs.inner.Distant.{count_of, nodes_within, HaveCounts}

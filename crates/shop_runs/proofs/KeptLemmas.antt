@@ -1,6 +1,7 @@
 -- The stack of the kept order: its least bounds.
 use Rattle.std.proofs.Common.{◌≡◌, ℕ, suc, ◌+◌, ◌-◌, ◌<◌, ◌≤◌, min, inl, inr, List, [], ◌∷◌, ◌++◌, length, get_or, take}
-use Rattle.std.proofs.{Common.{set, reverse, refl, sym, ◌∙◌, ap, subst, arith, filter, ltb}, lemmas.Bool.{cases_Bool, cases_eq, cases_lt}}
+use Rattle.std.proofs.{Common.{set, reverse, refl, sym, ◌∙◌, ap, subst, arith, filter, ltb}}
+use Rattle.std.proofs.{lemmas.Bool.{cases_Bool, cases_eq, cases_lt}}
 use Rattle.std.proofs.lemmas.{Bool.{lt-ltb, le-ltb, eq-eqb, ne_eqb}, List.{reverse-append, take_more, take_more_set}}
 use Rattle.std.{proofs.lemmas.List.{take_all, length-set, length-reverse}, specs.List.AllByRecursion}
 use Rattle.shop_nodes.specs.{declared.nodes.Node.Node, inner.HeldNodes.nodes_below}

@@ -1,18 +1,24 @@
 -- How many nodes a run counts: their number stays below 2^64, for each bound and in all.
-use Rattle.std.proofs.Common.{◌≡◌, ℕ, zero, suc, ◌+◌, ◌*◌, ◌^◌, ◌≤◌, ◌<◌, min, List, [], ◌∷◌, ◌++◌, length, take, drop, get_or}
+use Rattle.std.proofs.Common.{◌≡◌, ℕ, zero, suc, ◌+◌, ◌*◌, ◌^◌, ◌≤◌, ◌<◌, min, List, [], ◌∷◌, ◌++◌, length, take}
+use Rattle.std.proofs.Common.{drop, get_or}
 use Rattle.std.proofs.{Common.{◌∙◌, ap, arith, ltb, append-nil}, lemmas.List.{length-append, length-map, length-drop}}
 use Rattle.std.specs.List.{flat_map}
 use Rattle.shop_model.specs.{Limits.IsWithinLimits, Shop.Shop}
 use Rattle.shop_nodes.specs.{declared.nodes.Node.Node, inner.HeldNodes.nodes_below, Nodes.words_of}
-use Rattle.shop_runs.specs.{Answers.answer, Laws.IsStanding, Plans.Planned, Round.{Stand, Told, cut_of, gathered, words_below}}
+use Rattle.shop_runs.specs.{Answers.answer, Laws.IsStanding, Plans.Planned}
+use Rattle.shop_runs.specs.{Round.{Stand, Told, cut_of, gathered, words_below}}
 use Rattle.shop_runs.specs.Round.{words_of_round, in_order}
-use Rattle.shop_runs.specs.declared.{open_nodes.OpenNodes.OpenNodes, plans.Order.TheVariants.{Kept, Bound}, plans.Order.Order}
+use Rattle.shop_runs.specs.declared.{open_nodes.OpenNodes.OpenNodes, plans.Order.TheVariants.{Kept, Bound}}
+use Rattle.shop_runs.specs.declared.{plans.Order.Order}
 use Rattle.shop_runs.specs.declared.{distant_nodes.DistantNodes.DistantNodes, outcomes.RoundResult.RoundResult}
 use Rattle.shop_runs.specs.{declared.runs.OpenRun.OpenRun, inner.Searches.{stand_of, IsRunAt, HasFewOpen, front_of}}
-use Rattle.shop_runs.specs.inner.{Distant.{count_of, FitBelow, AreCountable, ArePutOrCounted}, Outcomes.{IsOutcome, left_open}}
+use Rattle.shop_runs.specs.inner.{Distant.{count_of, FitBelow, AreCountable, ArePutOrCounted}}
+use Rattle.shop_runs.specs.inner.{Outcomes.{IsOutcome, left_open}}
 use Rattle.shop_runs.specs.inner.{Stacks.put_all_before, Stores.{open_list, order_of}}
 use Rattle.shop_runs.proofs.{DistantLemmas.{count_few, count_below, count_within}, DistantLists.count_put}
-use Rattle.shop_runs.proofs.{Cutting.pieces_all, FrontLemmas.length_order, NodeLemmas.below_is, OpenSizes.{answer_few, few_words, few_filtered, gathered_few, times_at_most, times_both}, Trusting.answer_covers, Ways.many}
+use Rattle.shop_runs.proofs.{Cutting.pieces_all, FrontLemmas.length_order, NodeLemmas.below_is}
+use Rattle.shop_runs.proofs.{OpenSizes.{answer_few, few_words, few_filtered, gathered_few, times_at_most, times_both}}
+use Rattle.shop_runs.proofs.{Trusting.answer_covers, Ways.many}
 
 -- all open nodes of a run
 run_few : (shop : Shop) (plan : Planned) (s : Stand) (t : OpenRun) (run : IsRunAt shop plan s t) → IsStanding shop s
@@ -68,7 +74,8 @@ module _ (shop : Shop) (plan : Planned) (s : Stand) (t : OpenRun) (run : IsRunAt
       in let b = ap length (below_is r.shop o.makespan left out.nodes_left)
       in let words : length (gathered r).open_words ≡ length (words_below r.shop o.makespan (words_of left)) =
       ap (λ (x : Stand). length x.open_words) out.stands
-      ∙ ap (λ ws. length (words_below r.shop o.makespan ws)) (ap (λ ws. words_of left ++ ws) none ∙ append-nil (words_of left))
+      ∙ ap (λ ws. length (words_below r.shop o.makespan ws))
+      (ap (λ ws. words_of left ++ ws) none ∙ append-nil (words_of left))
       in let d = gathered_few r
       in let e = ap (λ (x : Stand). x.nodes) out.stands
       in let f = out.counted

@@ -1,15 +1,19 @@
 -- How many words a run leaves open: one at first, and for each node that is taken at most one for each job.
-use Rattle.std.proofs.Common.{◌≡◌, ℕ, zero, suc, ◌+◌, ◌*◌, ◌^◌, ◌≤◌, ◌<◌, Bool, Option, Some, None, List, [], ◌∷◌, ◌++◌, length, map}
-use Rattle.std.proofs.{Common.{refl, sym, ◌∙◌, ap, arith, leb, ltb}, lemmas.{Bool.cases_Bool, List.{length-append, length-map}}}
+use Rattle.std.proofs.Common.{◌≡◌, ℕ, zero, suc, ◌+◌, ◌*◌, ◌^◌, ◌≤◌, ◌<◌, Bool, Option, Some, None, List, [], ◌∷◌}
+use Rattle.std.proofs.Common.{◌++◌, length, map}
+use Rattle.std.proofs.{Common.{refl, sym, ◌∙◌, ap, arith, leb, ltb}}
+use Rattle.std.proofs.{lemmas.{Bool.cases_Bool, List.{length-append, length-map}}}
 use Rattle.std.proofs.lemmas.List.{FromFn.length-range_with_len, Sums.sum_by-cons}
 use Rattle.std.specs.List.{filter, flat_map, fold, sum_by, range_with_len}
 use Rattle.shop_model.specs.{Limits.IsWithinLimits, Shop.{Shop, route_of}}
 use Rattle.shop_model.specs.Word.{Placing, placing, start_jobs}
 use Rattle.shop_bound.specs.{Bound.lb, Conflicts.{open_jobs, chosen_of, conflicts_with, conflict, conflict_among}}
-use Rattle.shop_nodes.specs.{Branching.branch, Walking.{Walk, walk, walk_within, operations_left, sheet, taking, unless_cut}}
+use Rattle.shop_nodes.specs.{Branching.branch}
+use Rattle.shop_nodes.specs.{Walking.{Walk, walk, walk_within, operations_left, sheet, taking, unless_cut}}
 use Rattle.shop_runs.specs.{Plans.Planned, Round.{Stand, Told, taken_of, sheet_in, sheets_of, up_to_hit, best_word}}
 use Rattle.shop_runs.specs.Round.{after_round, words_of_round, in_order, gathered, cut_of, round, opening}
-use Rattle.shop_runs.specs.{Answers.{unless_closed, rounds_from, answer}, inner.Searches.HasFewOpen, Limits.IsCountWithin}
+use Rattle.shop_runs.specs.{Answers.{unless_closed, rounds_from, answer}, inner.Searches.HasFewOpen}
+use Rattle.shop_runs.specs.{Limits.IsCountWithin}
 use Rattle.shop_runs.proofs.{Cutting.pieces_all, FrontLemmas.{length_order, sort_length}}
 
 pub few_filtered : {A : Type 0} (p : A → Bool) (xs : List A) → length (filter p xs) ≤ length xs

@@ -1,12 +1,14 @@
 -- Nodes that are put into a store or counted, one after the other from the last to the first.
-use Rattle.std.proofs.Common.{◌≡◌, ℕ, ◌+◌, ◌-◌, ◌<◌, ◌≤◌, min, List, [], ◌++◌, length, take, get_or, refl, sym, ◌∙◌, ap, subst, arith, ltb, ◌∷◌}
+use Rattle.std.proofs.Common.{◌≡◌, ℕ, ◌+◌, ◌-◌, ◌<◌, ◌≤◌, min, List, [], ◌++◌, length, take, get_or, refl, sym, ◌∙◌}
+use Rattle.std.proofs.Common.{ap, subst, arith, ltb, ◌∷◌}
 use Rattle.std.proofs.{Common.append-nil, lemmas.List.{take_more, Elements.filter-append}}
 use Rattle.shop_nodes.specs.{declared.nodes.Node.Node, inner.HeldNodes.nodes_below}
 use Rattle.shop_runs.specs.declared.{distant_nodes.DistantNodes.DistantNodes, open_nodes.OpenNodes.OpenNodes}
 use Rattle.shop_runs.specs.{declared.plans.Order.TheVariants.Kept, inner.Distant.{count_of, nodes_within, AreAdded}}
 use Rattle.shop_runs.specs.inner.{Distant.{IsCountable, FitBelow, ArePutOrCounted}, Stacks.put_all_before}
 use Rattle.shop_runs.specs.inner.Stores.{open_list, order_of}
-use Rattle.shop_runs.proofs.{DistantLemmas.{count_append, within_append, within_both, none_within}, StoreLemmas.put_append}
+use Rattle.shop_runs.proofs.{DistantLemmas.{count_append, within_append, within_both, none_within}}
+use Rattle.shop_runs.proofs.{StoreLemmas.put_append}
 use Rattle.shop_runs.proofs.StoreLemmas.{below_both}
 
 -- with the rest of the nodes, store and counts come to what they came to at first with all

@@ -1,4 +1,4 @@
-// Laws of rounds and of returns, stated over their definitions and not over code.
+// Laws about the definitions of rounds and of runs, not about code.
 ghost use Rattle.shop_runs.specs.Laws.{PiecesAreAll, OpeningCovers, CutsCover, GatheringCovers};
 ghost use Rattle.shop_runs.specs.Laws.{RoundsKeepTheCover, CountsStaySmall};
 ghost use Rattle.shop_runs.specs.{Trust.AnswersAreTrustworthy, Exact.{SearchesEnd, MoreRoundsAreNoWorse, SolvedStays}};

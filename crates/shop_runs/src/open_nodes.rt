@@ -279,9 +279,9 @@ impl OpenNodes {
         Ok(())
     }
 
-    /// In a row, may keep only the nodes of least bounds, up to the first bound with which they are `most` or more, and
-    /// count the others in `distant`, whose horizon then is at most one above that bound: see `BoundRow::retire`. Fails
-    /// with `NoMemory` if memory runs out.
+    /// If the store is a row, may keep only the nodes of least bounds (whole bounds, until they are `most` or more) and
+    /// count the others in `distant`, whose horizon is then at most one above the last bound kept: see
+    /// `BoundRow::retire`. Fails with `NoMemory` if memory runs out.
     // out of line, so that what it holds takes no stack while pieces are searched
     #[inline(never)]
     pub(crate) fn retire(&mut self, most: usize, distant: &mut DistantNodes) -> Result<(), NoMemory>

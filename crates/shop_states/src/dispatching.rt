@@ -34,7 +34,7 @@ pub trait Dispatching<S: Drop>: Drop {
     /// Says that a candidate's job and `own` are right for a word.
     ghost IsCandidate: { Self → List ℕ → Candidate → Type 0 };
 
-    /// Says that scratch room holds what bounds the child of a word by a job.
+    /// Says that scratch buffers hold what `dispatch_child_in_copy` needs to bound a word's child by this job.
     ghost KnowsChild: { Self → Self.Scratch → List ℕ → ℕ → Type 0 };
 
     /// Makes scratch room. Fails with `NoMemory` if memory runs out.
@@ -157,8 +157,8 @@ pub trait Dispatching<S: Drop>: Drop {
         ensures room { IsSlot self.now room.new }
         ensures scratch { IsScratch self.now scratch.new };
 
-    /// Dispatches the next operation of `candidate.job` in `to`, made a copy of `from`, and returns as `dispatch_below`
-    /// does, in fewer steps, with what `bound_children` left in `scratch`.
+    /// Dispatches the next operation of `candidate.job` in `to`, made a copy of `from`. Returns what `dispatch_below`
+    /// does, in fewer steps, by what `bound_children` left in `scratch`.
     fn dispatch_child_in_copy(
         &self,
         scratch: &mut Self::Scratch,

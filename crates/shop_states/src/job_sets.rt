@@ -4,7 +4,7 @@ ghost use Rattle.shop_states.specs.inner.{JobSets.{members, HasPut}, RisingLists
 
 use std::marker::Model;
 
-/// How many jobs each number of a set stands for, one bit a job.
+/// The number of jobs in each number of a set, one bit a job.
 pub(crate) const BITS: usize = 64;
 
 /// A set of jobs below 64 * `NUMBERS`. Its value in contracts is the ascending list of its jobs.

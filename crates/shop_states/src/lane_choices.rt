@@ -64,8 +64,8 @@ fn is_alone_in<L: StateLanes>(
     true
 }
 
-/// Returns whether no operation but the one at `position` waits in `blocks` with a head below `blocks.end`. Proofs rely
-/// on true alone: a sole candidate that isn't seen costs time, and changes no answer.
+/// Returns true only if no operation but the one at `position` waits in `blocks` with a head below `blocks.end`. False
+/// may be wrong: a sole candidate that isn't seen costs time, and changes no answer.
 #[inline(always)]
 pub(crate) fn is_alone<L: StateLanes>(blocks: &ConflictBlocks, lanes: &L, position: usize) -> bool
     requires { AreConflictBlocks L.GREATEST (L.heads lanes.now) blocks.now }

@@ -15,13 +15,13 @@ pub fn some_reading()
     ensures { (format : Format) → SomeReading (grammar_of format) }
 {}
 
-/// The readers answer a text that has a fault by this fault, unless memory runs out.
+/// The readers refuse a text that has a fault by this fault, unless memory runs out.
 pub fn faults_are_answered()
     ensures { (format : Format) → FaultIsAnswered (grammar_of format) }
 {}
 
 /// A part of `orlib` or `routes` is text lines, a size line of two numbers, and a row for each job: of machines and
-/// times, in `routes` behind a release. A part of `taillard` is text lines, a size line of 2 to 6 numbers, a matrix of
+/// times, in `routes` after a release. A part of `taillard` is text lines, a size line of 2 to 6 numbers, a matrix of
 /// times and a matrix of machines, each with a row for each job and text lines only before its first row.
 pub fn shapes_of_parts()
     ensures orlib { OrlibShape }
@@ -39,7 +39,7 @@ pub fn some_table_reading()
     ensures { (shop : Shop) → SomeTable shop }
 {}
 
-/// `read_table` returns a schedule text that has a fault by this fault, unless memory runs out.
+/// `read_table` refuses a schedule text that has a fault by this fault, unless memory runs out.
 pub fn table_faults_are_answered()
     ensures { (shop : Shop) → TableFaultIsAnswered shop }
 {}

@@ -12,8 +12,8 @@ use shop_model::{SharedWord, Word};
 use shop_states::Dispatching;
 use std::alloc::{AllocError as NoMemory, Global};
 
-/// The most states that are taken back from other words for the children of a word. If more children are tried and no
-/// state is left, those that are walked later have none.
+/// How many states a word's children may take from other words. Once no state is left, children that are walked later
+/// have none.
 const MOST_WANTED: usize = 3;
 
 impl<'a, D: Dispatching<S>, S: Drop> Walker<'a, D, S> {

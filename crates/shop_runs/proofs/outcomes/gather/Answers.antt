@@ -10,7 +10,8 @@ put_nodes-requires-clause-words c = grind (arith, can_be_shared)
 
 pub put_nodes-requires-clause-fits : goal.put_nodes-requires-clause-fits
 put_nodes-requires-clause-fits c = none_fit c.in_ok-found.field-0.makespan c.as_slice.result.now c.none-distant.result
-    (let e = c.none-distant.ensures.horizon in omega arith) (λ b. ap (λ xs. get_or xs b 0) c.none-distant.ensures.counts)
+    (let e = c.none-distant.ensures.horizon in omega arith)
+    (λ b. ap (λ xs. get_or xs b 0) c.none-distant.ensures.counts)
 
 pub put_left-requires : goal.put_left-requires
 put_left-requires c =
@@ -21,7 +22,8 @@ put_left-requires c =
     in none_fit o.makespan (left_open o.left.items) c.put_nodes.new.distant (omega arith) (λ b. (
     let e = put.counted b
     in let f = ap (λ xs. get_or xs b 0) c.none-distant.ensures.counts
-    in let g = ap (count_of b) (none_within c.none-distant.result.horizon o.makespan c.as_slice.result.now (omega arith))
+    in let g = ap (count_of b)
+    (none_within c.none-distant.result.horizon o.makespan c.as_slice.result.now (omega arith))
     in omega arith
     ))
 

@@ -1,7 +1,8 @@
 use Rattle.std.{proofs.Common.{◌≡◌, ◌+◌, take, drop, min, sym, ◌∙◌, ap, subst, arith}, specs.Prelude.IfSome}
 use Rattle.std.proofs.lemmas.Grind.{common_steps}
 use Rattle.shop_runs.specs.declared.distant_nodes.DistantNodes.{DistantNodes}
-use Rattle.shop_runs.specs.inner.{BoundRows.IsBehind, Distant.{count_of, IsCountable, AreAdded, IsRetired}, Stacks.nodes_in_row}
+use Rattle.shop_runs.specs.inner.{BoundRows.IsBehind, Stacks.nodes_in_row}
+use Rattle.shop_runs.specs.inner.Distant.{count_of, IsCountable, AreAdded, IsRetired}
 use Rattle.shop_runs.proofs.{BoundRowLemmas.{cut_empty, retired_row, row_split}, DistantLemmas.count_append}
 use Rattle.shop_runs.proofs.bound_rows.BoundRow.retire.Goals as goal
 

@@ -7,7 +7,8 @@ pub count_put-requires : goal.count_put-requires
 count_put-requires c =
     let nodes = c.self.inside.nodes
     in let leasts = c.self.inside.leasts
-    in let few = few_each nodes.items leasts.items (2 ^ 64 - 1) c.self.invariant (let s = nodes.small in let o = nodes.ok in omega arith)
+    in let few = few_each nodes.items leasts.items (2 ^ 64 - 1) c.self.invariant
+    (let s = nodes.small in let o = nodes.ok in omega arith)
     in elim c.if-len-capacity.branch [
       | then-len-capacity+in_ok-reserve_exact w ↦ grind arith
       | else-len-capacity w ↦ grind arith

@@ -10,7 +10,8 @@ put_nodes-requires-clause-words c = grind (arith, can_be_shared)
 
 pub put_nodes-requires-clause-fits : goal.put_nodes-requires-clause-fits
 put_nodes-requires-clause-fits c = none_fit c.args.standing.makespan c.as_slice.result.now c.none-distant.result
-    (let e = c.none-distant.ensures.horizon in omega arith) (λ b. ap (λ xs. get_or xs b 0) c.none-distant.ensures.counts)
+    (let e = c.none-distant.ensures.horizon in omega arith)
+    (λ b. ap (λ xs. get_or xs b 0) c.none-distant.ensures.counts)
 
 pub returns-clause-at : goal.returns-clause-at
 returns-clause-at c =
