@@ -3,7 +3,6 @@ ghost use Rattle.std.specs.Prelude.{◌≡◌, ◌*◌, ◌≤◌, ◌<◌, ◌+
 ghost use Rattle.std.specs.{Prelude.OnOk, Arc.arc_slice_items};
 ghost use Rattle.shop_model.specs.{declared.limits.TheConstants.{MAX_JOBS, MAX_STEPS}, SharedWords.CanBeShared};
 
-use crate::words::set_jobs;
 use std::alloc::{AllocError as NoMemory, Global};
 use std::marker::Model;
 use std::sync::ArcSlice;
@@ -118,4 +117,18 @@ impl SharedWord {
         }
         Ok(())
     }
+}
+
+/// Replaces `list` by `jobs`, in 16 bits each. Fails with `NoMemory` if memory runs out.
+pub(crate) fn set_jobs(list: &mut Vec<u16>, jobs: &[usize]) -> Result<(), NoMemory>
+    requires { CanBeShared jobs.now }
+    ensures list { OnOk result (list.new.items ≡ jobs.now) }
+    ensures room { vec_capacity list.old ≤ vec_capacity list.new }
+{
+    list.clear();
+    list.reserve(jobs.len())?;
+    for &job in jobs {
+        list.push(job as u16)?;
+    }
+    Ok(())
 }

@@ -23,10 +23,19 @@ impl<'w> Model for Jobs<'w> {
 
 impl<'w> Jobs<'w> {
     /// Begins before the first job of `word`.
-    pub(crate) fn of(word: &'w Word) -> Jobs<'w>
+    fn of(word: &'w Word) -> Jobs<'w>
         ensures { result ≡ word.now }
     {
         Jobs { word, next: 0 }
+    }
+}
+
+impl Word {
+    /// The jobs of the word, in order.
+    pub fn jobs(&self) -> Jobs<'_>
+        ensures { result ≡ self.now }
+    {
+        Jobs::of(self)
     }
 }
 

@@ -3,8 +3,7 @@ ghost use Rattle.std.specs.Prelude.{◌≡◌, ◌↔◌, ◌<◌, ◌≤◌, Al
 ghost use Rattle.shop_model.specs.{SharedWords.CanBeShared, Word.{count_of, IsWord, IsFull, start_jobs}};
 
 use crate::instances::Instance;
-use crate::shared_words::SharedWord;
-use crate::word_jobs::Jobs;
+use crate::shared_words::{SharedWord, set_jobs};
 use std::alloc::{AllocError as NoMemory, Global};
 use std::marker::Model;
 
@@ -77,13 +76,6 @@ impl Word {
         }
     }
 
-    /// The jobs of the word, in order.
-    pub fn jobs(&self) -> Jobs<'_>
-        ensures { result ≡ self.now }
-    {
-        Jobs::of(self)
-    }
-
     /// Turns the word into one that shares its jobs. Takes memory only if the word has a list of its own. Fails with
     /// `NoMemory` if memory runs out.
     pub fn into_shared(self, alloc: Global) -> Result<SharedWord, NoMemory>
@@ -118,20 +110,6 @@ impl Word {
             Entries::Shared(word) => Ok(Word::of_shared(word.shared()?)),
         }
     }
-}
-
-/// Replaces `list` by `jobs`, in 16 bits each. Fails with `NoMemory` if memory runs out.
-pub(crate) fn set_jobs(list: &mut Vec<u16>, jobs: &[usize]) -> Result<(), NoMemory>
-    requires { CanBeShared jobs.now }
-    ensures list { OnOk result (list.new.items ≡ jobs.now) }
-    ensures room { vec_capacity list.old ≤ vec_capacity list.new }
-{
-    list.clear();
-    list.reserve(jobs.len())?;
-    for &job in jobs {
-        list.push(job as u16)?;
-    }
-    Ok(())
 }
 
 /// Counts how often `job` is in `word`.

@@ -1,5 +1,5 @@
 use Rattle.std.proofs.{Common.{◌∙◌, arith, sym}, lemmas.List.{take_all, take_more}}
-use Rattle.shop_model.proofs.words.set_jobs.Goals as goal
+use Rattle.shop_model.proofs.shared_words.set_jobs.Goals as goal
 
 pub loop-job-preserved : goal.loop-job-preserved
 loop-job-preserved c = record {

@@ -1,5 +1,5 @@
 use Rattle.std.{proofs.Common.{◌≡◌, ◌≤◌, take}, specs.Prelude.vec_capacity}
-use Rattle.shop_model.proofs.words.set_jobs.Given as goal
+use Rattle.shop_model.proofs.shared_words.set_jobs.Given as goal
 
 abbrev pub invariant-loop-job : goal.invariant-loop-job
 invariant-loop-job l = record {
