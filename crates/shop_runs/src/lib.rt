@@ -4,6 +4,7 @@
 mod bound_maps;
 mod bound_rows;
 mod crews;
+mod cuts;
 mod distant_nodes;
 mod entries;
 mod kept_stacks;

@@ -1,4 +1,4 @@
-// Rounds, and how they cut the open nodes of a standing into pieces.
+// Rounds, and how the first open nodes of a store are cut into pieces.
 ghost use Rattle.std.specs.Prelude.{◌≡◌, ◌*◌, ◌≤◌, ◌<◌, [], length, drop, true, IfOk, OnOk};
 ghost use Rattle.shop_nodes.specs.Nodes.{AreNodes};
 ghost use Rattle.shop_runs.specs.{Limits.IsCountWithin, Round.cut_into, Nodes.{numbered, told_of, ArePieces}};
@@ -6,9 +6,7 @@ ghost use Rattle.shop_runs.specs.{Laws.IsRound, inner.NodeLists.nodes_in, inner.
 ghost use Rattle.shop_runs.specs.declared.plans.TheConstants.{MAX_BUDGET, MAX_PIECES, MAX_ROUNDS};
 
 use crate::open_nodes::OpenNodes;
-use crate::plans::{MAX_PIECES, Plan};
-use crate::runs::OpenRun;
-use crate::standings::Standing;
+use crate::plans::MAX_PIECES;
 use shop_layout::Layout;
 use shop_model::{Instance, Word};
 use shop_nodes::{Node, Piece};
@@ -42,29 +40,6 @@ pub struct Round<'r> {
 }
 
 impl<'r> Round<'r> {
-    ghost use Rattle.shop_runs.specs.Standings.{IsStandingOf, IsCutOf, CutCovers};
-
-    /// Cuts the open nodes of `standing`, in the plan's order, into at most 256 pieces, and keeps the other nodes as
-    /// the round's rest. Fails with `NoMemory` if memory runs out. For library callers: a run cuts a store of its own.
-    pub fn cut(
-        alloc: Global,
-        instance: &'r Instance,
-        plan: &Plan,
-        standing: Standing,
-    ) -> Result<Round<'r>, NoMemory>
-        requires open { 0 < length standing.open.items }
-        requires rounds { standing.rounds < plan.now.rounds }
-        requires standing { IsStandingOf instance.now standing }
-        ensures cut { IfOk result (λ r. IsCutOf instance.now plan.now standing r) }
-        ensures covers { IfOk result (λ r. CutCovers instance.now standing r) }
-    {
-        let mut open_run = OpenRun::of(alloc, instance, plan.order, standing)?;
-        let mut round = open_run.cut(alloc, instance, None, plan)?;
-        let rest = open_run.open.take_all(alloc)?;
-        round.rest = rest;
-        Ok(round)
-    }
-
     /// Returns the layout of the instance, which all who search the pieces share.
     pub fn layout(&self) -> &Layout<'r>
         ensures { result.now.asked ≡ self.now.instance.now }
