@@ -32,8 +32,8 @@ pub trait StateLanes: Drop {
 
     ghost ends: { Self → List ℕ };
 
-    /// Puts numbers, as the times or tails of the operations at all positions, into lanes. Fails with `NoMemory` if memory
-    /// runs out.
+    /// Puts numbers, as the times or tails of the operations at all positions, into lanes. Fails with `NoMemory` if
+    /// memory runs out.
     fn in_lanes(alloc: Global, numbers: &[u64]) -> Result<Vec<Self::Number>, NoMemory>
         requires { All (λ n. n ≤ GREATEST) numbers.now }
         ensures { IfOk result (λ row. map value row.items ≡ numbers.now) };
@@ -146,7 +146,9 @@ pub trait StateLanes: Drop {
     )
         requires blocks { AreBlocksOf (heads self.now) (map value times.now) (map value tails.now) from to }
         requires room { length owns.old ≡ 8 * to - 8 * from }
-        requires fits { FitOwnSpans GREATEST (lanes_of (heads self.now) (map value times.now) (map value tails.now) from to) }
+        requires fits { FitOwnSpans GREATEST (lanes_of (heads self.now)
+            (map value times.now) (map value tails.now) from to) }
         ensures long { length owns.new ≡ length owns.old }
-        ensures owns { AreOwnSpans (heads self.now) (map value times.now) (map value tails.now) from to (map value owns.new) };
+        ensures owns { AreOwnSpans (heads self.now)
+            (map value times.now) (map value tails.now) from to (map value owns.new) };
 }

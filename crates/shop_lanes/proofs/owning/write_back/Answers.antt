@@ -48,7 +48,8 @@ store-requires-clause-eight g c =
     (omega (arith, c.loop-block-test.true)) c.loop-block.invariant c.load-head.ensures c.load-time.ensures
     c.load-tail.ensures c.load-noted.ensures c.splat-one.ensures c.requires.ends.begins c.requires.ends.before
     c.sum.ensures c.greater-first.ensures
-    (own_told _ _ _ _ c.sum-in-loop-block.ensures c.difference.ensures c.greater-rest.ensures c.sum-in-loop-block-2.ensures))
+    (own_told _ _ _ _ c.sum-in-loop-block.ensures c.difference.ensures c.greater-rest.ensures
+    c.sum-in-loop-block-2.ensures))
 
 pub sum-late-requires : goal.sum-late-requires
 sum-late-requires g c =
@@ -81,7 +82,8 @@ loop-block-preserved g c =
     in back_more cols c.requires.can.fits (c.loop-block.block - 1) (omega (arith, c.loop-block-test.true))
     c.loop-block.invariant c.load-head.ensures c.load-time.ensures c.load-tail.ensures c.load-noted.ensures
     c.splat-one.ensures c.requires.ends.begins c.requires.ends.before c.sum.ensures c.greater-first.ensures
-    (own_told _ _ _ _ c.sum-in-loop-block.ensures c.difference.ensures c.greater-rest.ensures c.sum-in-loop-block-2.ensures)
+    (own_told _ _ _ _ c.sum-in-loop-block.ensures c.difference.ensures c.greater-rest.ensures
+    c.sum-in-loop-block-2.ensures)
     c.waiting.ensures c.sum-late.ensures c.waiting-in-loop-block.ensures c.store.ensures c.greater-behind.ensures
     c.difference-clocks.ensures
 

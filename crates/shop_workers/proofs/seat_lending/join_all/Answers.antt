@@ -35,5 +35,6 @@ loop-seat-preserved c =
           c.loop-seat.invariant.4,
       through_more (λ (w : Returned). HasFilled c.loop-seat.slots.items w.entries)
           (λ (w : Returned). HasFilled c.place.new.slots.items w.entries) _ _ _ c.in-Some.field-0
-          (λ w. still_filled _ _ c.place.ensures.stays w.entries) filled c.in-Some.ensures.items c.loop-seat.invariant.5,
+          (λ w. still_filled _ _ c.place.ensures.stays w.entries) filled c.in-Some.ensures.items
+          c.loop-seat.invariant.5,
     )
