@@ -13,10 +13,12 @@ mod head_raises;
 mod job_sets;
 mod lane_bounds;
 mod lane_choices;
+mod late_raises;
 mod machine_raises;
 mod machine_sets;
 mod placing;
 mod raises;
+mod scratches;
 mod siblings;
 mod states;
 

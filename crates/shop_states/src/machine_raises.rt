@@ -10,9 +10,9 @@ use crate::head_raises::{LaneRaise, no_raise, take_raise};
 use crate::lane_bounds::{
     BoundRange, LaidLanes, kept_ceiling, span_of_rows, take_any_spans, take_spans_of,
 };
+use crate::late_raises::{LateMachine, raise_late};
 use crate::machine_sets::MachineSet;
 use crate::raises::{OpenRoutes, raise_any, raise_marked};
-use crate::siblings::{LateMachine, raise_late};
 use shop_lanes::StateLanes;
 use shop_layout::{Grid, Routes};
 use std::alloc::{AllocError as NoMemory, Global};
@@ -120,7 +120,7 @@ impl<L: StateLanes> MachineRaises<L> {
         take_spans_of(each, raises, raised, laid, &higher) - 1
     }
 
-    /// Raises heads on the routes behind the operations that wait on a late machine, as `siblings::raise_late` does.
+    /// Raises heads on the routes behind the operations that wait on a late machine, as `late_raises::raise_late` does.
     /// Returns the set of machines on which heads rose.
     #[inline(always)]
     pub(crate) fn raise_late(

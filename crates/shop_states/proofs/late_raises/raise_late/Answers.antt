@@ -2,8 +2,8 @@ use Rattle.std.proofs.Common.{inl, inr, arith}
 use Rattle.shop_states.specs.inner.Watchers.{no_floor}
 use Rattle.shop_states.proofs.BehindRaises.{late_all, late_begins, late_can, late_ends, late_marked, late_on}
 use Rattle.shop_states.proofs.{BehindRaises.late_waits, RaisedMachines.lengths_in, Watching.{watch_both, watch_none}}
-use Rattle.shop_states.proofs.siblings.raise_late.Goals.{then-position-late, else-position-late}
-use Rattle.shop_states.proofs.siblings.raise_late.Goals as goal
+use Rattle.shop_states.proofs.late_raises.raise_late.Goals.{then-position-late, else-position-late}
+use Rattle.shop_states.proofs.late_raises.raise_late.Goals as goal
 
 pub loop-from-init : goal.loop-from-init
 loop-from-init g c = grind (arith, late_begins, watch_none)

@@ -2,7 +2,7 @@ use Rattle.std.proofs.{Common.{refl, arith}, lemmas.List.length-map}
 use Rattle.shop_states.{specs.inner.{HeadRaises.raise_in, Watchers.no_floor}, proofs.BehindRaises.{its_leg}}
 use Rattle.shop_states.proofs.BehindRaises.{late_enough, leg_up_to, next_machine, next_raisable, next_read, next_there}
 use Rattle.shop_states.proofs.{BehindRaises.{next_waits, raised_behind}, Watching.{noted_behind, watch_none}}
-use Rattle.shop_states.proofs.siblings.raise_behind.Goals as goal
+use Rattle.shop_states.proofs.late_raises.raise_behind.Goals as goal
 
 pub time-requires : goal.time-requires
 time-requires g c = grind arith
