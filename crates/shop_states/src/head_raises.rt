@@ -1,5 +1,5 @@
 // The raise on a machine: of the heads noted there, the least old one and the greatest new one.
-ghost use Rattle.std.specs.Prelude.{◌≡◌, ◌≤◌, ◌<◌, IsTrue, min, max, length, slice_set};
+ghost use Rattle.std.specs.Prelude.{◌≡◌, ◌≤◌, ◌<◌, min, max, length, slice_set};
 ghost use Rattle.shop_states.specs.inner.HeadRaises.{nothing_raised, raise_in, raise_of, raises_in, widened};
 ghost use Rattle.shop_states.specs.inner.MachineRaises.{AreListed};
 
@@ -50,27 +50,30 @@ fn greater<L: StateLanes>(number: L::Number, other: u64) -> L::Number
     number
 }
 
-/// Notes that a head rose from `before` to `after`: widens the raise of `machine`, and puts `machine` into `raised`.
-/// `FEW` says that there are at most 64 machines: then the set is one number, which spares a test.
+/// Notes that a head rose from `before` to `after`: widens the raise of `machine`, and puts `machine` into `raised`, a
+/// set of `NUMBERS` numbers with 64 machines each. One number spares a test; with 0 of them nothing is noted.
 #[inline(always)]
-pub(crate) fn see<L: StateLanes, const FEW: bool>(
+pub(crate) fn see<L: StateLanes, const NUMBERS: usize>(
     raises: &mut [LaneRaise<L::Number>],
     raised: &mut MachineSet,
     machine: u32,
     before: u64,
     after: u64,
 )
-    requires listed { AreListed (raises_in L.value raises.old) raised.old }
-    requires machines_fit { IsTrue FEW → length raises.old ≤ 64 }
-    requires known { machine < length raises.old }
+    requires listed { 0 < NUMBERS → AreListed (raises_in L.value raises.old) raised.old }
+    requires machines_fit { NUMBERS ≡ 1 → length raises.old ≤ 64 }
+    requires known { 0 < NUMBERS → machine < length raises.old }
     requires rises { before ≤ after }
     requires fits { after ≤ L.GREATEST }
-    ensures raises { raises_in L.value raises.new ≡ slice_set (raises_in L.value raises.old) machine
+    ensures raises { 0 < NUMBERS → raises_in L.value raises.new ≡ slice_set (raises_in L.value raises.old) machine
         (widened (raise_of (raises_in L.value raises.old) machine) before after) }
-    ensures listed { AreListed (raises_in L.value raises.new) raised.new }
+    ensures listed { 0 < NUMBERS → AreListed (raises_in L.value raises.new) raised.new }
 {
+    if NUMBERS == 0 {
+        return;
+    }
     let raise = raises[machine as usize];
-    raised.put(machine, FEW);
+    raised.put(machine, NUMBERS == 1);
     raises[machine as usize] = LaneRaise {
         from: lesser::<L>(raise.from, before),
         to: greater::<L>(raise.to, after),

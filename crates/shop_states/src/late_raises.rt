@@ -31,10 +31,9 @@ pub(crate) struct LateMachine {
 }
 
 /// Raises the heads behind the operation at `position` on its route, as far as they are too early if the operation
-/// begins at `free`. Notes how far these heads rose. The operation's own head stays. `FEW` says that there are at most
-/// 64 machines, see `see`.
+/// begins at `free`. Notes how far these heads rose, see `see`. The operation's own head stays.
 #[inline(always)]
-fn raise_behind<L: StateLanes, const FEW: bool>(
+fn raise_behind<L: StateLanes, const NUMBERS: usize>(
     lanes: &mut L,
     raises: &mut [LaneRaise<L::Number>],
     raised: &mut MachineSet,
@@ -45,7 +44,7 @@ fn raise_behind<L: StateLanes, const FEW: bool>(
     requires waits { 0 < slice_index (L.heads lanes.old) position }
     requires can { CanRaiseBehind L.GREATEST routes.now (rows_in L.StateLanes routes.now lanes.old)
         (IsEndAt position free) }
-    requires note { CanNote L.value FEW routes.now.machines raises.old raised.old }
+    requires note { CanNote L.value NUMBERS routes.now.machines raises.old raised.old }
     ensures { HasRaisedBehind routes.now (IsEndAt position free) (rows_in L.StateLanes routes.now lanes.old)
         (rows_in L.StateLanes routes.now lanes.new) (raises_in L.value raises.old) (raises_in L.value raises.new)
         raised.new }
@@ -57,8 +56,8 @@ fn raise_behind<L: StateLanes, const FEW: bool>(
     if ready <= head {
         return;
     }
-    see::<L, FEW>(raises, raised, leg.machine, head, ready);
-    raise_route::<L, FEW>(lanes, raises, raised, routes, first, ready);
+    see::<L, NUMBERS>(raises, raised, leg.machine, head, ready);
+    raise_route::<L, NUMBERS>(lanes, raises, raised, routes, first, ready);
 }
 
 /// Raises the heads behind each operation that waits on a late machine, as if the operation began at the latest time
@@ -66,8 +65,8 @@ fn raise_behind<L: StateLanes, const FEW: bool>(
 /// Notes how far heads rose. No head of a child is then higher, except on that machine, where a head rises only behind
 /// another operation of its route. Marks up to eight blocks at once, and visits only what waits there and can begin
 /// before the latest end: after all others, and after a marked head that rose before its turn, heads on routes are late
-/// enough. `FEW` says that there are at most 64 machines, see `see`.
-pub(crate) fn raise_late<L: StateLanes, const FEW: bool>(
+/// enough.
+pub(crate) fn raise_late<L: StateLanes, const NUMBERS: usize>(
     lanes: &mut L,
     raises: &mut [LaneRaise<L::Number>],
     raised: &mut MachineSet,
@@ -75,7 +74,7 @@ pub(crate) fn raise_late<L: StateLanes, const FEW: bool>(
     late: LateMachine,
 )
     requires can { CanRaiseLate L.GREATEST routes.now (rows_in L.StateLanes routes.now lanes.old) late }
-    requires note { CanNote L.value FEW routes.now.machines raises.old raised.old }
+    requires note { CanNote L.value NUMBERS routes.now.machines raises.old raised.old }
     ensures { HasRaisedBehind routes.now (IsLateOn late) (rows_in L.StateLanes routes.now lanes.old)
         (rows_in L.StateLanes routes.now lanes.new) (raises_in L.value raises.old) (raises_in L.value raises.new)
         raised.new }
@@ -91,7 +90,7 @@ pub(crate) fn raise_late<L: StateLanes, const FEW: bool>(
             } else {
                 late.latest.end
             };
-            raise_behind::<L, FEW>(lanes, raises, raised, routes, position, free);
+            raise_behind::<L, NUMBERS>(lanes, raises, raised, routes, position, free);
         }
         from = to;
     }

@@ -4,7 +4,6 @@
 mod advances;
 mod beginnings;
 mod candidate_lists;
-mod delays;
 mod dispatchers;
 mod dispatches;
 mod dispatching;

@@ -75,17 +75,17 @@ impl<L: StateLanes> MachineRaises<L> {
         // blocks are marked on the way
         if each == 0 || each > MOST_MARKED {
             if raises.len() <= 64 {
-                raise_any::<L, true>(lanes, raises, &mut raised, grid, next, dispatch);
+                raise_any::<L, 1>(lanes, raises, &mut raised, grid, next, dispatch);
                 return raised;
             }
-            raise_any::<L, false>(lanes, raises, &mut raised, grid, next, dispatch);
+            raise_any::<L, 2>(lanes, raises, &mut raised, grid, next, dispatch);
             return raised;
         }
         let routes = grid.routes();
         let ahead = OpenRoutes { routes, next };
         // lanes with code for one number of blocks have at most 64 machines
         let end = dispatch.end;
-        raise_marked::<L, true>(lanes, raises, &mut raised, &ahead, dispatch.delayed, end);
+        raise_marked::<L, 1>(lanes, raises, &mut raised, &ahead, dispatch.delayed, end);
         raised
     }
 
@@ -139,10 +139,10 @@ impl<L: StateLanes> MachineRaises<L> {
         let raises = self.raises.as_mut_slice();
         // lanes with code for one number of blocks have at most 64 machines: no test is made there
         if L::EACH > 0 || raises.len() <= 64 {
-            raise_late::<L, true>(lanes, raises, &mut raised, routes, late);
+            raise_late::<L, 1>(lanes, raises, &mut raised, routes, late);
             return raised;
         }
-        raise_late::<L, false>(lanes, raises, &mut raised, routes, late);
+        raise_late::<L, 2>(lanes, raises, &mut raised, routes, late);
         raised
     }
 

@@ -7,11 +7,11 @@ pub put-requires-clause-known : goal.put-requires-clause-known
 put-requires-clause-known g c = grind (arith, length-map)
 
 pub returns-clause-raises : goal.returns-clause-raises
-returns-clause-raises g c = grind (arith, widened_in)
+returns-clause-raises g c = λ some. grind (arith, widened_in)
 
 pub returns-clause-listed : goal.returns-clause-listed
-returns-clause-listed g c =
-    let many = length-map c.args.raises.now (raise_in g.L.StateLanes.value) in let known = c.requires.known
-    in subst (λ (rs : List Raise). AreListed rs c.put.new.self) (sym (returns-clause-raises g c))
+returns-clause-listed g c = λ some.
+    let many = length-map c.args.raises.now (raise_in g.L.StateLanes.value) in let known = c.requires.known some
+    in subst (λ (rs : List Raise). AreListed rs c.put.new.self) (sym (returns-clause-raises g c some))
     (listed_more (raises_in g.L.StateLanes.value c.args.raises.now) c.args.raised.now c.put.new.self c.args.machine
-    c.args.before c.args.after c.requires.listed (omega arith) c.put.ensures)
+    c.args.before c.args.after (c.requires.listed some) (omega arith) c.put.ensures)
