@@ -3,8 +3,8 @@ use Rattle.std.proofs.Common.{◌≡◌, ℕ, ◌≤◌, ◌<◌, ◌⊎◌, inl
 use Rattle.std.proofs.{Common.{sym, ◌∙◌, ap, subst, arith}, lemmas.{Bool.{cases_eq, cases_lt}, Grind.get_or-set_at}}
 use Rattle.std.proofs.lemmas.List.{get_or-map, get_or-set_same, get_or-set_other, length-map, length-set, map-set}
 use Rattle.shop_lanes.{specs.{Rows.Lane, Spans.spans_between}, proofs.LeapTurns.none_between}
-use Rattle.shop_states.specs.{declared.head_raises.LaneRaise.LaneRaise, inner.{JobSets.HasPut, RaiseCalls.CanNote}}
-use Rattle.shop_states.specs.inner.HeadRaises.{Raise, no_raise, raise_in, raise_of, raises_in, widened}
+use Rattle.shop_states.specs.{declared.lane_raises.LaneRaise.LaneRaise, inner.{JobSets.HasPut, RaiseCalls.CanNote}}
+use Rattle.shop_states.specs.inner.LaneRaises.{Raise, no_raise, raise_in, raise_of, raises_in, widened}
 use Rattle.shop_states.specs.inner.{MachineRaises.{AreEmpty, AreListed, IsSpanByRaise}, RisingLists.IsIn}
 use Rattle.shop_states.specs.inner.Watchers.{AreKnown}
 

@@ -16,8 +16,8 @@ use crate::states::State;
 use shop_lanes::StateLanes;
 use shop_layout::Grid;
 
-/// Makes the operation behind `position` on the route of `job` the job's next one, and sets that operation's end, plus
-/// one like heads in lanes: `GREATEST` if the job has no operation left.
+/// Makes the operation behind `position` on the route of `job` the job's next one, and sets that operation's end in
+/// lanes: `GREATEST` if the job has no operation left.
 #[inline(always)]
 pub(crate) fn set_next<L: StateLanes>(
     lanes: &mut L,

@@ -1,18 +1,17 @@
 // Raises heads behind the operations of one machine as if that machine were free late, and notes how far.
 ghost use Rattle.std.specs.Prelude.{◌<◌, slice_index};
-ghost use Rattle.shop_states.specs.inner.{HeadRaises.raises_in, LaidLanes.rows_in, RaiseCalls.CanNote};
+ghost use Rattle.shop_states.specs.inner.{LaneRaises.raises_in, LaidLanes.rows_in, RaiseCalls.CanNote};
 ghost use Rattle.shop_states.specs.inner.Siblings.{CanRaiseBehind, CanRaiseLate, HasRaisedBehind, IsEndAt, IsLateOn};
 
 use crate::dispatches::marks_end;
-use crate::head_raises::{LaneRaise, see};
+use crate::lane_raises::{LaneRaise, see};
 use crate::machine_sets::MachineSet;
 use crate::raises::raise_route;
 use shop_lanes::StateLanes;
 use shop_layout::Routes;
 
 /// When the operations of some candidates, all on one machine, end if each goes first: `end` is the latest end, `job`
-/// has that operation, and `second` is the latest end of the other jobs, or 0 if there are none. Ends are one higher,
-/// like heads in lanes.
+/// has that operation, and `second` is the latest end of the other jobs, or 0 if there are none. Ends are in lanes.
 #[derive(Clone, Copy)]
 pub(crate) struct Latest {
     pub job: usize,

@@ -1,12 +1,12 @@
 // Raises heads after an operation is dispatched, and notes how far where the longer word is bounded.
 ghost use Rattle.std.specs.Prelude.{◌+◌, ◌≤◌, ◌<◌, ◌^◌, [], length, slice_index};
-ghost use Rattle.shop_states.specs.inner.{HeadRaises.raises_in, LaidLanes.{HasRaisedIn, RaisesIn, rows_in}};
+ghost use Rattle.shop_states.specs.inner.{LaneRaises.raises_in, LaidLanes.{HasRaisedIn, RaisesIn, rows_in}};
 ghost use Rattle.shop_states.specs.inner.RaiseCalls.{CanDelay, CanNote, CanRaise};
 ghost use Rattle.shop_states.specs.inner.Raises.{AreWaiting, IsOnMachine, IsPosition, IsRaisable, SetsEndAt};
 ghost use Rattle.shop_states.specs.inner.{RisingLists.IsIn, Watchers.{Notes, Sees}, MachineRaises.AreListed};
 
 use crate::dispatches::{Dispatch, marks_end};
-use crate::head_raises::{LaneRaise, see};
+use crate::lane_raises::{LaneRaise, see};
 use crate::machine_sets::MachineSet;
 use shop_lanes::{Marks, StateLanes};
 use shop_layout::{Grid, Routes};
@@ -19,11 +19,11 @@ pub(crate) struct OpenRoutes<'a> {
     pub next: &'a [u32],
 }
 
-/// Raises the head at `position` to `end`, then every later head on its route that is now too early. Notes in `raises`
-/// how far each later head rose, and puts its machine into `raised`; the first head isn't noted, since the candidate's
-/// `own` already covers heads up to `end` on the dispatch's machine. Takes a step for each head that rises. The legs of
-/// a route are side by side in memory, so that no step waits for the one before it to read the next position. At the
-/// end of a route the head is the greatest number, and the raise stops. `NUMBERS` says what is noted, see `see`.
+/// Raises the head at `position` to `end`, then every later head on its route that is now too early. Notes how far each
+/// later head rose, see `see`. Doesn't note the first head: a candidate's `own` covers the heads up to `end` on the
+/// machine of its dispatch, and `raise_behind` notes the first head itself. Takes a step for each head that rises. The
+/// legs of a route are side by side in memory, so that no step waits for the one before it to read the next position.
+/// At the end of a route the head is the greatest number, and the raise stops.
 #[inline(always)]
 pub(crate) fn raise_route<L: StateLanes, const NUMBERS: usize>(
     lanes: &mut L,
@@ -39,8 +39,8 @@ pub(crate) fn raise_route<L: StateLanes, const NUMBERS: usize>(
         (IsPosition position) end }
     requires note { 0 < NUMBERS → CanNote L.value NUMBERS routes.now.machines raises.old raised.old }
     ensures raises { RaisesIn L.StateLanes routes.now [] (IsPosition position) end lanes.old lanes.new }
-    ensures seen { 0 < NUMBERS → Sees routes.now.machines (IsPosition position) end (L.heads lanes.old) (L.heads lanes.new)
-        (raises_in L.value raises.old) (raises_in L.value raises.new) }
+    ensures seen { 0 < NUMBERS → Sees routes.now.machines (IsPosition position) end (L.heads lanes.old)
+        (L.heads lanes.new) (raises_in L.value raises.old) (raises_in L.value raises.new) }
     ensures noted { 0 < NUMBERS → Notes routes.now.machines position end (L.heads lanes.old) (L.heads lanes.new)
         (raises_in L.value raises.old) (raises_in L.value raises.new) }
     ensures listed { 0 < NUMBERS → AreListed (raises_in L.value raises.new) raised.new }

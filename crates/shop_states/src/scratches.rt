@@ -14,9 +14,9 @@ pub struct Scratch<L: StateLanes> {
     pub(crate) beginning: Beginning,
     /// how far noted heads rose on each machine, in a dispatch or where children are bounded together; empty between
     pub(crate) raises: MachineRaises<L>,
-    /// owns[i]: when a machine's operations and their tails end if the one at place `i` goes first, one higher, like
-    /// heads in lanes; there is room for the machine with the most operations
+    /// owns[i]: when, in lanes, a machine's operations and their tails end if the one at place `i` goes first; there is
+    /// room for the machine with the most operations
     pub(crate) owns: Vec<L::Number>,
-    /// ceilings[machine]: one more than the ceiling of the machine, see `bound_children`, for the word bounded last
+    /// ceilings[machine]: the ceiling of the machine in lanes, see `bound_children`, for the word bounded last
     pub(crate) ceilings: Vec<u64>,
 }

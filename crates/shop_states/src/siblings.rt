@@ -16,7 +16,7 @@ use crate::machine_raises::MachineRaises;
 use shop_lanes::StateLanes;
 use shop_layout::{Grid, Routes};
 
-/// Returns when the next operation of `job` ends if it goes first. The end is one higher, like heads in lanes.
+/// Returns when, in lanes, the next operation of `job` ends if it goes first.
 #[inline(always)]
 fn end_of<L: StateLanes>(lanes: &L, routes: &Routes, next: &[u32], job: usize) -> u64
     requires { CanEnd L.GREATEST routes.now (L.heads lanes.now) next.now job }
@@ -70,7 +70,7 @@ fn greatest_own(candidates: &[Candidate], bound: u64) -> u64 {
 
 /// Finds a ceiling for each machine: a number that no span of a child exceeds there, whichever of the candidates is
 /// dispatched; on their own machine no span from after the dispatched operation's end, since `own` tells the others.
-/// Writes one more than each ceiling into `ceilings`. Returns the greatest ceiling, or a number above the `own` of each
+/// Writes the ceilings, in lanes, into `ceilings`. Returns the greatest ceiling, or a number above the `own` of each
 /// candidate. `lanes` holds the heads of the word and is used up; `next` has its next operations.
 #[inline(never)]
 pub(crate) fn bound_children<L: StateLanes>(

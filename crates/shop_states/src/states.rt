@@ -2,7 +2,9 @@
 use shop_lanes::StateLanes;
 
 /// The state of a word: the head of each waiting operation, by position, and each job's next operation with its end.
-/// Heads and ends in lanes are one higher than the times that they mean; a head of 0 says that nothing waits.
+/// A time *in lanes* is one higher than the time that it means, so that a head of 0 says that nothing waits. The one is
+/// added to heads and ends in `fills.rt`, and to the range of a bound in `machine_raises.rt`; it is taken off bounds
+/// there, and off own spans in `candidate_lists.rt`.
 #[derive(Drop)]
 pub struct State<L: StateLanes> {
     pub(crate) lanes: L,

@@ -1,6 +1,6 @@
 -- Requirements and results of a raise of heads.
---     CanNote value numbers ms ..    each machine has a place for a raise, and each machine with a raise is in a list of
---                                    at most 64 machines for each of these numbers
+--     CanNote value numbers ms ..    each machine has a place for a raise, and each machine with a raise is in a list;
+--                                    that takes so many numbers, one for at most 64 machines
 --     CanRaise greatest l nexts ..   the heads at some positions can be raised
 --     CanDelay greatest l nexts ..   a dispatch marks what it delays in the first blocks of its machine, and the heads
 --                                    there can be raised to its end
@@ -10,8 +10,8 @@
 use Rattle.std.specs.Prelude.{◌≡◌, ℕ, ◌≤◌, ◌<◌, List, length}
 use Rattle.shop_lanes.specs.Rows.{Rows}
 use Rattle.shop_layout.specs.Positions.{LayoutState}
-use Rattle.shop_states.specs.declared.{dispatches.Dispatch.Dispatch, head_raises.LaneRaise.LaneRaise}
-use Rattle.shop_states.specs.inner.{Dispatches.AreDelayedOn, HeadRaises.{Raise, raises_in}, MachineRaises.AreListed}
+use Rattle.shop_states.specs.declared.{dispatches.Dispatch.Dispatch, lane_raises.LaneRaise.LaneRaise}
+use Rattle.shop_states.specs.inner.{Dispatches.AreDelayedOn, LaneRaises.{Raise, raises_in}, MachineRaises.AreListed}
 use Rattle.shop_states.specs.inner.{Raises.{HasBlocks, IsOnMachine, IsRaisable, Raises}, Watchers.{AreKnown, Sees}}
 
 pub record CanNote {N : Type 0} (value : N → ℕ) (numbers : ℕ) (ms : List ℕ) (raises : List (LaneRaise N))

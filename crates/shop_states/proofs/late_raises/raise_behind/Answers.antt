@@ -1,7 +1,8 @@
 use Rattle.std.proofs.{Common.{refl, arith}, lemmas.List.{length-map, length-set}}
-use Rattle.shop_states.{specs.inner.{HeadRaises.raise_in, Watchers.no_floor}, proofs.BehindRaises.{its_leg}}
+use Rattle.shop_states.{specs.inner.{LaneRaises.raise_in, Watchers.no_floor}, proofs.BehindRaises.{its_leg}}
 use Rattle.shop_states.proofs.BehindRaises.{late_enough, leg_up_to, next_machine, next_raisable, next_read, next_there}
-use Rattle.shop_states.proofs.{BehindRaises.{next_waits, raised_behind}, RaisedMachines.note_on, Watching.{noted_behind, watch_none}}
+use Rattle.shop_states.proofs.{BehindRaises.{next_waits, raised_behind}, RaisedMachines.note_on}
+use Rattle.shop_states.proofs.Watching.{noted_behind, watch_none}
 use Rattle.shop_states.proofs.late_raises.raise_behind.Goals as goal
 
 pub time-requires : goal.time-requires
@@ -56,7 +57,8 @@ raise_route-requires-clause-raisable g c =
 
 pub raise_route-requires-clause-note : goal.raise_route-requires-clause-note
 raise_route-requires-clause-note g c = λ some.
-    note_on c.requires.note (let saw = c.see.ensures.raises some in grind (arith, length-set)) (c.see.ensures.listed some)
+    let saw = c.see.ensures.raises some
+    in note_on c.requires.note (grind (arith, length-set)) (c.see.ensures.listed some)
 
 pub returns : goal.returns
 returns g c =

@@ -1,6 +1,6 @@
 use Rattle.std.proofs.Common.{◌≡◌, ◌+◌, ◌-◌, ◌<◌, get_or, min}
 use Rattle.shop_lanes.specs.Marks.{positions_among}
-use Rattle.shop_states.specs.inner.{HeadRaises.raises_in, LaidLanes.rows_in, MachineRaises.AreListed}
+use Rattle.shop_states.specs.inner.{LaneRaises.raises_in, LaidLanes.rows_in, MachineRaises.AreListed}
 use Rattle.shop_states.proofs.MarkedRaises.{AreBlocksRaised, AreRaisedUpTo}
 use Rattle.shop_states.proofs.raises.raise_any.Given as goal
 

@@ -1,5 +1,5 @@
 use Rattle.std.proofs.Common.{◌≡◌, ◌<◌, length}
-use Rattle.shop_states.specs.inner.{LaidLanes.rows_in, HeadRaises.raises_in, MachineRaises.AreListed, RisingLists.IsIn}
+use Rattle.shop_states.specs.inner.{LaidLanes.rows_in, LaneRaises.raises_in, MachineRaises.AreListed, RisingLists.IsIn}
 use Rattle.shop_states.{specs.inner.Watchers.Sees, proofs.RaiseLoops.AreMarksRaised}
 use Rattle.shop_states.proofs.raises.raise_marked.Given as goal
 

@@ -1,5 +1,5 @@
 use Rattle.std.proofs.{Common.{refl, arith}, lemmas.List.length-map}
-use Rattle.shop_states.{specs.inner.HeadRaises.raise_in, proofs.{RaisedMachines.lengths_in, RaisedEnds.raised_within}}
+use Rattle.shop_states.{specs.inner.LaneRaises.raise_in, proofs.{RaisedMachines.lengths_in, RaisedEnds.raised_within}}
 use Rattle.shop_states.proofs.RaiseSteps.{begun_following, ended_at, followed, is_there, leg_fits, leg_known}
 use Rattle.shop_states.proofs.{RaiseSteps.{leg_machine, position_up_to, put_is, read_there}, Watching.notes_first}
 use Rattle.shop_states.proofs.Watching.{notes_next, sees_first, sees_long, sees_next}

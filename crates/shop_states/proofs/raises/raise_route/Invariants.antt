@@ -1,5 +1,5 @@
 use Rattle.std.proofs.Common.{◌-◌, ◌<◌, length}
-use Rattle.shop_states.specs.inner.{LaidLanes.rows_in, HeadRaises.raises_in, Raises.IsPosition, MachineRaises.AreListed}
+use Rattle.shop_states.specs.inner.{LaidLanes.rows_in, LaneRaises.raises_in, Raises.IsPosition, MachineRaises.AreListed}
 use Rattle.shop_states.{specs.inner.Watchers.{Notes, Sees}, proofs.RaiseSteps.IsFollowing}
 use Rattle.shop_layout.specs.Legs.{all_legs}
 use Rattle.shop_states.proofs.raises.raise_route.Given as goal

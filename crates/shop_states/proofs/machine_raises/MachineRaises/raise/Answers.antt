@@ -8,8 +8,9 @@ pub raise_any-requires-clause-can : goal.raise_any-requires-clause-can
 raise_any-requires-clause-can g c = c.requires.can
 
 pub raise_any-requires-clause-note : goal.raise_any-requires-clause-note
-raise_any-requires-clause-note g c = λ some. can_note g.L.StateLanes.value c.as_mut_slice-raises.ensures.value c.self.view_is
-    c.self.invariant.0 c.requires.at_rest c.requires.known c.none-raised.ensures some (λ few. c.if-raises-le64.true)
+raise_any-requires-clause-note g c = λ some. can_note g.L.StateLanes.value
+    c.as_mut_slice-raises.ensures.value c.self.view_is c.self.invariant.0 c.requires.at_rest
+    c.requires.known c.none-raised.ensures some (λ few. c.if-raises-le64.true)
 
 pub raise_any-requires-then-each-eq0-clause-can : goal.raise_any-requires-then-each-eq0-clause-can
 raise_any-requires-then-each-eq0-clause-can g c = c.requires.can
@@ -36,7 +37,8 @@ raise_marked-requires-clause-can g c = rw c.routes-routes.ensures
 
 pub invariant_of-self : goal.invariant_of-self
 invariant_of-self g c = few_written g.L.StateLanes.value c.self.inside.raises c.raise_any.new.raises
-    c.as_mut_slice-raises.ensures.value (c.raise_any.ensures.noted (omega arith)).machines g.L.StateLanes.EACH c.self.invariant
+    c.as_mut_slice-raises.ensures.value (c.raise_any.ensures.noted (omega arith)).machines
+    g.L.StateLanes.EACH c.self.invariant
 
 pub invariant_of-self-then-each-eq0 : goal.invariant_of-self-then-each-eq0
 invariant_of-self-then-each-eq0 g c = few_written g.L.StateLanes.value c.self.inside.raises
@@ -45,7 +47,8 @@ invariant_of-self-then-each-eq0 g c = few_written g.L.StateLanes.value c.self.in
 
 pub invariant_of-self-2 : goal.invariant_of-self-2
 invariant_of-self-2 g c = few_written g.L.StateLanes.value c.self.inside.raises c.raise_marked.new.raises
-    c.as_mut_slice-raises.ensures.value (c.raise_marked.ensures.noted (omega arith)).machines g.L.StateLanes.EACH c.self.invariant
+    c.as_mut_slice-raises.ensures.value (c.raise_marked.ensures.noted (omega arith)).machines
+    g.L.StateLanes.EACH c.self.invariant
 
 pub returns-then-raises-le64 : goal.returns-then-raises-le64
 returns-then-raises-le64 g c = raised_written g.L.StateLanes.value c.self.inside.raises c.raise_any.new.raises

@@ -7,7 +7,8 @@ raise_late-requires-2-clause-can g c = c.requires.can
 
 pub raise_late-requires-2-clause-note : goal.raise_late-requires-2-clause-note
 raise_late-requires-2-clause-note g c = can_note g.L.StateLanes.value c.as_mut_slice-raises.ensures.value
-    c.self.view_is c.self.invariant.0 c.requires.at_rest c.requires.known c.none-raised.ensures (omega arith) (λ one. omega arith)
+    c.self.view_is c.self.invariant.0 c.requires.at_rest c.requires.known c.none-raised.ensures (omega arith)
+    (λ one. omega arith)
 
 pub raise_late-requires-clause-can : goal.raise_late-requires-clause-can
 raise_late-requires-clause-can g c = c.requires.can

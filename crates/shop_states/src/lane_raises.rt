@@ -1,6 +1,6 @@
-// The raise on a machine: of the heads noted there, the least old one and the greatest new one.
+// The raise on a machine: of the heads noted there, the least old one and the greatest new one, in lanes.
 ghost use Rattle.std.specs.Prelude.{◌≡◌, ◌≤◌, ◌<◌, min, max, length, slice_set};
-ghost use Rattle.shop_states.specs.inner.HeadRaises.{nothing_raised, raise_in, raise_of, raises_in, widened};
+ghost use Rattle.shop_states.specs.inner.LaneRaises.{nothing_raised, raise_in, raise_of, raises_in, widened};
 ghost use Rattle.shop_states.specs.inner.MachineRaises.{AreListed};
 
 use crate::machine_sets::MachineSet;
@@ -50,8 +50,9 @@ fn greater<L: StateLanes>(number: L::Number, other: u64) -> L::Number
     number
 }
 
-/// Notes that a head rose from `before` to `after`: widens the raise of `machine`, and puts `machine` into `raised`, a
-/// set of `NUMBERS` numbers with 64 machines each. One number spares a test; with 0 of them nothing is noted.
+/// Notes that a head rose from `before` to `after`: widens the raise of `machine`, and puts `machine` into `raised`.
+/// `NUMBERS` says how many numbers of that set are needed: 1 for at most 64 machines, which spares a test, else 2.
+/// Notes nothing if it is 0.
 #[inline(always)]
 pub(crate) fn see<L: StateLanes, const NUMBERS: usize>(
     raises: &mut [LaneRaise<L::Number>],

@@ -1,7 +1,7 @@
 use Rattle.std.proofs.{Common.{List, sym, subst, arith}, lemmas.List.length-map}
-use Rattle.shop_states.specs.inner.{HeadRaises.{Raise, raise_in, raises_in}, MachineRaises.AreListed}
+use Rattle.shop_states.specs.inner.{LaneRaises.{Raise, raise_in, raises_in}, MachineRaises.AreListed}
 use Rattle.shop_states.proofs.RaisedMachines.{listed_more, widened_in}
-use Rattle.shop_states.proofs.head_raises.see.Goals as goal
+use Rattle.shop_states.proofs.lane_raises.see.Goals as goal
 
 pub put-requires-clause-known : goal.put-requires-clause-known
 put-requires-clause-known g c = grind (arith, length-map)
