@@ -8,7 +8,7 @@ use Rattle.shop_bound.specs.{Bound.lb, Heads.head_of, OneMachine.one}
 use Rattle.shop_states.proofs.{BoundsUpTo.IsBoundUpTo, ChildBounds.child-le, LeftSlots.left_for}
 use Rattle.shop_states.proofs.ChildExits.{after_spans-cover, after_spans-le}
 use Rattle.shop_layout.specs.{HeadLimits.latest_end, Lanes.lanes_on, Positions.{LayoutState, IsLaidOut}}
-use Rattle.shop_states.specs.inner.{LaneHeads.AreHeadsAt, HeadRaises.Raise}
+use Rattle.shop_states.specs.inner.{LaneHeads.AreHeadsAt, LaneRaises.Raise}
 use Rattle.shop_layout.proofs.{LaidPlaces.each_position, LatestEnds.latest_end_is}
 
 -- no head is later than the latest end

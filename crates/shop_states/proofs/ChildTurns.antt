@@ -8,7 +8,7 @@ use Rattle.shop_bound.specs.{Bound.lb, OneMachine.one}
 use Rattle.shop_states.proofs.{BoundsUpTo.IsBoundUpTo, ChildRaises.{bound_is, heads_small, its_lanes}}
 use Rattle.shop_states.proofs.{ChildReads.left_stored, SeenRaises.{bounded_by_seen, span_ahead}, LeftSlots.left_for}
 use Rattle.shop_states.specs.inner.{ChildBounds.IsLeastAfter, LaneHeads.AreHeadsAt, LaneStates.AreHeadsInLanes}
-use Rattle.shop_states.specs.inner.{Watchers.{IsSeenAt, floor_on}, HeadRaises.Raise}
+use Rattle.shop_states.specs.inner.{Watchers.{IsSeenAt, floor_on}, LaneRaises.Raise}
 use Rattle.shop_layout.specs.{HeadLimits.latest_end, Lanes.lanes_on, Positions.{AreMachinesOf, LayoutState, place}}
 use Rattle.shop_layout.proofs.LaneLimits.{blocks_within}
 

@@ -4,7 +4,7 @@ use Rattle.std.specs.{Prelude.Vec, declared.alloc.Global.Global}
 use Rattle.shop_lanes.specs.Rows.{Rows}
 use Rattle.shop_model.specs.Shop.{Shop}
 use Rattle.shop_layout.{proofs.Written.written_vec, specs.{LaidOuts.LaidOutState, Positions.LayoutState}}
-use Rattle.shop_states.specs.{declared.beginnings.Beginning.Beginning, inner.{AskedStates.IsKeptFor, HeadRaises.Raise}}
+use Rattle.shop_states.specs.{declared.beginnings.Beginning.Beginning, inner.{AskedStates.IsKeptFor, LaneRaises.Raise}}
 use Rattle.shop_states.specs.inner.{LaneStates.{GoesOn, HasRoom}, MachineRaises.AreEmpty, Scratches.IsScratchOf}
 
 -- so does a vector whose slice was written

@@ -1,7 +1,7 @@
 -- One more turn of the loops that bound by lanes.
 use Rattle.std.proofs.Common.{◌≡◌, ℕ, ◌≤◌, ◌<◌, List, length, set, arith}
 use Rattle.std.proofs.lemmas.{Bool.cases_eq, List.{get_or-set_same, get_or-set_other, length-set}}
-use Rattle.shop_states.specs.inner.HeadRaises.{Raise, raise_of, widened, AreRaisesUpTo}
+use Rattle.shop_states.specs.inner.LaneRaises.{Raise, raise_of, widened, AreRaisesUpTo}
 
 -- a raise that was widened, and the others
 module _ (raises : List Raise) (m a b : ℕ) (known : m < length raises) (after : List Raise)

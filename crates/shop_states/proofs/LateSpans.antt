@@ -7,8 +7,8 @@ use Rattle.shop_bound.specs.Bound.{lb}
 use Rattle.shop_layout.specs.{HeadLimits.latest_end, Lanes.{lanes_on, rows_of}, Positions.LayoutState}
 use Rattle.shop_layout.proofs.LaneLimits.{blocks_within}
 use Rattle.shop_states.specs.{inner.{LaneHeads.AreHeadsAt, Watchers.floor_on}, declared.dispatching.Candidate.Candidate}
-use Rattle.shop_states.specs.{inner.{Raises.IsInBlocks, Ceilings.AreChildCeilings}, declared.siblings.Latest.Latest}
-use Rattle.shop_states.specs.inner.{HeadRaises.Raise, Advances.IsAdvancing, LaneStates.{AreHeadsInLanes, IsKeptInLanes}}
+use Rattle.shop_states.specs.{inner.{Raises.IsInBlocks, Ceilings.AreChildCeilings}, declared.late_raises.Latest.Latest}
+use Rattle.shop_states.specs.inner.{LaneRaises.Raise, Advances.IsAdvancing, LaneStates.{AreHeadsInLanes, IsKeptInLanes}}
 use Rattle.shop_states.specs.inner.Siblings.{AreLatest, AreSiblings, IsAmong, IsLateAt, RaisesBehind, end_by}
 use Rattle.shop_states.proofs.{CeilingLemmas.{IsCeiling, IsBelow, ceiling_of_spans}, ChildBounds.child-le}
 use Rattle.shop_states.proofs.{ChildRaises.{bounded_by_raise, covered_all}, ChildTargets.{child_heads, child_heads_are}}

@@ -4,7 +4,7 @@ use Rattle.std.proofs.lemmas.List.{length-map}
 use Rattle.shop_lanes.specs.{Rows.{AreBlocksOf, AreCutFrom, lanes_in}, declared.lane_rows.LaneRows.LaneRows}
 use Rattle.shop_lanes.proofs.RowValues.{lanes_of_cut, long_cut}
 use Rattle.shop_layout.specs.{Lanes.{lanes_on, rows_of}, Positions.LayoutState}
-use Rattle.shop_states.specs.{declared.head_raises.LaneRaise.LaneRaise, inner.HeadRaises.{Raise, raise_in, raise_of}}
+use Rattle.shop_states.specs.{declared.lane_raises.LaneRaise.LaneRaise, inner.LaneRaises.{Raise, raise_in, raise_of}}
 use Rattle.shop_states.specs.inner.MachineRaises.{CanBoundRows, CanTakeSpans, IsSpanByRaise}
 use Rattle.shop_states.proofs.RaisedMachines.{AreLeft, first_known}
 

@@ -2,7 +2,7 @@
 use Rattle.std.proofs.Common.{◌≡◌, ℕ, ◌+◌, ◌*◌, ◌≤◌, ◌<◌, min, List, length, get_or, refl, ◌∙◌, arith}
 use Rattle.shop_lanes.specs.{Marks.positions_among, Rows.Rows}
 use Rattle.shop_layout.specs.Positions.{AreEven, LayoutState}
-use Rattle.shop_states.specs.{declared.dispatches.Dispatch.Dispatch, inner.{Dispatches.marked_up_to, HeadRaises.Raise}}
+use Rattle.shop_states.specs.{declared.dispatches.Dispatch.Dispatch, inner.{Dispatches.marked_up_to, LaneRaises.Raise}}
 use Rattle.shop_states.specs.inner.{MachineRaises.AreListed, RaiseCalls.{CanDelay, CanRaise, HasRaised}, Watchers.Sees}
 use Rattle.shop_states.specs.inner.{Raises.{AreWaiting, IsInBlocks, IsOnMachine, IsRaisable, Raises}, RisingLists.IsIn}
 use Rattle.shop_states.proofs.RaiseLoops.{all_blocks, blocks_raisable, marks_in, marks_raisable, marks_raised}

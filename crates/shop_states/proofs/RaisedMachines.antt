@@ -1,10 +1,10 @@
 -- Machines with a raise are listed: one more, and one less.
-use Rattle.std.proofs.Common.{◌≡◌, ℕ, ◌≤◌, ◌<◌, ◌⊎◌, inl, inr, List, [], ◌∷◌, length, get_or, set, Bool, IsTrue, refl}
+use Rattle.std.proofs.Common.{◌≡◌, ℕ, ◌≤◌, ◌<◌, ◌⊎◌, inl, inr, List, [], ◌∷◌, length, get_or, set, refl}
 use Rattle.std.proofs.{Common.{sym, ◌∙◌, ap, subst, arith}, lemmas.{Bool.{cases_eq, cases_lt}, Grind.get_or-set_at}}
 use Rattle.std.proofs.lemmas.List.{get_or-map, get_or-set_same, get_or-set_other, length-map, length-set, map-set}
 use Rattle.shop_lanes.{specs.{Rows.Lane, Spans.spans_between}, proofs.LeapTurns.none_between}
-use Rattle.shop_states.specs.{declared.head_raises.LaneRaise.LaneRaise, inner.{JobSets.HasPut, RaiseCalls.CanNote}}
-use Rattle.shop_states.specs.inner.HeadRaises.{Raise, no_raise, raise_in, raise_of, raises_in, widened}
+use Rattle.shop_states.specs.{declared.lane_raises.LaneRaise.LaneRaise, inner.{JobSets.HasPut, RaiseCalls.CanNote}}
+use Rattle.shop_states.specs.inner.LaneRaises.{Raise, no_raise, raise_in, raise_of, raises_in, widened}
 use Rattle.shop_states.specs.inner.{MachineRaises.{AreEmpty, AreListed, IsSpanByRaise}, RisingLists.IsIn}
 use Rattle.shop_states.specs.inner.Watchers.{AreKnown}
 
@@ -25,15 +25,30 @@ module _ {N : Type 0} (value : N → ℕ) where
   lengths_in before after same = sym (length-map after (raise_in value)) ∙ same ∙ length-map before (raise_in value)
 
 -- notes begin with raises at rest and an empty set
-pub can_note : {N : Type 0} (value : N → ℕ) {few : Bool} {ms : List ℕ} {raises items : List (LaneRaise N)}
+pub can_note : {N : Type 0} (value : N → ℕ) {numbers : ℕ} {ms : List ℕ} {raises items : List (LaneRaise N)}
     {old : List Raise} {raised : List ℕ} → raises ≡ items → raises_in value items ≡ old → length items ≤ 128
-    → AreEmpty old → AreKnown ms (length old) → raised ≡ [] → (IsTrue few → length raises ≤ 64)
-    → CanNote value few ms raises raised
-can_note value same view most empty known none small = record {
+    → AreEmpty old → AreKnown ms (length old) → raised ≡ [] → 0 < numbers
+    → (numbers ≡ 1 → length raises ≤ 64) → CanNote value numbers ms raises raised
+can_note value same view most empty known none some small = record {
+  some = some;
   known = λ q here. grind (arith, length-map);
   machines_fit = small;
   listed = grind (arith, length-map);
 }
+
+-- and go on
+pub note_on : {N : Type 0} {value : N → ℕ} {numbers : ℕ} {ms : List ℕ} {raises after : List (LaneRaise N)}
+    {raised machines : List ℕ} → CanNote value numbers ms raises raised
+    → length (raises_in value after) ≡ length (raises_in value raises) → AreListed (raises_in value after) machines
+    → CanNote value numbers ms after machines
+note_on {value = value} {raises = raises} {after = after} can same are =
+    let long = lengths_in value raises after same
+    in record {
+      some = can.some;
+      known = λ q here. (let is = can.known q here in omega arith);
+      machines_fit = λ one. (let few = can.machines_fit one in omega arith);
+      listed = are;
+    }
 
 -- a raise that was widened, and its machine put into the set
 pub listed_more : (raises : List Raise) (machines after : List ℕ) (m a b : ℕ) → AreListed raises machines

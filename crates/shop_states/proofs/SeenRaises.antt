@@ -9,7 +9,7 @@ use Rattle.shop_model.proofs.{Placings.place_next-is, WordLemmas.IsWord-init}
 use Rattle.shop_bound.{specs.{Bound.lb, Heads.head_of}, proofs.HeadsStay.steps_rise}
 use Rattle.shop_layout.specs.{Lanes.lanes_on, Positions.{AreMachinesOf, LayoutState, IsLaidOut, first_position}}
 use Rattle.shop_layout.proofs.{LaidPlaces.each_position, MachineLoads.block_at}
-use Rattle.shop_states.specs.inner.{LaneHeads.{AreHeadsAt, AreStored}, Watchers.{IsSeenAt, floor_on}, HeadRaises.Raise}
+use Rattle.shop_states.specs.inner.{LaneHeads.{AreHeadsAt, AreStored}, Watchers.{IsSeenAt, floor_on}, LaneRaises.Raise}
 use Rattle.shop_states.proofs.{ChildBounds.left-le-lb, ChildRaises.{IsBounded, bounded_by_raise, covered_all}}
 use Rattle.shop_states.proofs.RisenLanes.{AreBeside, AreUpTo, IsLaneBeside, IsRisen, IsRisenLane, IsServedBefore}
 use Rattle.shop_states.proofs.{RisenLanes.{beside_as, lanes_beside, span_beside, spans_risen}, LeftSlots.left_falls}

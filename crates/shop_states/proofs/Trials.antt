@@ -10,7 +10,7 @@ use Rattle.shop_states.specs.inner.{LaneEnds.{CanKeepEnds, IsEndOf, end_at}, Adv
 use Rattle.shop_states.specs.inner.{LaneStates.{AreHeadsInLanes, IsKeptInLanes}, Ceilings.{AreChildCeilings, AreUnder}}
 use Rattle.shop_states.specs.inner.{MachineRaises.{AreEmpty, AreRaisesFit, TakesSpans}, ChildBounds.IsLeastAfter}
 use Rattle.shop_states.specs.inner.{Dispatches.IsDispatchOf, RaiseCalls.CanDelay}
-use Rattle.shop_states.specs.inner.{Raises.{HasBlocks, IsOnMachine, IsRaisable, Raises}, HeadRaises.{Raise, raise_of}}
+use Rattle.shop_states.specs.inner.{Raises.{HasBlocks, IsOnMachine, IsRaisable, Raises}, LaneRaises.{Raise, raise_of}}
 use Rattle.shop_states.proofs.{BoundsUpTo.IsBoundUpTo, RaiseSteps.put_is, FittingSpans.{span_within, spans_each}}
 use Rattle.shop_states.proofs.AdvanceSteps.{advanced, advanced_long, advanced_others, end_small, lifted_blocks}
 use Rattle.shop_states.proofs.{AdvanceSteps.{lifted_raisable, machine_here}, LaneFits.{AreSpansFit, spans_fit}}

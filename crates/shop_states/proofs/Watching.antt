@@ -1,7 +1,7 @@
 -- What was seen of heads is seen still, raise by raise.
 use Rattle.std.proofs.Common.{rules, ◌≡◌, ℕ, ◌≤◌, ◌<◌, inl, inr, List, length, get_or, set, refl, sym, ◌∙◌, ap, arith}
 use Rattle.std.proofs.lemmas.{Bool.cases_eq, Grind.get_or-set_at, List.{get_or-set_other, length-set}}
-use Rattle.shop_states.specs.inner.{HeadRaises.{Raise, raise_of, widened}, Raises.IsPosition}
+use Rattle.shop_states.specs.inner.{LaneRaises.{Raise, raise_of, widened}, Raises.IsPosition}
 use Rattle.shop_states.specs.inner.Watchers.{AreSeen, IsSeenAt, Notes, Sees, Watches, floor_on, no_floor}
 use Rattle.shop_states.proofs.LaneBoundTurns.{raise_from, raise_here, raise_to, up_to_turn}
 

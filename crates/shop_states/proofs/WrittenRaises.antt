@@ -4,7 +4,7 @@ use Rattle.std.proofs.Common.{◌≡◌, ℕ, ◌+◌, ◌-◌, ◌≤◌, ◌<�
 use Rattle.std.specs.{Prelude.Vec, declared.alloc.Global.Global}
 use Rattle.shop_lanes.specs.Rows.{Rows}
 use Rattle.shop_layout.{proofs.Written.written_vec, specs.Positions.LayoutState}
-use Rattle.shop_states.specs.{declared.head_raises.LaneRaise.LaneRaise, inner.HeadRaises.{Raise, raises_in}}
+use Rattle.shop_states.specs.{declared.lane_raises.LaneRaise.LaneRaise, inner.LaneRaises.{Raise, raises_in}}
 use Rattle.shop_states.specs.inner.{MachineRaises.{CanTakeSpansUnder, TakesSpans}, RaiseCalls.HasRaised}
 use Rattle.shop_states.{specs.inner.Siblings.{BoundsRaises, HasRaisedBehind}, proofs.RaisedMachines.lengths_in}
 

@@ -1,9 +1,9 @@
-pub mod HeadRaises
 pub mod JobSets
 pub mod LaidLanes
 pub mod LaneChoices
 pub mod LaneEnds
 pub mod LaneHeads
+pub mod LaneRaises
 pub mod MachineRaises
 pub mod RaiseCalls
 pub mod Raises

@@ -7,16 +7,17 @@ ghost use Rattle.shop_states.specs.inner.Advances.{CanAdvance, CanGoOn, CanStrik
 ghost use Rattle.shop_states.specs.inner.{LaidLanes.{KeepsWord, rows_in}, LaneStates.GoesOn, MachineRaises.AreEmpty};
 ghost use Rattle.shop_states.specs.inner.StateCopies.{IsAsLong};
 
-use crate::delays::delay;
 use crate::dispatches::Dispatch;
 use crate::lane_bounds::{BoundRange, LaidLanes};
 use crate::machine_raises::MachineRaises;
+use crate::machine_sets::MachineSet;
+use crate::raises::raise_any;
 use crate::states::State;
 use shop_lanes::StateLanes;
 use shop_layout::Grid;
 
-/// Makes the operation behind `position` on the route of `job` the job's next one, and sets that operation's end, plus
-/// one like heads in lanes: `GREATEST` if the job has no operation left.
+/// Makes the operation behind `position` on the route of `job` the job's next one, and sets that operation's end in
+/// lanes: `GREATEST` if the job has no operation left.
 #[inline(always)]
 pub(crate) fn set_next<L: StateLanes>(
     lanes: &mut L,
@@ -143,7 +144,8 @@ pub(crate) fn advance_unbounded<L: StateLanes>(
     let lanes = &mut state.lanes;
     let next = state.next.as_mut_slice();
     lanes.set_head(position, 0);
-    delay(lanes, grid, next, dispatch);
+    let (mut raises, mut raised) = ([], MachineSet::none());
+    raise_any::<L, 0>(lanes, &mut raises, &mut raised, grid, next, dispatch);
     set_next(lanes, next, grid, job, position);
 }
 

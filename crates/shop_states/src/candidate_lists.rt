@@ -11,15 +11,15 @@ ghost use Rattle.shop_layout.specs.Positions.{HoldsMachines};
 
 use crate::dispatches::marks_end;
 use crate::dispatching::Candidate;
-use crate::job_sets::BITS;
+use crate::job_sets::JOBS_PER_NUMBER;
 use crate::lane_choices::{ConflictBlocks, conflict_set, is_alone};
 use crate::states::State;
 use shop_lanes::{Marks, StateLanes};
 use shop_layout::Grid;
 
 /// Appends the candidates of the marked `jobs` whose `own` is below `limit`, and returns how many jobs are left out.
-/// `owns[i]` is the own span of the operation at position `first` + `i`: how late it, and the others of its machine
-/// with their tails, end if it goes first. Own spans are one higher, like heads in lanes; `own` is not.
+/// `owns[i]` is the own span, in lanes, of the operation at position `first` + `i`: how late it, and the others of its
+/// machine with their tails, end if it goes first. `own` is the time that this means.
 #[inline(always)]
 fn list_marked<L: StateLanes>(
     candidates: &mut Vec<Candidate>,
@@ -56,8 +56,7 @@ fn list_marked<L: StateLanes>(
     others
 }
 
-/// The next operation that can end first: that of job `chosen`, on `machine`. `end` is its end, one higher, like
-/// heads in lanes.
+/// The next operation that can end first: that of job `chosen`, on `machine`. `end` is its end in lanes.
 #[derive(Clone, Copy)]
 pub(crate) struct FirstEnd {
     pub chosen: usize,
@@ -94,7 +93,7 @@ fn list_conflict_set<const NUMBERS: usize, L: StateLanes>(
     let numbers = set.numbers();
     let mut others = 0;
     for index in 0..numbers.len() {
-        let jobs = Marks::new(BITS * index, numbers[index]);
+        let jobs = Marks::new(JOBS_PER_NUMBER * index, numbers[index]);
         others += list_marked::<L>(candidates, jobs, next, first, owns, limit);
     }
     others
@@ -165,7 +164,7 @@ pub(crate) fn list_candidates<L: StateLanes>(
     }
     grid.own_spans(&state.lanes, from, behind, owns);
     // for few jobs the set is one number
-    if next.len() <= BITS {
+    if next.len() <= JOBS_PER_NUMBER {
         return list_conflict_set::<1, L>(candidates, owns, state, grid, blocks, limit);
     }
     list_conflict_set::<16, L>(candidates, owns, state, grid, blocks, limit)

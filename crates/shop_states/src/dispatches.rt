@@ -10,8 +10,8 @@ use shop_layout::Grid;
 /// The most blocks that are marked at once: `Marks` has a bit for each of their 64 positions.
 pub(crate) const MOST_MARKED: usize = 8;
 
-/// A dispatch of an operation, the next one of `job`. Its `end` is one higher, like heads in lanes. `delayed` marks
-/// what else waits in the first eight blocks of its machine and can begin before that end.
+/// A dispatch of an operation, the next one of `job`. `end` is its end in lanes. `delayed` marks what else waits in the
+/// first eight blocks of its machine and can begin before that end.
 #[derive(Drop)]
 pub(crate) struct Dispatch {
     pub job: usize,

@@ -5,7 +5,7 @@ ghost use Rattle.shop_states.specs.inner.{JobSets.{members, HasPut}, RisingLists
 use std::marker::Model;
 
 /// The number of jobs in each number of a set, one bit a job.
-pub(crate) const BITS: usize = 64;
+pub(crate) const JOBS_PER_NUMBER: usize = 64;
 
 /// A set of jobs below 64 * `NUMBERS`. Its value in contracts is the ascending list of its jobs.
 #[derive(Drop)]
@@ -39,8 +39,12 @@ impl<const NUMBERS: usize> JobSet<NUMBERS> {
         ensures { HasPut job self.old self.new }
     {
         // a set of one number needs no division
-        let index = if NUMBERS == 1 { 0 } else { job / BITS };
-        self.numbers[index] |= 1 << (job % BITS);
+        let index = if NUMBERS == 1 {
+            0
+        } else {
+            job / JOBS_PER_NUMBER
+        };
+        self.numbers[index] |= 1 << (job % JOBS_PER_NUMBER);
     }
 
     /// Returns the set as bits, 64 jobs to each number, lowest job first.

@@ -2,16 +2,16 @@
 ghost use Rattle.std.specs.Prelude.{◌≡◌, ◌-◌, ◌≤◌, ◌<◌, ◌^◌, ◌⊎◌, IsTrue, length, slice_index};
 ghost use Rattle.shop_lanes.specs.Rows.{lanes_in};
 ghost use Rattle.shop_layout.specs.Positions.{AreEven};
-ghost use Rattle.shop_states.specs.inner.{HeadRaises.{raise_in, raises_in}, LaidLanes.{CanTakeSpansIn, TakesSpansIn}};
+ghost use Rattle.shop_states.specs.inner.{LaneRaises.{raise_in, raises_in}, LaidLanes.{CanTakeSpansIn, TakesSpansIn}};
 ghost use Rattle.shop_states.specs.inner.MachineRaises.{CanBoundRows, IsSpanByRaise};
 
-use crate::head_raises::{LaneRaise, take_raise};
+use crate::lane_raises::{LaneRaise, take_raise};
 use crate::machine_sets::MachineSet;
 use shop_lanes::{HeadRange, LaneRows, StateLanes, are_wide};
 use shop_layout::Grid;
 
 /// Where a bound is sought: it is no less than `least`, and a search for it may end once it reaches `limit`. `ceilings`
-/// is empty, or has for each machine one more than a number that the bound doesn't exceed there.
+/// is empty, or has for each machine, in lanes, a number that the bound doesn't exceed there.
 #[derive(Clone, Copy)]
 pub(crate) struct BoundRange<'a> {
     pub least: u64,
@@ -31,7 +31,7 @@ pub(crate) struct LaidLanes<'a, L: StateLanes> {
 /// served by rank from that head on. May stop once the bound reaches `limit`. `each` is the number of the machine's
 /// blocks, or 0 if unknown.
 #[inline(always)]
-pub(crate) fn span_of_rows<L: StateLanes>(
+pub(crate) fn machine_bound<L: StateLanes>(
     each: usize,
     rows: &LaneRows<L::Number>,
     raise: LaneRaise<L::Number>,
@@ -59,11 +59,11 @@ fn is_ceiling_within(ceilings: &[u64], machine: usize, most: u64) -> bool
     machine < ceilings.len() && ceilings[machine] <= most
 }
 
-/// Returns the greatest of `range.least` and the spans, explained at `span_of_rows`, of the machines in `raised` from
+/// Returns the greatest of `range.least` and the spans, explained at `machine_bound`, of the machines in `raised` from
 /// the heads within their raises. May stop once the bound reaches `range.limit`. Empties the raises. Skips a machine
-/// whose ceiling, if it has one, is at most the bound so far. All numbers of `range` and the answer are one more than
-/// the bounds that they stand for, like heads in lanes. The machines all have `each` blocks, or any numbers of blocks
-/// if `each` is 0: a number that is known lets the compiler unroll the passes over the blocks.
+/// whose ceiling, if it has one, is at most the bound so far. All numbers of `range` and the answer are in lanes. The
+/// machines all have `each` blocks, or any numbers of blocks if `each` is 0: a number that is known lets the compiler
+/// unroll the passes over the blocks.
 #[inline(always)]
 pub(crate) fn take_spans_of<L: StateLanes>(
     each: usize,
@@ -86,7 +86,7 @@ pub(crate) fn take_spans_of<L: StateLanes>(
         let raise = take_raise::<L>(raises, machine);
         if !is_ceiling_within(range.ceilings, machine, most) {
             let (from, to) = laid.grid.blocks_of(each, machine);
-            most = span_of_rows::<L>(each, &rows.blocks(from, to), raise, most, range.limit);
+            most = machine_bound::<L>(each, &rows.blocks(from, to), raise, most, range.limit);
         }
     }
     most

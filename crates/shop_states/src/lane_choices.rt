@@ -9,8 +9,8 @@ use shop_lanes::{Marks, StateLanes};
 use shop_layout::Grid;
 
 /// Where a conflict set lies: in blocks `from` up to `behind` (excluded), those of one machine. The next operation that
-/// can end first is there: that of `chosen`. `end` is its end, one higher, like heads in lanes. `below` marks the heads
-/// below `end` in the blocks before `to`.
+/// can end first is there: that of `chosen`. `end` is its end in lanes. `below` marks the heads below `end` in the
+/// blocks before `to`.
 #[derive(Drop)]
 pub(crate) struct ConflictBlocks {
     pub chosen: usize,

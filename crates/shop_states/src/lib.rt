@@ -4,19 +4,20 @@
 mod advances;
 mod beginnings;
 mod candidate_lists;
-mod delays;
 mod dispatchers;
 mod dispatches;
 mod dispatching;
 mod fills;
-mod head_raises;
 mod job_sets;
 mod lane_bounds;
 mod lane_choices;
+mod lane_raises;
+mod late_raises;
 mod machine_raises;
 mod machine_sets;
 mod placing;
 mod raises;
+mod scratches;
 mod siblings;
 mod states;
 

@@ -6,13 +6,13 @@ ghost use Rattle.shop_states.specs.inner.{Raises.IsOnMachine, Watchers.AreKnown}
 ghost use Rattle.shop_states.specs.inner.Siblings.{BoundsRaises, CanRaiseLate, HasRaisedBehind, IsLateOn};
 
 use crate::dispatches::{Dispatch, MOST_MARKED};
-use crate::head_raises::{LaneRaise, no_raise, take_raise};
 use crate::lane_bounds::{
-    BoundRange, LaidLanes, kept_ceiling, span_of_rows, take_any_spans, take_spans_of,
+    BoundRange, LaidLanes, kept_ceiling, machine_bound, take_any_spans, take_spans_of,
 };
+use crate::lane_raises::{LaneRaise, no_raise, take_raise};
+use crate::late_raises::{LateMachine, raise_late};
 use crate::machine_sets::MachineSet;
 use crate::raises::{OpenRoutes, raise_any, raise_marked};
-use crate::siblings::{LateMachine, raise_late};
 use shop_lanes::StateLanes;
 use shop_layout::{Grid, Routes};
 use std::alloc::{AllocError as NoMemory, Global};
@@ -28,7 +28,7 @@ pub struct MachineRaises<L: StateLanes> {
 
 impl<L: StateLanes> Model for MachineRaises<L> {
     ghost use Rattle.std.specs.Prelude.{◌≤◌, ◌<◌, List, length};
-    ghost use Rattle.shop_states.specs.inner.HeadRaises.{Raise, raises_in};
+    ghost use Rattle.shop_states.specs.inner.LaneRaises.{Raise, raises_in};
 
     ghost Value = { List Raise };
 
@@ -75,24 +75,24 @@ impl<L: StateLanes> MachineRaises<L> {
         // blocks are marked on the way
         if each == 0 || each > MOST_MARKED {
             if raises.len() <= 64 {
-                raise_any::<L, true>(lanes, raises, &mut raised, grid, next, dispatch);
+                raise_any::<L, 1>(lanes, raises, &mut raised, grid, next, dispatch);
                 return raised;
             }
-            raise_any::<L, false>(lanes, raises, &mut raised, grid, next, dispatch);
+            raise_any::<L, 2>(lanes, raises, &mut raised, grid, next, dispatch);
             return raised;
         }
         let routes = grid.routes();
         let ahead = OpenRoutes { routes, next };
         // lanes with code for one number of blocks have at most 64 machines
         let end = dispatch.end;
-        raise_marked::<L, true>(lanes, raises, &mut raised, &ahead, dispatch.delayed, end);
+        raise_marked::<L, 1>(lanes, raises, &mut raised, &ahead, dispatch.delayed, end);
         raised
     }
 
     /// Returns the greatest of `range.least` and the spans of the machines in `raised` from their raised heads. The
     /// span from a head is the greatest end, tail included, of the machine's operations with no lesser head, served by
     /// rank from that head on. May stop once the bound reaches `range.limit`. Empties the raises. Skips a machine whose
-    /// entry in `range.ceilings`, if it has one, is at most one more than the bound so far.
+    /// ceiling, if it has one, is at most the bound so far.
     #[inline(always)]
     pub(crate) fn take_bound(
         &mut self,
@@ -120,7 +120,7 @@ impl<L: StateLanes> MachineRaises<L> {
         take_spans_of(each, raises, raised, laid, &higher) - 1
     }
 
-    /// Raises heads on the routes behind the operations that wait on a late machine, as `siblings::raise_late` does.
+    /// Raises heads on the routes behind the operations that wait on a late machine, as `late_raises::raise_late` does.
     /// Returns the set of machines on which heads rose.
     #[inline(always)]
     pub(crate) fn raise_late(
@@ -139,16 +139,16 @@ impl<L: StateLanes> MachineRaises<L> {
         let raises = self.raises.as_mut_slice();
         // lanes with code for one number of blocks have at most 64 machines: no test is made there
         if L::EACH > 0 || raises.len() <= 64 {
-            raise_late::<L, true>(lanes, raises, &mut raised, routes, late);
+            raise_late::<L, 1>(lanes, raises, &mut raised, routes, late);
             return raised;
         }
-        raise_late::<L, false>(lanes, raises, &mut raised, routes, late);
+        raise_late::<L, 2>(lanes, raises, &mut raised, routes, late);
         raised
     }
 
-    /// Writes into `ceilings`, for each machine, one more than the greatest of `least` and its spans from the heads
-    /// within its raise, or `u64::MAX` where that reaches `limit`. Returns one less than the greatest of these numbers.
-    /// Empties the raises.
+    /// Writes the ceiling of each machine, in lanes, into `ceilings`: the greatest of `least` and its spans from the
+    /// heads within its raise, or `u64::MAX` where that reaches `limit`. Returns the bound that the greatest ceiling
+    /// means. Empties the raises.
     #[inline(always)]
     pub(crate) fn take_ceilings(
         &mut self,
@@ -177,7 +177,7 @@ impl<L: StateLanes> MachineRaises<L> {
         while let Some(machine) = left.pop_first() {
             let raise = take_raise::<L>(raises, machine);
             let (from, to) = laid.grid.blocks_of(each, machine);
-            let span = span_of_rows::<L>(each, &rows.blocks(from, to), raise, lowest, most);
+            let span = machine_bound::<L>(each, &rows.blocks(from, to), raise, lowest, most);
             let ceiling = kept_ceiling(span, most);
             ceilings[machine] = ceilings[machine].max(ceiling);
             greatest = greatest.max(ceiling);

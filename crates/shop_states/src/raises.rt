@@ -1,12 +1,12 @@
-// Raises heads after an operation is dispatched, and notes how far. `delays.rt` raises heads without notes.
+// Raises heads after an operation is dispatched, and notes how far where the longer word is bounded.
 ghost use Rattle.std.specs.Prelude.{◌+◌, ◌≤◌, ◌<◌, ◌^◌, [], length, slice_index};
-ghost use Rattle.shop_states.specs.inner.{HeadRaises.raises_in, LaidLanes.{HasRaisedIn, RaisesIn, rows_in}};
+ghost use Rattle.shop_states.specs.inner.{LaneRaises.raises_in, LaidLanes.{HasRaisedIn, RaisesIn, rows_in}};
 ghost use Rattle.shop_states.specs.inner.RaiseCalls.{CanDelay, CanNote, CanRaise};
 ghost use Rattle.shop_states.specs.inner.Raises.{AreWaiting, IsOnMachine, IsPosition, IsRaisable, SetsEndAt};
 ghost use Rattle.shop_states.specs.inner.{RisingLists.IsIn, Watchers.{Notes, Sees}, MachineRaises.AreListed};
 
 use crate::dispatches::{Dispatch, marks_end};
-use crate::head_raises::{LaneRaise, see};
+use crate::lane_raises::{LaneRaise, see};
 use crate::machine_sets::MachineSet;
 use shop_lanes::{Marks, StateLanes};
 use shop_layout::{Grid, Routes};
@@ -19,14 +19,13 @@ pub(crate) struct OpenRoutes<'a> {
     pub next: &'a [u32],
 }
 
-/// Raises the head at `position` to `end`, then every later head on its route that is now too early. Notes in `raises`
-/// how far each later head rose, and puts its machine into `raised`; the first head isn't noted, since the candidate's
-/// `own` already covers heads up to `end` on the dispatch's machine. Takes a step for each head that rises. The legs of
-/// a route are side by side in memory, so that no step waits for the one before it to read the next position. At the
-/// end of a route the head is the greatest number, and the raise stops. `FEW` says that there are at most 64 machines,
-/// see `see`.
+/// Raises the head at `position` to `end`, then every later head on its route that is now too early. Notes how far each
+/// later head rose, see `see`. Doesn't note the first head: a candidate's `own` covers the heads up to `end` on the
+/// machine of its dispatch, and `raise_behind` notes the first head itself. Takes a step for each head that rises. The
+/// legs of a route are side by side in memory, so that no step waits for the one before it to read the next position.
+/// At the end of a route the head is the greatest number, and the raise stops.
 #[inline(always)]
-pub(crate) fn raise_route<L: StateLanes, const FEW: bool>(
+pub(crate) fn raise_route<L: StateLanes, const NUMBERS: usize>(
     lanes: &mut L,
     raises: &mut [LaneRaise<L::Number>],
     raised: &mut MachineSet,
@@ -38,13 +37,13 @@ pub(crate) fn raise_route<L: StateLanes, const FEW: bool>(
     requires below { slice_index (L.heads lanes.old) position ≤ end }
     requires raisable { IsRaisable L.GREATEST routes.now [] (rows_in L.StateLanes routes.now lanes.old)
         (IsPosition position) end }
-    requires note { CanNote L.value FEW routes.now.machines raises.old raised.old }
+    requires note { 0 < NUMBERS → CanNote L.value NUMBERS routes.now.machines raises.old raised.old }
     ensures raises { RaisesIn L.StateLanes routes.now [] (IsPosition position) end lanes.old lanes.new }
-    ensures seen { Sees routes.now.machines (IsPosition position) end (L.heads lanes.old) (L.heads lanes.new)
+    ensures seen { 0 < NUMBERS → Sees routes.now.machines (IsPosition position) end (L.heads lanes.old)
+        (L.heads lanes.new) (raises_in L.value raises.old) (raises_in L.value raises.new) }
+    ensures noted { 0 < NUMBERS → Notes routes.now.machines position end (L.heads lanes.old) (L.heads lanes.new)
         (raises_in L.value raises.old) (raises_in L.value raises.new) }
-    ensures noted { Notes routes.now.machines position end (L.heads lanes.old) (L.heads lanes.new)
-        (raises_in L.value raises.old) (raises_in L.value raises.new) }
-    ensures listed { AreListed (raises_in L.value raises.new) raised.new }
+    ensures listed { 0 < NUMBERS → AreListed (raises_in L.value raises.new) raised.new }
 {
     lanes.set_head(position, end);
     let mut ready = end + routes.time(position);
@@ -57,7 +56,7 @@ pub(crate) fn raise_route<L: StateLanes, const FEW: bool>(
             return;
         }
         lanes.set_head(here, ready);
-        see::<L, FEW>(raises, raised, leg.machine, head, ready);
+        see::<L, NUMBERS>(raises, raised, leg.machine, head, ready);
         ready += leg.time;
         index += 1;
     }
@@ -91,7 +90,7 @@ pub(crate) fn set_end_at<L: StateLanes>(
 /// these operations that is its job's next one. Also raises every later head on their routes that is too early then, so
 /// that a marked head may have risen before its turn comes.
 #[inline(always)]
-pub(crate) fn raise_marked<L: StateLanes, const FEW: bool>(
+pub(crate) fn raise_marked<L: StateLanes, const NUMBERS: usize>(
     lanes: &mut L,
     raises: &mut [LaneRaise<L::Number>],
     raised: &mut MachineSet,
@@ -102,24 +101,25 @@ pub(crate) fn raise_marked<L: StateLanes, const FEW: bool>(
     requires marks { AreWaiting (L.heads lanes.old) marks }
     requires can { CanRaise L.GREATEST ahead.now.routes ahead.now.next.now (IsIn marks) end
         (rows_in L.StateLanes ahead.now.routes lanes.old) }
-    requires note { CanNote L.value FEW ahead.now.routes.machines raises.old raised.old }
-    ensures { HasRaisedIn L.StateLanes ahead.now.routes ahead.now.next.now (IsIn marks) end
+    requires note { 0 < NUMBERS → CanNote L.value NUMBERS ahead.now.routes.machines raises.old raised.old }
+    ensures raises { RaisesIn L.StateLanes ahead.now.routes ahead.now.next.now (IsIn marks) end lanes.old lanes.new }
+    ensures noted { 0 < NUMBERS → HasRaisedIn L.StateLanes ahead.now.routes ahead.now.next.now (IsIn marks) end
         lanes.old lanes.new (raises_in L.value raises.old) (raises_in L.value raises.new) raised.new }
 {
     let mut todo = marks;
     while let Some(position) = todo.pop_first() {
         if lanes.head(position) < end {
             set_end_at(lanes, &ahead.routes, ahead.next, position, end);
-            raise_route::<L, FEW>(lanes, raises, raised, &ahead.routes, position, end);
+            raise_route::<L, NUMBERS>(lanes, raises, raised, &ahead.routes, position, end);
         }
     }
 }
 
 /// Does what `MachineRaises::raise` does, for machines of any number of blocks: raises what is marked in the first
-/// eight blocks, then marks and raises the next eight, and so on. Stays out of line, since each kind of dispatch would
-/// else have this code anew.
+/// eight blocks, then marks and raises the next eight, and so on. Notes nothing if `NUMBERS` is 0. Stays out of line,
+/// since each kind of dispatch would else have this code anew.
 #[inline(never)]
-pub(crate) fn raise_any<L: StateLanes, const FEW: bool>(
+pub(crate) fn raise_any<L: StateLanes, const NUMBERS: usize>(
     lanes: &mut L,
     raises: &mut [LaneRaise<L::Number>],
     raised: &mut MachineSet,
@@ -128,9 +128,12 @@ pub(crate) fn raise_any<L: StateLanes, const FEW: bool>(
     dispatch: Dispatch,
 )
     requires can { CanDelay L.GREATEST grid.now next.now (rows_in L.StateLanes grid.now lanes.old) dispatch }
-    requires note { CanNote L.value FEW grid.now.machines raises.old raised.old }
-    ensures { HasRaisedIn L.StateLanes grid.now next.now (IsOnMachine grid.now dispatch.machine) dispatch.end
-        lanes.old lanes.new (raises_in L.value raises.old) (raises_in L.value raises.new) raised.new }
+    requires note { 0 < NUMBERS → CanNote L.value NUMBERS grid.now.machines raises.old raised.old }
+    ensures raises { RaisesIn L.StateLanes grid.now next.now (IsOnMachine grid.now dispatch.machine) dispatch.end
+        lanes.old lanes.new }
+    ensures noted { 0 < NUMBERS → HasRaisedIn L.StateLanes grid.now next.now
+        (IsOnMachine grid.now dispatch.machine) dispatch.end lanes.old lanes.new (raises_in L.value raises.old)
+        (raises_in L.value raises.new) raised.new }
 {
     let routes = grid.routes();
     let ahead = OpenRoutes { routes, next };
@@ -141,7 +144,7 @@ pub(crate) fn raise_any<L: StateLanes, const FEW: bool>(
     // taken out, so that the set stays in registers
     let mut machines = mem::replace(raised, MachineSet::none());
     loop {
-        raise_marked::<L, FEW>(lanes, raises, &mut machines, &ahead, marks, end);
+        raise_marked::<L, NUMBERS>(lanes, raises, &mut machines, &ahead, marks, end);
         from = marks_end(from, behind);
         if from == behind {
             break;

@@ -2,36 +2,21 @@
 // the other operations that wait there until its own ends, at the latest until the latest of these ends. So if heads
 // are raised as if every operation there had to wait until then, no head of a child is higher, and no span is greater.
 // One pass over the machines whose heads rose thus bounds nearly all children.
-ghost use Rattle.std.specs.Prelude.{◌≡◌, ℕ, ◌+◌, ◌≤◌, ◌<◌, List, ◌∷◌, ◌++◌, [], length, slice_index};
+ghost use Rattle.std.specs.Prelude.{◌≡◌, ℕ, ◌≤◌, ◌<◌, List, ◌∷◌, ◌++◌, [], length};
 ghost use Rattle.shop_model.specs.Shop.{Shop};
 ghost use Rattle.shop_bound.specs.Bound.{lb};
-ghost use Rattle.shop_states.specs.inner.{Advances.IsAdvancing, Ceilings.AreChildCeilings, HeadRaises.raises_in};
-ghost use Rattle.shop_states.specs.inner.{LaidLanes.rows_in, LaneStates.IsKeptInLanes, MachineRaises.AreEmpty};
-ghost use Rattle.shop_states.specs.inner.RaiseCalls.{CanNote};
-ghost use Rattle.shop_states.specs.inner.Siblings.{AreLatest, AreSiblings, CanBoundChildren, CanEnd, CanRaiseBehind};
-ghost use Rattle.shop_states.specs.inner.Siblings.{CanRaiseLate, HasRaisedBehind, IsEndAt, IsLateOn, end_by, job_at};
+ghost use Rattle.shop_states.specs.inner.{Advances.IsAdvancing, Ceilings.AreChildCeilings, LaidLanes.rows_in};
+ghost use Rattle.shop_states.specs.inner.{LaneStates.IsKeptInLanes, MachineRaises.AreEmpty};
+ghost use Rattle.shop_states.specs.inner.Siblings.{AreLatest, AreSiblings, CanBoundChildren, CanEnd, end_by, job_at};
 
-use crate::dispatches::marks_end;
 use crate::dispatching::Candidate;
-use crate::head_raises::{LaneRaise, see};
 use crate::lane_bounds::LaidLanes;
+use crate::late_raises::{LateMachine, Latest};
 use crate::machine_raises::MachineRaises;
-use crate::machine_sets::MachineSet;
-use crate::raises::raise_route;
 use shop_lanes::StateLanes;
 use shop_layout::{Grid, Routes};
 
-/// When the operations of some candidates, all on one machine, end if each goes first: `end` is the latest end, `job`
-/// has that operation, and `second` is the latest end of the other jobs, or 0 if there are none. Ends are one higher,
-/// like heads in lanes.
-#[derive(Clone, Copy)]
-pub(crate) struct Latest {
-    pub job: usize,
-    pub end: u64,
-    pub second: u64,
-}
-
-/// Returns when the next operation of `job` ends if it goes first. The end is one higher, like heads in lanes.
+/// Returns when, in lanes, the next operation of `job` ends if it goes first.
 #[inline(always)]
 fn end_of<L: StateLanes>(lanes: &L, routes: &Routes, next: &[u32], job: usize) -> u64
     requires { CanEnd L.GREATEST routes.now (L.heads lanes.now) next.now job }
@@ -75,83 +60,6 @@ fn latest_of<L: StateLanes>(
     latest
 }
 
-/// Raises the heads behind the operation at `position` on its route, as far as they are too early if the operation
-/// begins at `free`. Notes how far these heads rose. The operation's own head stays. `FEW` says that there are at most
-/// 64 machines, see `see`.
-#[inline(always)]
-fn raise_behind<L: StateLanes, const FEW: bool>(
-    lanes: &mut L,
-    raises: &mut [LaneRaise<L::Number>],
-    raised: &mut MachineSet,
-    routes: &Routes,
-    position: usize,
-    free: u64,
-)
-    requires waits { 0 < slice_index (L.heads lanes.old) position }
-    requires can { CanRaiseBehind L.GREATEST routes.now (rows_in L.StateLanes routes.now lanes.old)
-        (IsEndAt position free) }
-    requires note { CanNote L.value FEW routes.now.machines raises.old raised.old }
-    ensures { HasRaisedBehind routes.now (IsEndAt position free) (rows_in L.StateLanes routes.now lanes.old)
-        (rows_in L.StateLanes routes.now lanes.new) (raises_in L.value raises.old) (raises_in L.value raises.new)
-        raised.new }
-{
-    let ready = free + routes.time(position);
-    let leg = routes.leg(routes.behind(position));
-    let first = leg.position as usize;
-    let head = lanes.head_or_greatest(first);
-    if ready <= head {
-        return;
-    }
-    see::<L, FEW>(raises, raised, leg.machine, head, ready);
-    raise_route::<L, FEW>(lanes, raises, raised, routes, first, ready);
-}
-
-/// The machine on which all candidates wait, and delay the other operations. It has blocks `from` up to `behind`
-/// (excluded). The candidates' operation that ends last is at position `last`, and ends at `latest.end`.
-#[derive(Clone, Copy)]
-pub(crate) struct LateMachine {
-    pub from: usize,
-    pub behind: usize,
-    pub last: usize,
-    pub latest: Latest,
-}
-
-/// Raises the heads behind each operation that waits on a late machine, as if the operation began at the latest time
-/// until which candidates can delay it: at `late.latest.end` or, if it stands at `late.last`, at `late.latest.second`.
-/// Notes how far heads rose. No head of a child is then higher, except on that machine, where a head rises only behind
-/// another operation of its route. Marks up to eight blocks at once, and visits only what waits there and can begin
-/// before the latest end: after all others, and after a marked head that rose before its turn, heads on routes are late
-/// enough. `FEW` says that there are at most 64 machines, see `see`.
-pub(crate) fn raise_late<L: StateLanes, const FEW: bool>(
-    lanes: &mut L,
-    raises: &mut [LaneRaise<L::Number>],
-    raised: &mut MachineSet,
-    routes: &Routes,
-    late: LateMachine,
-)
-    requires can { CanRaiseLate L.GREATEST routes.now (rows_in L.StateLanes routes.now lanes.old) late }
-    requires note { CanNote L.value FEW routes.now.machines raises.old raised.old }
-    ensures { HasRaisedBehind routes.now (IsLateOn late) (rows_in L.StateLanes routes.now lanes.old)
-        (rows_in L.StateLanes routes.now lanes.new) (raises_in L.value raises.old) (raises_in L.value raises.new)
-        raised.new }
-{
-    let mut from = late.from;
-    while from < late.behind {
-        let to = marks_end(from, late.behind);
-        let mut todo = lanes.below(from, to, late.latest.end);
-        while let Some(position) = todo.pop_first() {
-            // the candidates' operation that ends last doesn't delay itself
-            let free = if position == late.last {
-                late.latest.second
-            } else {
-                late.latest.end
-            };
-            raise_behind::<L, FEW>(lanes, raises, raised, routes, position, free);
-        }
-        from = to;
-    }
-}
-
 /// Returns the greatest of `bound` and the `own` of each candidate.
 fn greatest_own(candidates: &[Candidate], bound: u64) -> u64 {
     candidates
@@ -162,7 +70,7 @@ fn greatest_own(candidates: &[Candidate], bound: u64) -> u64 {
 
 /// Finds a ceiling for each machine: a number that no span of a child exceeds there, whichever of the candidates is
 /// dispatched; on their own machine no span from after the dispatched operation's end, since `own` tells the others.
-/// Writes one more than each ceiling into `ceilings`. Returns the greatest ceiling, or a number above the `own` of each
+/// Writes the ceilings, in lanes, into `ceilings`. Returns the greatest ceiling, or a number above the `own` of each
 /// candidate. `lanes` holds the heads of the word and is used up; `next` has its next operations.
 #[inline(never)]
 pub(crate) fn bound_children<L: StateLanes>(

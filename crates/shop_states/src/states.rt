@@ -1,31 +1,13 @@
-// The state of a word, and the scratch room of fills and dispatches.
-use crate::beginnings::Beginning;
-use crate::machine_raises::MachineRaises;
+// The state of a word.
 use shop_lanes::StateLanes;
 
 /// The state of a word: the head of each waiting operation, by position, and each job's next operation with its end.
-/// Heads and ends in lanes are one higher than the times that they mean; a head of 0 says that nothing waits.
+/// A time *in lanes* is one higher than the time that it means, so that a head of 0 says that nothing waits. The one is
+/// added to heads and ends in `fills.rt`, and to the range of a bound in `machine_raises.rt`; it is taken off bounds
+/// there, and off own spans in `candidate_lists.rt`.
 #[derive(Drop)]
 pub struct State<L: StateLanes> {
     pub(crate) lanes: L,
     /// next[job]: the position of the job's next operation, or the number of positions if none is left
     pub(crate) next: Vec<u32>,
-}
-
-/// Room that is used again and again to fill states, list candidates and dispatch operations.
-#[derive(Drop)]
-pub struct Scratch<L: StateLanes> {
-    /// ready[job]: when the job is ready after the word whose state was filled last
-    pub(crate) ready: Vec<u64>,
-    /// free[machine]: when the machine is free after the word whose state was filled last
-    pub(crate) free: Vec<u64>,
-    /// the first jobs of the last filled word with their placement, since the next word often shares them
-    pub(crate) beginning: Beginning,
-    /// how far noted heads rose on each machine, in a dispatch or where children are bounded together; empty between
-    pub(crate) raises: MachineRaises<L>,
-    /// owns[i]: when a machine's operations and their tails end if the one at place `i` goes first, one higher, like
-    /// heads in lanes; there is room for the machine with the most operations
-    pub(crate) owns: Vec<L::Number>,
-    /// ceilings[machine]: one more than the ceiling of the machine, see `bound_children`, for the word bounded last
-    pub(crate) ceilings: Vec<u64>,
 }

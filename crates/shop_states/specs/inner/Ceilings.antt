@@ -7,7 +7,7 @@ use Rattle.std.specs.Prelude.{◌≡◌, ℕ, ◌+◌, ◌≤◌, ◌<◌, max, 
 use Rattle.shop_lanes.specs.{Rows.Rows, Spans.{span, spans_between}}
 use Rattle.shop_layout.specs.{Lanes.lanes_on, Positions.LayoutState}
 use Rattle.shop_model.specs.{Shop.{Shop, machine_of}, Word.{place_next, placing}}
-use Rattle.shop_states.specs.{inner.HeadRaises.{Raise, raise_of}, inner.LaneHeads.AreHeadsAt, inner.Watchers.floor_on}
+use Rattle.shop_states.specs.{inner.LaneRaises.{Raise, raise_of}, inner.LaneHeads.AreHeadsAt, inner.Watchers.floor_on}
 
 -- a moment is one higher, as heads in lanes are
 abbrev pub AreChildCeilings : Shop → List ℕ → LayoutState → ℕ → List ℕ → Type 0

@@ -9,7 +9,7 @@ use Rattle.shop_lanes.specs.{Rows.Rows, declared.state_lanes.StateLanes.Ghosts}
 use Rattle.shop_model.specs.Shop.{Shop}
 use Rattle.shop_layout.specs.{Lanes.rows_of, Positions.LayoutState}
 use Rattle.shop_states.specs.{declared.lane_bounds.LaidLanes.LaidLanes, declared.states.State.State}
-use Rattle.shop_states.specs.{inner.HeadRaises.Raise, inner.LaneStates.IsKeptInLanes, inner.RaiseCalls.HasRaised}
+use Rattle.shop_states.specs.{inner.LaneRaises.Raise, inner.LaneStates.IsKeptInLanes, inner.RaiseCalls.HasRaised}
 use Rattle.shop_states.specs.inner.{MachineRaises.{CanTakeSpansUnder, TakesSpans}, Raises.Raises}
 
 module _ {L N : Type 0} (g : Ghosts L N) (l : LayoutState) where

@@ -13,8 +13,8 @@
 use Rattle.std.specs.Prelude.{◌≡◌, ℕ, ◌+◌, ◌*◌, ◌%◌, ◌≤◌, ◌<◌, List, length, slice_index}
 use Rattle.shop_lanes.specs.{Rows.{Rows, Lane, AreBlocks, lanes_in}, Spans.{spans_between, FitsSpan}}
 use Rattle.shop_lanes.specs.declared.lane_rows.LaneRows.{LaneRows}
-use Rattle.shop_states.specs.{declared.head_raises.LaneRaise.LaneRaise, inner.{Ceilings.AreUnder, RisingLists.IsIn}}
-use Rattle.shop_states.specs.inner.HeadRaises.{Raise, raise_of}
+use Rattle.shop_states.specs.{declared.lane_raises.LaneRaise.LaneRaise, inner.{Ceilings.AreUnder, RisingLists.IsIn}}
+use Rattle.shop_states.specs.inner.LaneRaises.{Raise, raise_of}
 use Rattle.shop_layout.specs.{Lanes.lanes_on, Positions.LayoutState}
 
 abbrev pub AreEmpty : List Raise → Type 0

@@ -1,23 +1,24 @@
 -- Requirements and results of a raise of heads.
---     CanNote value few ms ..        each machine has a place for a raise, and each machine with a raise is in a list;
---                                    few machines are at most 64
+--     CanNote value numbers ms ..    each machine has a place for a raise, and each machine with a raise is in a list;
+--                                    that takes so many numbers, one for at most 64 machines
 --     CanRaise greatest l nexts ..   the heads at some positions can be raised
 --     CanDelay greatest l nexts ..   a dispatch marks what it delays in the first blocks of its machine, and the heads
 --                                    there can be raised to its end
 --     HasRaised greatest l nexts ..  these heads are raised, and so is every later head on their
 --                                    routes that was too early; how far later heads rose is noted
 --                                    for their machines, which are all in a list
-use Rattle.std.specs.Prelude.{◌≡◌, ℕ, ◌≤◌, Bool, IsTrue, List, length}
+use Rattle.std.specs.Prelude.{◌≡◌, ℕ, ◌≤◌, ◌<◌, List, length}
 use Rattle.shop_lanes.specs.Rows.{Rows}
 use Rattle.shop_layout.specs.Positions.{LayoutState}
-use Rattle.shop_states.specs.declared.{dispatches.Dispatch.Dispatch, head_raises.LaneRaise.LaneRaise}
-use Rattle.shop_states.specs.inner.{Dispatches.AreDelayedOn, HeadRaises.{Raise, raises_in}, MachineRaises.AreListed}
+use Rattle.shop_states.specs.declared.{dispatches.Dispatch.Dispatch, lane_raises.LaneRaise.LaneRaise}
+use Rattle.shop_states.specs.inner.{Dispatches.AreDelayedOn, LaneRaises.{Raise, raises_in}, MachineRaises.AreListed}
 use Rattle.shop_states.specs.inner.{Raises.{HasBlocks, IsOnMachine, IsRaisable, Raises}, Watchers.{AreKnown, Sees}}
 
-pub record CanNote {N : Type 0} (value : N → ℕ) (few : Bool) (ms : List ℕ) (raises : List (LaneRaise N))
+pub record CanNote {N : Type 0} (value : N → ℕ) (numbers : ℕ) (ms : List ℕ) (raises : List (LaneRaise N))
     (raised : List ℕ) : Type 0 where
+  pub some : 0 < numbers
   pub known : AreKnown ms (length raises)
-  pub machines_fit : IsTrue few → length raises ≤ 64
+  pub machines_fit : numbers ≡ 1 → length raises ≤ 64
   pub listed : AreListed (raises_in value raises) raised
 
 pub record CanRaise (greatest : ℕ) (l : LayoutState) (nexts : List ℕ) (among : ℕ → Type 0) (e : ℕ)

@@ -4,7 +4,7 @@
 use Rattle.std.specs.Prelude.{◌≡◌, ℕ, List, length}
 use Rattle.shop_model.specs.Shop.{Shop}
 use Rattle.shop_layout.specs.Positions.{HoldsMachines, LayoutState}
-use Rattle.shop_states.specs.{inner.MachineRaises.AreEmpty, inner.HeadRaises.Raise}
+use Rattle.shop_states.specs.{inner.MachineRaises.AreEmpty, inner.LaneRaises.Raise}
 use Rattle.shop_states.specs.{declared.beginnings.Beginning.Beginning, inner.Beginnings.IsBeginningOf}
 
 pub record IsScratchOf (shop : Shop) (l : LayoutState) (ready free : ℕ) (beginning : Beginning)

@@ -6,7 +6,7 @@
 --     Notes ms p end ..              nothing is foreseen, and what position p rises to is noted
 --                                    already: so is all afterwards, if all was before
 use Rattle.std.specs.Prelude.{◌≡◌, ℕ, ◌≤◌, ◌<◌, ◌⊎◌, max, List, length, slice_index, ◌==◌, if◌then◌else◌}
-use Rattle.shop_states.specs.inner.HeadRaises.{AreRaisesUpTo, Raise, raise_of}
+use Rattle.shop_states.specs.inner.LaneRaises.{AreRaisesUpTo, Raise, raise_of}
 
 -- on the machine of the operation as far as its end, and not at all on others
 abbrev pub floor_on : ℕ → ℕ → ℕ → ℕ

@@ -26,8 +26,8 @@ take_bound-bound-requires-clause-can g c =
     c.set_head.ensures.ends raised.raises c.requires.at_rest c.requires.can.machines_are raised.seen
     in record {
       can = record { listed = raised.listed; times = grind arith; tails = grind arith; fits = fits };
-      under = trial_under c.requires.can.is c.args.range.now.ceilings.now c.requires.can.ceilings_are now c.raise-raised.new.self
-          fits (raised.machines ∙ c.requires.can.machines_are);
+      under = trial_under c.requires.can.is c.args.range.now.ceilings.now c.requires.can.ceilings_are now
+          c.raise-raised.new.self fits (raised.machines ∙ c.requires.can.machines_are);
     }
 
 pub returns-then-range-bound-clause-told : goal.returns-then-range-bound-clause-told

@@ -7,8 +7,8 @@ pub set_head-requires-clause-in_range : goal.set_head-requires-clause-in_range
 set_head-requires-clause-in_range g c =
     its_position c.requires.can.kept c.args.dispatch.job c.requires.can.fits c.requires.is.position_is
 
-pub delay-requires : goal.delay-requires
-delay-requires g c = rw c.as_mut_slice-next.ensures.value (can_delay c.requires.can.kept c.args.dispatch
+pub raise_any-requires-clause-can : goal.raise_any-requires-clause-can
+raise_any-requires-clause-can g c = rw c.as_mut_slice-next.ensures.value (can_delay c.requires.can.kept c.args.dispatch
     c.requires.can.fits c.requires.is c.set_head.ensures.heads c.set_head.ensures.ends)
 
 pub set_next-requires-clause-job : goal.set_next-requires-clause-job
@@ -23,14 +23,14 @@ set_next-requires-clause-position g c =
 
 pub set_next-requires-clause-keep : goal.set_next-requires-clause-keep
 set_next-requires-clause-keep g c =
-    let raised = rw c.as_mut_slice-next.ensures.value at c.delay.ensures
+    let raised = rw c.as_mut_slice-next.ensures.value at c.raise_any.ensures.raises
     in rw c.as_mut_slice-next.ensures.value (trial_keep c.requires.can.kept c.args.dispatch.job
     c.requires.can.fits c.requires.is.position_is c.requires.is.machine_is c.requires.is.end_is
     c.set_head.ensures.heads c.set_head.ensures.ends raised refl)
 
 pub returns-clause-state : goal.returns-clause-state
 returns-clause-state g c = λ shop w kept fits.
-    let raised = rw c.as_mut_slice-next.ensures.value at c.delay.ensures
+    let raised = rw c.as_mut_slice-next.ensures.value at c.raise_any.ensures.raises
     in let on = rw c.as_mut_slice-next.ensures.value at c.set_next.ensures
     in let long = ap (λ (ns : List ℕ). length ns) c.set_next.ensures.are_next
     ∙ length-set c.as_mut_slice-next.result.now _ _

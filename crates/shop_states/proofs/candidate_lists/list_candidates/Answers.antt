@@ -92,8 +92,8 @@ returns-then-is_alone-clause-are g c = λ shop w kept.
     c.blocks_of-from.result.1 c.in-Some.first.end (get_or xs c.in-Some.first.chosen 0))
     c.as_slice-next.ensures.value (c.is_alone.ensures c.if-is_alone.true)) c.args.limit items
 
-pub returns-then-next-le-BITS-clause-are : goal.returns-then-next-le-BITS-clause-are
-returns-then-next-le-BITS-clause-are g c = λ shop w kept. all_told kept
+pub returns-then-next-le-JOBS_PER_NUMBER-clause-are : goal.returns-then-next-le-JOBS_PER_NUMBER-clause-are
+returns-then-next-le-JOBS_PER_NUMBER-clause-are g c = λ shop w kept. all_told kept
     (c.in-Some.ensures.is shop w kept) c.blocks_of-from.ensures.first
     c.blocks_of-from.ensures.behind (map g.L.StateLanes.value c.own_spans.new.owns) c.own_spans.ensures.owns
     c.list_conflict_set.ensures.listed

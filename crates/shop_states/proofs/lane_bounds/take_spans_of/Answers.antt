@@ -1,6 +1,6 @@
 use Rattle.std.proofs.{Common.{List, subst, sym, refl, arith}, lemmas.List.length-map}
 use Rattle.shop_layout.specs.Lanes.{lanes_on}
-use Rattle.shop_states.specs.inner.{HeadRaises.{Raise, nothing_raised, raise_in, raises_in}, LaidLanes.laid_rows}
+use Rattle.shop_states.specs.inner.{LaneRaises.{Raise, nothing_raised, raise_in, raises_in}, LaidLanes.laid_rows}
 use Rattle.shop_states.proofs.LookedUpRows.{can_bound, cut_ordered, cut_span, cut_within, its_blocks, its_known}
 use Rattle.shop_states.proofs.LookedUpRows.{its_small}
 use Rattle.shop_states.proofs.RaisedMachines.{IsTakenSo, first_known, taken_all, taken_more, taken_passed}
@@ -24,8 +24,8 @@ blocks-requires g c =
           c.rows-rows.result rows.heads;
     }
 
-pub span_of_rows-most-requires : goal.span_of_rows-most-requires
-span_of_rows-most-requires g c =
+pub machine_bound-most-requires : goal.machine_bound-most-requires
+machine_bound-most-requires g c =
     let left = c.loop-machine.invariant.left in let rows = c.rows-rows.ensures in let blocks = c.blocks_of-from.ensures
     in can_bound c.requires.can.can left c.in-Some.ensures blocks.first blocks.behind g.L.StateLanes.value
     c.rows-rows.result rows.heads rows.times rows.tails c.blocks-then-not-is_ceiling_within.ensures
@@ -39,10 +39,10 @@ loop-machine-preserved-then-not-is_ceiling_within g c =
     in let blocks = c.blocks_of-from.ensures
     in subst (λ (rs : List Raise). IsTakenSo c.args.range.now.least c.args.range.now.limit old on rs
     c.pop_first.new.self
-    c.span_of_rows-most.result) (sym c.take_raise-raise.ensures.empty) (taken_more c.loop-machine.invariant
+    c.machine_bound-most.result) (sym c.take_raise-raise.ensures.empty) (taken_more c.loop-machine.invariant
     c.in-Some.ensures (nothing_raised g.L.StateLanes.GREATEST) refl (cut_span c.requires.can.can left c.in-Some.ensures
     blocks.first blocks.behind g.L.StateLanes.value c.rows-rows.result rows.heads rows.times rows.tails
-    c.blocks-then-not-is_ceiling_within.ensures c.take_raise-raise.ensures.raise c.span_of_rows-most.ensures))
+    c.blocks-then-not-is_ceiling_within.ensures c.take_raise-raise.ensures.raise c.machine_bound-most.ensures))
 
 pub loop-machine-preserved : goal.loop-machine-preserved
 loop-machine-preserved g c =

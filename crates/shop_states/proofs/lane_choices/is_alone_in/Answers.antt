@@ -4,7 +4,8 @@ use Rattle.shop_states.proofs.lane_choices.is_alone_in.Goals as goal
 
 pub loop-from-preserved : goal.loop-from-preserved
 loop-from-preserved g c =
-    let a = c.marks_end-to.ensures in let d = c.loop-from-test.true in let now = c.loop-from.invariant in let low = now.ordered
+    let a = c.marks_end-to.ensures in let d = c.loop-from-test.true
+    in let now = c.loop-from.invariant in let low = now.ordered
     in record {
       ordered = omega arith;
       within = omega arith;

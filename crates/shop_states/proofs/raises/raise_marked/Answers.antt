@@ -1,12 +1,15 @@
-use Rattle.std.proofs.Common.{◌≤◌, ◌∙◌, ℕ, arith, get_or, subst, sym}
+use Rattle.std.proofs.Common.{◌≤◌, ◌∙◌, ℕ, arith, get_or, refl, subst, sym}
 use Rattle.shop_states.specs.inner.{Raises.IsPosition, RisingLists.IsIn}
-use Rattle.shop_states.proofs.{RaisedEnds.{mid_raisable, raised_with_ends}, RaisedMachines.lengths_in}
+use Rattle.shop_states.proofs.{RaisedEnds.{mid_raisable, raised_with_ends}, RaisedMachines.note_on}
 use Rattle.shop_states.proofs.RaiseLoops.{marks_begin, popped_here, popped_within, popped_waits, popped_raisable}
 use Rattle.shop_states.proofs.{RaiseLoops.{marks_on, marks_past, marks_end}, Watching.{sees_both, sees_long, sees_none}}
 use Rattle.shop_states.proofs.raises.raise_marked.Goals as goal
 
 pub loop-position-init : goal.loop-position-init
-loop-position-init g c = grind (arith, marks_begin, sees_none)
+loop-position-init g c = record {
+  raised = grind (arith, marks_begin);
+  noted = λ some. record { seen = sees_none; machines = refl; listed = (c.requires.note some).listed };
+}
 
 pub head-requires : goal.head-requires
 head-requires g c =
@@ -35,11 +38,9 @@ raise_route-requires-clause-raisable g c = mid_raisable
     (popped_raisable c.requires.can.raisable c.loop-position.invariant.raised c.in-Some.ensures) c.set_end_at.ensures
 
 pub raise_route-requires-clause-note : goal.raise_route-requires-clause-note
-raise_route-requires-clause-note g c = record {
-  known = λ q here. grind (arith, lengths_in);
-  machines_fit = grind (arith, lengths_in);
-  listed = c.loop-position.invariant.listed;
-}
+raise_route-requires-clause-note g c = λ some.
+    let so = c.loop-position.invariant.noted some
+    in note_on (c.requires.note some) so.machines so.listed
 
 pub loop-position-preserved-then-head-end : goal.loop-position-preserved-then-head-end
 loop-position-preserved-then-head-end g c =
@@ -51,11 +52,15 @@ loop-position-preserved-then-head-end g c =
     in let raised = raised_with_ends raisable c.set_end_at.ensures waits low c.raise_route.ensures.raises
     in record {
       raised = marks_on c.requires.can.raisable c.loop-position.invariant.raised c.in-Some.ensures raised;
-      seen = sees_both (IsIn c.args.marks) (IsPosition c.in-Some.position) (IsIn c.args.marks) (λ q h. h)
-          (λ q e. subst (λ (x : ℕ). IsIn c.args.marks x) (sym e) here) raised.raised.raised.rises
-          c.loop-position.invariant.seen (rw c.set_end_at.ensures.heads at c.raise_route.ensures.seen);
-      machines = sees_long c.raise_route.ensures.seen ∙ c.loop-position.invariant.machines;
-      listed = c.raise_route.ensures.listed;
+      noted = λ some.
+          let so = c.loop-position.invariant.noted some in let seen = c.raise_route.ensures.seen some
+          in record {
+            seen = sees_both (IsIn c.args.marks) (IsPosition c.in-Some.position) (IsIn c.args.marks) (λ q h. h)
+                (λ q e. subst (λ (x : ℕ). IsIn c.args.marks x) (sym e) here) raised.raised.raised.rises
+                so.seen (rw c.set_end_at.ensures.heads at seen);
+            machines = sees_long seen ∙ so.machines;
+            listed = c.raise_route.ensures.listed some;
+          };
     }
 
 pub loop-position-preserved : goal.loop-position-preserved
@@ -64,15 +69,18 @@ loop-position-preserved g c =
       raised =
           marks_past c.requires.can.raisable c.loop-position.invariant.raised c.in-Some.ensures
           (let a = c.head.ensures in let b = c.if-head-end.false in omega arith);
-      seen = c.loop-position.invariant.seen;
-      machines = c.loop-position.invariant.machines;
-      listed = c.loop-position.invariant.listed;
+      noted = c.loop-position.invariant.noted;
     }
 
-pub returns : goal.returns
-returns g c = record {
-  raises = marks_end c.requires.can.raisable c.in_default.ensures.0 c.loop-position.invariant.raised;
-  seen = c.loop-position.invariant.seen;
-  listed = c.loop-position.invariant.listed;
-  machines = c.loop-position.invariant.machines;
-}
+pub returns-clause-raises : goal.returns-clause-raises
+returns-clause-raises g c = marks_end c.requires.can.raisable c.in_default.ensures.0 c.loop-position.invariant.raised
+
+pub returns-clause-noted : goal.returns-clause-noted
+returns-clause-noted g c = λ some.
+    let so = c.loop-position.invariant.noted some
+    in record {
+      raises = marks_end c.requires.can.raisable c.in_default.ensures.0 c.loop-position.invariant.raised;
+      seen = so.seen;
+      listed = so.listed;
+      machines = so.machines;
+    }

@@ -1,8 +1,8 @@
 use Rattle.std.proofs.Common.{◌≡◌, ℕ, ◌+◌, List, [], ◌∷◌, ◌++◌, length, replicate, arith, ap, ◌∙◌}
 use Rattle.std.proofs.lemmas.{Bool.cases_lt, List.{get_or-replicate, get_or_past, length-replicate, map-append}}
 use Rattle.std.proofs.lemmas.List.{replicate_more}
-use Rattle.shop_states.specs.{declared.head_raises.LaneRaise.LaneRaise, inner.MachineRaises.AreEmpty}
-use Rattle.shop_states.specs.inner.HeadRaises.{Raise, nothing_raised, raise_in, raises_in}
+use Rattle.shop_states.specs.{declared.lane_raises.LaneRaise.LaneRaise, inner.MachineRaises.AreEmpty}
+use Rattle.shop_states.specs.inner.LaneRaises.{Raise, nothing_raised, raise_in, raises_in}
 use Rattle.shop_states.proofs.machine_raises.MachineRaises.new.Goals as goal
 
 -- one more empty raise

@@ -1,5 +1,5 @@
 use Rattle.std.proofs.Common.{◌≡◌, ◌≤◌, replicate, vec_len, vec_capacity}
-use Rattle.shop_states.specs.inner.HeadRaises.{nothing_raised, raises_in}
+use Rattle.shop_states.specs.inner.LaneRaises.{nothing_raised, raises_in}
 use Rattle.shop_states.proofs.machine_raises.MachineRaises.new.Given as goal
 
 abbrev pub invariant-loop : goal.invariant-loop

@@ -1,4 +1,4 @@
-use Rattle.std.proofs.Common.{◌≤◌, ap, arith, false, inl, inr, length, true}
+use Rattle.std.proofs.Common.{◌≤◌, ap, arith, inl, inr, length}
 use Rattle.shop_states.proofs.{RaisedMachines.can_note, WrittenRaises.{behind_written, few_written}}
 use Rattle.shop_states.proofs.machine_raises.MachineRaises.raise_late.Goals as goal
 
@@ -6,8 +6,9 @@ pub raise_late-requires-2-clause-can : goal.raise_late-requires-2-clause-can
 raise_late-requires-2-clause-can g c = c.requires.can
 
 pub raise_late-requires-2-clause-note : goal.raise_late-requires-2-clause-note
-raise_late-requires-2-clause-note g c = can_note g.L.StateLanes.value {few = false} c.as_mut_slice-raises.ensures.value
-    c.self.view_is c.self.invariant.0 c.requires.at_rest c.requires.known c.none-raised.ensures (λ none. absurd cc)
+raise_late-requires-2-clause-note g c = can_note g.L.StateLanes.value c.as_mut_slice-raises.ensures.value
+    c.self.view_is c.self.invariant.0 c.requires.at_rest c.requires.known c.none-raised.ensures (omega arith)
+    (λ one. omega arith)
 
 pub raise_late-requires-clause-can : goal.raise_late-requires-clause-can
 raise_late-requires-clause-can g c = c.requires.can
@@ -19,8 +20,8 @@ raise_late-requires-clause-note g c =
       | inl some ↦ (let is = c.EACH.ensures in let least = c.self.invariant.1 (omega arith) in omega arith)
       | inr most ↦ most.1
     ]
-    in can_note g.L.StateLanes.value {few = true} c.as_mut_slice-raises.ensures.value c.self.view_is
-    c.self.invariant.0 c.requires.at_rest c.requires.known c.none-raised.ensures (λ t. few)
+    in can_note g.L.StateLanes.value c.as_mut_slice-raises.ensures.value c.self.view_is
+    c.self.invariant.0 c.requires.at_rest c.requires.known c.none-raised.ensures (omega arith) (λ one. few)
 
 pub invariant_of-self : goal.invariant_of-self
 invariant_of-self g c = few_written g.L.StateLanes.value c.self.inside.raises c.raise_late.new.raises

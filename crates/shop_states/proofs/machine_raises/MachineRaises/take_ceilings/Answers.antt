@@ -1,7 +1,7 @@
 use Rattle.std.proofs.Common.{◌+◌, ◌<◌, ◌∙◌, ap, inl, inr, List, arith, length, subst, sym, refl, set}
 use Rattle.std.proofs.lemmas.List.{length-map, length-set}
 use Rattle.shop_layout.specs.Lanes.{lanes_on}
-use Rattle.shop_states.specs.inner.HeadRaises.{Raise, nothing_raised, raise_in, raise_of, raises_in}
+use Rattle.shop_states.specs.inner.LaneRaises.{Raise, nothing_raised, raise_in, raise_of, raises_in}
 use Rattle.shop_states.{specs.inner.LaidLanes.laid_rows, proofs.LookedUpRows.{can_bound, cut_ordered}}
 use Rattle.shop_states.proofs.{LookedUpRows.{cut_span, cut_within, its_known}, FittingSpans.spans_within}
 use Rattle.shop_states.proofs.RaisedMachines.{IsFoundSo, first_known, found_all, found_begins, found_more}
@@ -24,8 +24,8 @@ blocks-requires g c =
           c.rows-rows.result rows.heads;
     }
 
-pub span_of_rows-span-requires : goal.span_of_rows-span-requires
-span_of_rows-span-requires g c =
+pub machine_bound-span-requires : goal.machine_bound-span-requires
+machine_bound-span-requires g c =
     let left = c.loop-machine.invariant.found.left in let rows = c.rows-rows.ensures
     in let blocks = c.blocks_of-from.ensures
     in can_bound c.requires.can left c.in-Some.ensures blocks.first blocks.behind g.L.StateLanes.value
@@ -47,7 +47,7 @@ loop-machine-preserved g c =
     in let all = spans_within g.L.StateLanes.GREATEST from to (on m) (omega arith) (on m)
     in let span = cut_span can so.left c.in-Some.ensures blocks.first blocks.behind g.L.StateLanes.value
     c.rows-rows.result rows.heads rows.times rows.tails c.blocks-in-Some.ensures c.take_raise-raise.ensures.raise
-    c.span_of_rows-span.ensures
+    c.machine_bound-span.ensures
     in let small = c.requires.computable
     in let same = c.loop-machine.invariant.long in let room = c.requires.room
     in let within : m < length c.loop-machine.ceilings = omega arith

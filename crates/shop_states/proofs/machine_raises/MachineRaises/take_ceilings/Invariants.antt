@@ -1,6 +1,6 @@
 use Rattle.std.proofs.Common.{◌≡◌, length}
 use Rattle.shop_layout.specs.Lanes.{lanes_on}
-use Rattle.shop_states.{specs.inner.{HeadRaises.raises_in, LaidLanes.laid_rows}, proofs.RaisedMachines.IsFoundSo}
+use Rattle.shop_states.{specs.inner.{LaneRaises.raises_in, LaidLanes.laid_rows}, proofs.RaisedMachines.IsFoundSo}
 use Rattle.shop_states.proofs.machine_raises.MachineRaises.take_ceilings.Given as goal
 
 abbrev pub invariant-loop-machine : goal.invariant-loop-machine

@@ -1,8 +1,8 @@
 use Rattle.std.proofs.Common.{◌≤◌, ◌-◌, length}
-use Rattle.shop_states.specs.inner.{HeadRaises.raises_in, LaidLanes.rows_in, MachineRaises.AreListed, Raises.IsInBlocks}
+use Rattle.shop_states.specs.inner.{LaneRaises.raises_in, LaidLanes.rows_in, MachineRaises.AreListed, Raises.IsInBlocks}
 use Rattle.shop_states.specs.inner.{Siblings.{HasRaisedBehind, IsLateAt}, Watchers.{Watches, no_floor}}
 use Rattle.shop_states.proofs.BehindRaises.{AreLateUpTo}
-use Rattle.shop_states.proofs.siblings.raise_late.Given as goal
+use Rattle.shop_states.proofs.late_raises.raise_late.Given as goal
 
 abbrev pub invariant-loop-from : goal.invariant-loop-from
 invariant-loop-from g l = record {

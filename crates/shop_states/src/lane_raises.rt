@@ -1,6 +1,6 @@
-// The raise on a machine: of the heads noted there, the least old one and the greatest new one.
-ghost use Rattle.std.specs.Prelude.{◌≡◌, ◌≤◌, ◌<◌, IsTrue, min, max, length, slice_set};
-ghost use Rattle.shop_states.specs.inner.HeadRaises.{nothing_raised, raise_in, raise_of, raises_in, widened};
+// The raise on a machine: of the heads noted there, the least old one and the greatest new one, in lanes.
+ghost use Rattle.std.specs.Prelude.{◌≡◌, ◌≤◌, ◌<◌, min, max, length, slice_set};
+ghost use Rattle.shop_states.specs.inner.LaneRaises.{nothing_raised, raise_in, raise_of, raises_in, widened};
 ghost use Rattle.shop_states.specs.inner.MachineRaises.{AreListed};
 
 use crate::machine_sets::MachineSet;
@@ -51,26 +51,30 @@ fn greater<L: StateLanes>(number: L::Number, other: u64) -> L::Number
 }
 
 /// Notes that a head rose from `before` to `after`: widens the raise of `machine`, and puts `machine` into `raised`.
-/// `FEW` says that there are at most 64 machines: then the set is one number, which spares a test.
+/// `NUMBERS` says how many numbers of that set are needed: 1 for at most 64 machines, which spares a test, else 2.
+/// Notes nothing if it is 0.
 #[inline(always)]
-pub(crate) fn see<L: StateLanes, const FEW: bool>(
+pub(crate) fn see<L: StateLanes, const NUMBERS: usize>(
     raises: &mut [LaneRaise<L::Number>],
     raised: &mut MachineSet,
     machine: u32,
     before: u64,
     after: u64,
 )
-    requires listed { AreListed (raises_in L.value raises.old) raised.old }
-    requires machines_fit { IsTrue FEW → length raises.old ≤ 64 }
-    requires known { machine < length raises.old }
+    requires listed { 0 < NUMBERS → AreListed (raises_in L.value raises.old) raised.old }
+    requires machines_fit { NUMBERS ≡ 1 → length raises.old ≤ 64 }
+    requires known { 0 < NUMBERS → machine < length raises.old }
     requires rises { before ≤ after }
     requires fits { after ≤ L.GREATEST }
-    ensures raises { raises_in L.value raises.new ≡ slice_set (raises_in L.value raises.old) machine
+    ensures raises { 0 < NUMBERS → raises_in L.value raises.new ≡ slice_set (raises_in L.value raises.old) machine
         (widened (raise_of (raises_in L.value raises.old) machine) before after) }
-    ensures listed { AreListed (raises_in L.value raises.new) raised.new }
+    ensures listed { 0 < NUMBERS → AreListed (raises_in L.value raises.new) raised.new }
 {
+    if NUMBERS == 0 {
+        return;
+    }
     let raise = raises[machine as usize];
-    raised.put(machine, FEW);
+    raised.put(machine, NUMBERS == 1);
     raises[machine as usize] = LaneRaise {
         from: lesser::<L>(raise.from, before),
         to: greater::<L>(raise.to, after),

@@ -1,9 +1,9 @@
 use Rattle.std.proofs.Common.{inl, inr, arith}
 use Rattle.shop_states.specs.inner.Watchers.{no_floor}
 use Rattle.shop_states.proofs.BehindRaises.{late_all, late_begins, late_can, late_ends, late_marked, late_on}
-use Rattle.shop_states.proofs.{BehindRaises.late_waits, RaisedMachines.lengths_in, Watching.{watch_both, watch_none}}
-use Rattle.shop_states.proofs.siblings.raise_late.Goals.{then-position-late, else-position-late}
-use Rattle.shop_states.proofs.siblings.raise_late.Goals as goal
+use Rattle.shop_states.proofs.{BehindRaises.late_waits, RaisedMachines.note_on, Watching.{watch_both, watch_none}}
+use Rattle.shop_states.proofs.late_raises.raise_late.Goals.{then-position-late, else-position-late}
+use Rattle.shop_states.proofs.late_raises.raise_late.Goals as goal
 
 pub loop-from-init : goal.loop-from-init
 loop-from-init g c = grind (arith, late_begins, watch_none)
@@ -31,11 +31,8 @@ raise_behind-requires-clause-can g c =
     c.requires.can.can
 
 pub raise_behind-requires-clause-note : goal.raise_behind-requires-clause-note
-raise_behind-requires-clause-note g c = record {
-  known = λ q here. grind (arith, lengths_in);
-  machines_fit = grind (arith, lengths_in);
-  listed = c.loop-position.invariant.listed;
-}
+raise_behind-requires-clause-note g c = note_on c.requires.note c.loop-position.invariant.noted.long
+    c.loop-position.invariant.listed
 
 pub loop-position-preserved : goal.loop-position-preserved
 loop-position-preserved g c =

@@ -1,8 +1,9 @@
-use Rattle.std.proofs.{Common.{refl, arith}, lemmas.List.length-map}
-use Rattle.shop_states.{specs.inner.{HeadRaises.raise_in, Watchers.no_floor}, proofs.BehindRaises.{its_leg}}
+use Rattle.std.proofs.{Common.{refl, arith}, lemmas.List.{length-map, length-set}}
+use Rattle.shop_states.{specs.inner.{LaneRaises.raise_in, Watchers.no_floor}, proofs.BehindRaises.{its_leg}}
 use Rattle.shop_states.proofs.BehindRaises.{late_enough, leg_up_to, next_machine, next_raisable, next_read, next_there}
-use Rattle.shop_states.proofs.{BehindRaises.{next_waits, raised_behind}, Watching.{noted_behind, watch_none}}
-use Rattle.shop_states.proofs.siblings.raise_behind.Goals as goal
+use Rattle.shop_states.proofs.{BehindRaises.{next_waits, raised_behind}, RaisedMachines.note_on}
+use Rattle.shop_states.proofs.Watching.{noted_behind, watch_none}
+use Rattle.shop_states.proofs.late_raises.raise_behind.Goals as goal
 
 pub time-requires : goal.time-requires
 time-requires g c = grind arith
@@ -25,7 +26,7 @@ returns-then-ready-head g c = record {
 }
 
 pub see-requires-clause-known : goal.see-requires-clause-known
-see-requires-clause-known g c =
+see-requires-clause-known g c = λ some.
     let many = length-map c.args.raises.now (raise_in g.L.StateLanes.value)
     in let time = c.time.ensures
     in let there = next_there c.requires.can c.requires.waits c.behind.ensures.index c.leg-leg.ensures
@@ -55,11 +56,13 @@ raise_route-requires-clause-raisable g c =
     c.head_or_greatest-head.ensures (omega arith) c.if-ready-head.false
 
 pub raise_route-requires-clause-note : goal.raise_route-requires-clause-note
-raise_route-requires-clause-note g c = grind arith
+raise_route-requires-clause-note g c = λ some.
+    let saw = c.see.ensures.raises some
+    in note_on c.requires.note (grind (arith, length-set)) (c.see.ensures.listed some)
 
 pub returns : goal.returns
 returns g c =
-    let time = c.time.ensures
+    let time = c.time.ensures in let some = c.requires.note.some
     in let there = next_there c.requires.can c.requires.waits c.behind.ensures.index c.leg-leg.ensures
     c.head_or_greatest-head.ensures (omega arith) c.if-ready-head.false
     in let machine = next_machine c.requires.can c.requires.waits c.behind.ensures.index c.leg-leg.ensures
@@ -72,9 +75,10 @@ returns g c =
     in record {
       raises = raised_behind c.requires.can c.requires.waits c.behind.ensures.index c.leg-leg.ensures
           c.head_or_greatest-head.ensures (omega arith) c.if-ready-head.false c.raise_route.ensures.raises;
-      noted = noted_behind c.raise_route.ensures.noted c.raise_route.ensures.seen c.see.ensures.raises machine
+      noted = noted_behind (c.raise_route.ensures.noted some) (c.raise_route.ensures.seen some)
+          (c.see.ensures.raises some) machine
           (omega arith) (next_read c.requires.can c.requires.waits c.behind.ensures.index c.leg-leg.ensures
           c.head_or_greatest-head.ensures (omega arith) c.if-ready-head.false)
           (c.raise_route.ensures.raises.raised.raised.reach c.leg-leg.result.position refl waits);
-      listed = c.raise_route.ensures.listed;
+      listed = c.raise_route.ensures.listed some;
     }

@@ -1,5 +1,5 @@
 use Rattle.std.proofs.{Common.arith, lemmas.List.{get_or-map, map-set}}
-use Rattle.shop_states.proofs.head_raises.take_raise.Goals as goal
+use Rattle.shop_states.proofs.lane_raises.take_raise.Goals as goal
 
 pub returns-clause-raise : goal.returns-clause-raise
 returns-clause-raise g c = grind (arith, get_or-map)

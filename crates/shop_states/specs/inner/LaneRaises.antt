@@ -5,7 +5,7 @@
 --     nothing_raised greatest        the raise where no head rose
 --     widened raise a b              with one more head, which was a and is b
 use Rattle.std.specs.Prelude.{ℕ, ◌≤◌, ◌<◌, min, max, List, length, map, slice_index_or}
-use Rattle.shop_states.specs.declared.head_raises.LaneRaise.{LaneRaise}
+use Rattle.shop_states.specs.declared.lane_raises.LaneRaise.{LaneRaise}
 
 pub record Raise : Type 0 where
   pub from : ℕ
