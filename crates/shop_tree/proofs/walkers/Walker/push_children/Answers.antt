@@ -67,8 +67,8 @@ returns-clause-branched g c =
 pub returns-clause-states : goal.returns-clause-states
 returns-clause-states g c = grind (arith, on_ok, held_branched)
 
-pub try_candidates-requires-clause-branching : goal.try_candidates-requires-clause-branching
-try_candidates-requires-clause-branching g c =
+pub put_children-requires-clause-branching : goal.put_children-requires-clause-branching
+put_children-requires-clause-branching g c =
     let self = c.args.self.now in let at = c.requires.listed.at in let s = self.states in let is = g.D.Dispatching
     in let word = sym c.as_slice.ensures.value
     in record {
