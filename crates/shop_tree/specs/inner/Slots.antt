@@ -14,9 +14,9 @@
 --     IsBranchingOf g s b       b tells the current word, its bound and its candidates rightly
 --     AreBounded g s b top      the children of b were bounded together, and those that `top` settles have these bounds
 --     HasPutAll g s b old new n on top of the old stack lie the children of b below its limit, and there are n others
-use Rattle.std.specs.Prelude.{◌≡◌, ℕ, ◌≤◌, Option, List, [], ◌∷◌, ◌++◌, All, IfSome, OnSome}
+use Rattle.std.specs.Prelude.{◌≡◌, ℕ, ◌≤◌, Option, List, All, IfSome}
 use Rattle.shop_bound.specs.Bound.{lb}
-use Rattle.shop_states.specs.States.{CanDispatch, ListsBelow, Settles, TellsBoundBelow}
+use Rattle.shop_states.specs.States.{CanDispatch, HasDispatched, ListsBelow, Settles}
 use Rattle.shop_states.specs.declared.dispatching.{Candidate.Candidate, Dispatching.Ghosts}
 use Rattle.shop_nodes.specs.Branching.{conflict}
 use Rattle.shop_tree.specs.{declared.walk_states.Branching.Branching, declared.held.Held.Held, inner.Held.AreStates}
@@ -47,10 +47,9 @@ module _ {D S C : Type 0} (g : Ghosts D S C) (s : WalkStates D S C) where
   CanTry together c bound = CanDispatch (g.shop d) (λ w. IsStateIn w × g.IsCandidate d w c
       × IfSome together (λ top. g.KnowsChild d s.scratch w c.job)) c.job bound
 
-  pub record HasTaken (c : Candidate) (bound limit : ℕ) (answer : Option ℕ) (child : S) : Type 0 where
-    pub told : (w : List ℕ) → IsStateIn w → g.IsCandidate d w c → bound ≡ lb (g.shop d) w
-        → TellsBoundBelow limit (lb (g.shop d) (w ++ c.job ∷ [])) answer
-    pub state : (w : List ℕ) → IsStateIn w → g.IsCandidate d w c → OnSome answer (g.IsStateOf d (w ++ c.job ∷ []) child)
+  abbrev pub HasTaken : Candidate → ℕ → ℕ → Option ℕ → S → Type 0
+  HasTaken c bound limit answer child = HasDispatched (g.shop d) (λ w. IsStateIn w × g.IsCandidate d w c)
+      (λ w. g.IsStateOf d w child) c.job bound limit answer
 
   pub record IsBranchingOf (b : Branching) : Type 0 where
     pub state : IsStateIn b.word.now

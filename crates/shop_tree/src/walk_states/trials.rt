@@ -46,20 +46,16 @@ impl<D: Dispatching<S>, S: Drop> WalkStates<D, S> {
         ensures current { is_last ≡ false → self.new.current.value ≡ self.old.current.value }
         ensures known { IfSome together (λ top. StaysKnown D.Dispatching self.old self.new) }
     {
-        if together.is_some() {
-            let (scratch, trial) = (&mut self.scratch, &mut self.trial);
-            return self
-                .dispatcher
-                .dispatch_child_in_copy(scratch, &self.current, trial, candidate, bound, limit);
-        }
-        if is_last {
+        let is_known = together.is_some();
+        if is_last && !is_known {
             let child = self.dispatch_below(candidate, bound, limit);
             mem::swap(&mut self.current, &mut self.trial);
             return child;
         }
         let (scratch, trial) = (&mut self.scratch, &mut self.trial);
+        let current = &self.current;
         self.dispatcher
-            .dispatch_below_in_copy(scratch, &self.current, trial, candidate, bound, limit)
+            .dispatch_in_copy(scratch, current, trial, candidate, is_known, bound, limit)
     }
 
     /// Bounds the children of the current word, that of `branching`, as `Dispatching::bound_children` does, if they are

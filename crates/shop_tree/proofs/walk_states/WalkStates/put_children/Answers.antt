@@ -33,7 +33,7 @@ overflow_add-closed g c =
     let d = c.loop-index.self.dispatcher in let now = c.loop-index.invariant in let a = now.trying.few
     in let some : 0 < c.loop-index.index = (let a = c.loop-index-test.true in omega arith)
     in let word = c.args.branching.now.word.now
-    in let limits = g.met.D.Dispatching.state_is_within_limits d word _ (now.trying.wanted some)
+    in let limits = (g.met.D.Dispatching.state_is_of_word d word _ (now.trying.wanted some)).limits
     in let b = conflict_few (g.D.Dispatching.shop d) word in let e = limits.jobs in omega arith
 
 pub overflow_add-closed-in_default : goal.overflow_add-closed-in_default
@@ -41,7 +41,7 @@ overflow_add-closed-in_default g c =
     let d = c.loop-index.self.dispatcher in let now = c.loop-index.invariant in let a = now.trying.few
     in let some : 0 < c.loop-index.index = (let a = c.loop-index-test.true in omega arith)
     in let word = c.args.branching.now.word.now
-    in let limits = g.met.D.Dispatching.state_is_within_limits d word _ (now.trying.wanted some)
+    in let limits = (g.met.D.Dispatching.state_is_of_word d word _ (now.trying.wanted some)).limits
     in let b = conflict_few (g.D.Dispatching.shop d) word in let e = limits.jobs in omega arith
 
 pub put-requires : goal.put-requires
@@ -71,7 +71,8 @@ loop-index-preserved-in_ok-put g c =
           (record { «open» = record { depth = length word; job = job; bound = b }; state = None });
       stack = put.put;
       trying = turn_kept some now.trying c.loop-index.self.current.value
-          (g.met.D.Dispatching.state_is_of_word d word _ (now.trying.wanted some)) child put (λ more. now.trying.wanted some);
+          (g.met.D.Dispatching.state_is_of_word d word _ (now.trying.wanted some)).word child put
+          (λ more. now.trying.wanted some);
       bound = now.bound;
       known = now.known;
       more = now.more;
@@ -118,7 +119,7 @@ try_candidate-requires-clause-can g c =
         IfSome_then c.bound_children-together.result now.known (λ top known. known.1.known (i - 1) none within),
       );
       fits = next_fits some now.trying
-          (g.met.D.Dispatching.state_is_of_word c.loop-index.self.dispatcher word _ state);
+          (g.met.D.Dispatching.state_is_of_word c.loop-index.self.dispatcher word _ state).word;
       bound_is = now.bound;
     }
 
@@ -131,7 +132,7 @@ loop-index-preserved-in_default g c =
     in let job = (get_or cs (i - 1) (record { job = 0; own = 0 })).job
     in let state = now.trying.wanted some
     in let high = told_high at.limit (lb (g.D.Dispatching.shop d) (word ++ job ∷ [])) c.try_candidate.result
-    c.in_default.is (c.try_candidate.ensures.taken.told word state (next_own some now.trying) now.bound)
+    c.in_default.is (c.try_candidate.ensures.taken.told word (state, next_own some now.trying) now.bound)
     in let left = c.try_candidate.new.self.current.value in let same = c.try_candidate.ensures.sound.dispatcher
     in record {
       kids = now.kids;
@@ -156,7 +157,8 @@ put_tried-requires-clause-slots g c =
     in subst (λ x. AreSlotsFrom (slot x) c.len-from.result c.loop-index.stack.items)
     (sym c.try_candidate.ensures.sound.dispatcher)
     (are_slots c.args.stack.now.items now.kids c.len-from.result (omega arith) c.loop-index.stack.items now.stack
-    (g.D.Dispatching.IsStateOf d) _ now.trying.states (slot d) (g.met.D.Dispatching.state_is_slot d))
+    (g.D.Dispatching.IsStateOf d) _ now.trying.states (slot d)
+    (λ w s is. (g.met.D.Dispatching.state_is_of_word d w s is).slot))
 
 pub put_tried-requires-clause-from : goal.put_tried-requires-clause-from
 put_tried-requires-clause-from g c =
@@ -175,9 +177,9 @@ loop-index-preserved g c =
     (let a = c.len-from.ensures in let b = c.args.stack.now.ok.0 in omega arith)
     in let mid = c.try_candidate.new.self in let left = c.put_tried.new.self.current.value
     in let kept = tried_kept some now.trying e now.stack c.in_ok-put_tried.ensures.put c.in-Some.is
-    (c.try_candidate.ensures.taken.told word state (next_own some now.trying) now.bound)
-    (c.try_candidate.ensures.taken.state word state (next_own some now.trying))
-    (g.met.D.Dispatching.state_is_of_word d word _ state) left
+    (c.try_candidate.ensures.taken.told word (state, next_own some now.trying) now.bound)
+    (c.try_candidate.ensures.taken.state word (state, next_own some now.trying))
+    (g.met.D.Dispatching.state_is_of_word d word _ state).word left
     (still_wanted (is word) i (λ f. c.in_ok-put_tried.ensures.current ∙ c.try_candidate.ensures.current f) state)
     in let same = c.put_tried.ensures.sound.dispatcher ∙ c.try_candidate.ensures.sound.dispatcher
     in record {
