@@ -35,7 +35,7 @@ bound_together-together-requires-clause-can g c =
 pub dispatch_twice-told-requires-clause-can : goal.dispatch_twice-told-requires-clause-can
 dispatch_twice-told-requires-clause-can g c =
     let d = c.args.dispatcher.now in let was = c.loop.invariant.state in let w = was.word in let state = was.is.0
-    in let word = g.met.D.Dispatching.state_is_of_word d w _ state in let long = c.list_candidates.new.candidates.ok.0
+    in let word = (g.met.D.Dispatching.state_is_of_word d w _ state).word in let long = c.list_candidates.new.candidates.ok.0
     in let some = c.if-count-eq0.false in let count = c.len-count.ensures
     in let its = picked word (c.list_candidates.ensures.listed w state) (c.up_to.result % c.len-count.result)
     c.index-candidate.result.now (omega arith) c.index-candidate.ensures
@@ -60,7 +60,7 @@ dispatch_twice-told-requires-clause-can g c =
 pub list_candidates-requires-in-loop-clause-state : goal.list_candidates-requires-in-loop-clause-state
 list_candidates-requires-in-loop-clause-state g c =
     let d = c.args.dispatcher.now in let was = c.loop.invariant.state in let w = was.word in let state = was.is.0
-    in let word = g.met.D.Dispatching.state_is_of_word d w _ state in let long = c.list_candidates.new.candidates.ok.0
+    in let word = (g.met.D.Dispatching.state_is_of_word d w _ state).word in let long = c.list_candidates.new.candidates.ok.0
     in let some = c.if-count-eq0.false in let count = c.len-count.ensures
     in let its = picked word (c.list_candidates.ensures.listed w state) (c.up_to.result % c.len-count.result)
     c.index-candidate.result.now (omega arith) c.index-candidate.ensures
@@ -73,7 +73,7 @@ list_candidates-requires-in-loop-clause-state g c =
 pub list_candidates-requires-in-loop-2-clause-state : goal.list_candidates-requires-in-loop-2-clause-state
 list_candidates-requires-in-loop-2-clause-state g c =
     let d = c.args.dispatcher.now in let was = c.loop.invariant.state in let w = was.word in let state = was.is.0
-    in let word = g.met.D.Dispatching.state_is_of_word d w _ state in let long = c.list_candidates.new.candidates.ok.0
+    in let word = (g.met.D.Dispatching.state_is_of_word d w _ state).word in let long = c.list_candidates.new.candidates.ok.0
     in let some = c.if-count-eq0.false in let count = c.len-count.ensures
     in let its = picked word (c.list_candidates.ensures.listed w state) (c.up_to.result % c.len-count.result)
     c.index-candidate.result.now (omega arith) c.index-candidate.ensures
@@ -86,7 +86,7 @@ list_candidates-requires-in-loop-2-clause-state g c =
 pub list_candidates-requires-in-loop-3-clause-state : goal.list_candidates-requires-in-loop-3-clause-state
 list_candidates-requires-in-loop-3-clause-state g c =
     let d = c.args.dispatcher.now in let was = c.loop.invariant.state in let w = was.word in let state = was.is.0
-    in let word = g.met.D.Dispatching.state_is_of_word d w _ state in let long = c.list_candidates.new.candidates.ok.0
+    in let word = (g.met.D.Dispatching.state_is_of_word d w _ state).word in let long = c.list_candidates.new.candidates.ok.0
     in let some = c.if-count-eq0.false in let count = c.len-count.ensures
     in let its = picked word (c.list_candidates.ensures.listed w state) (c.up_to.result % c.len-count.result)
     c.index-candidate.result.now (omega arith) c.index-candidate.ensures
@@ -99,7 +99,7 @@ list_candidates-requires-in-loop-3-clause-state g c =
 pub loop-preserved : goal.loop-preserved
 loop-preserved g c =
     let d = c.args.dispatcher.now in let was = c.loop.invariant.state in let w = was.word in let state = was.is.0
-    in let word = g.met.D.Dispatching.state_is_of_word d w _ state in let long = c.list_candidates.new.candidates.ok.0
+    in let word = (g.met.D.Dispatching.state_is_of_word d w _ state).word in let long = c.list_candidates.new.candidates.ok.0
     in let some = c.if-count-eq0.false in let count = c.len-count.ensures
     in let its = picked word (c.list_candidates.ensures.listed w state) (c.up_to.result % c.len-count.result)
     c.index-candidate.result.now (omega arith) c.index-candidate.ensures
@@ -115,7 +115,7 @@ loop-preserved g c =
       };
       copied = c.dispatch_twice-told.ensures.copied;
       direct = subst (g.D.Dispatching.IsSlot d) (sym (c.swap.ensures.y_after ∙ c.dispatch_twice-told.ensures.first))
-          (g.met.D.Dispatching.state_is_slot d w _ still);
+          (g.met.D.Dispatching.state_is_of_word d w _ still).slot;
       settled = c.dispatch_twice-told.ensures.settled;
       scratch = c.list_candidates-in-loop-3.ensures.scratch;
       room = (let a = c.loop.invariant.room in let b = c.list_candidates.ensures.room
