@@ -39,24 +39,6 @@ impl<'l, L: StateLanes> Model for Grid<'l, L> {
         × IsBehind g.positions.now g.behind.now };
 }
 
-/// Returns the number of blocks of each machine, or 0 if not all machines have equally many.
-pub(crate) fn even_blocks(blocks: &[u32]) -> usize
-    ensures { AreEven blocks.now result }
-{
-    if blocks.len() < 2 {
-        return 0;
-    }
-    let each = blocks[1] as usize;
-    let mut first = 0;
-    for m in 0..blocks.len() {
-        if blocks[m] as usize != first {
-            return 0;
-        }
-        first += each;
-    }
-    each
-}
-
 impl<'l, L: StateLanes> Grid<'l, L> {
     /// Makes a grid of `layout`, whose times and tails stand in the lanes of `rows`.
     pub(crate) fn of(layout: &'l Layout<'_>, rows: &'l Rows<L::Number>) -> Grid<'l, L>

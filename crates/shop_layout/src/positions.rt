@@ -2,7 +2,7 @@
 ghost use Rattle.std.specs.Prelude.{◌≡◌, ℕ, ◌+◌, ◌-◌, ◌*◌, ◌/◌, ◌%◌, ◌<◌, ◌≤◌, ◌^◌, All, IfOk, OnOk, List, length, map};
 ghost use Rattle.std.specs.Prelude.{slice_index};
 ghost use Rattle.shop_model.specs.declared.limits.TheConstants.{MAX_JOBS, MAX_MACHINES, MAX_STEPS};
-ghost use Rattle.shop_layout.specs.{Positions.{AreMachinesOf, IsLaidOut}, Ranks.{AreRanks, ranked}};
+ghost use Rattle.shop_layout.specs.{Positions.{AreEven, AreMachinesOf, IsLaidOut}, Ranks.{AreRanks, ranked}};
 ghost use Rattle.shop_layout.specs.{Slots.AreMachineSlots, inner.Vectors.items_in};
 ghost use Rattle.shop_layout.specs.inner.Layings.{AreAdded, AreApart, AreCells, AreNoted, ArePlaces, AreShorter};
 ghost use Rattle.shop_layout.specs.inner.Layings.{HaveRoom, IsInRows, place_after};
@@ -202,6 +202,24 @@ fn machines_of(alloc: Global, blocks: &[u32]) -> Result<Vec<u32>, NoMemory>
         machines.resize(8 * blocks[machine + 1] as usize, machine as u32)?;
     }
     Ok(machines)
+}
+
+/// Returns the number of blocks of each machine, or 0 if not all machines have equally many.
+pub(crate) fn even_blocks(blocks: &[u32]) -> usize
+    ensures { AreEven blocks.now result }
+{
+    if blocks.len() < 2 {
+        return 0;
+    }
+    let each = blocks[1] as usize;
+    let mut first = 0;
+    for m in 0..blocks.len() {
+        if blocks[m] as usize != first {
+            return 0;
+        }
+        first += each;
+    }
+    each
 }
 
 impl Positions {

@@ -1,5 +1,5 @@
 use Rattle.std.proofs.Common.{◌≡◌, ℕ, ◌*◌, ◌^◌, ◌<◌, get_or}
-use Rattle.shop_layout.proofs.grid.even_blocks.Given as goal
+use Rattle.shop_layout.proofs.positions.even_blocks.Given as goal
 
 abbrev pub invariant-loop-m : goal.invariant-loop-m
 invariant-loop-m l = record {
