@@ -34,6 +34,7 @@ impl<const NUMBERS: usize> JobSet<NUMBERS> {
 
     /// Puts a job into the set.
     #[inline(always)]
+    #[tactic(auto, using(crate::proofs::JobSets::put_in))]
     pub(crate) fn put(&mut self, job: usize)
         requires { job < 64 * NUMBERS }
         ensures { HasPut job self.old self.new }
