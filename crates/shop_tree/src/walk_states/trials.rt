@@ -132,6 +132,7 @@ impl<D: Dispatching<S>, S: Drop> WalkStates<D, S> {
     /// Gives the child on top of the stack a state, if the child lies from index `from` on and has none, and another
     /// state can take the place of the current one: dispatches its job in the current state, which the walk no longer
     /// needs. The child is one of `branching`, with a bound below its limit. Fails with `NoMemory` if memory runs out.
+    #[inline(never)]
     fn give_current(
         &mut self,
         alloc: Global,
@@ -215,7 +216,10 @@ impl<D: Dispatching<S>, S: Drop> WalkStates<D, S> {
         if together.is_none() {
             return Ok(closed);
         }
-        self.give_current(alloc, stack, from, branching)?;
+        // `give_current` reads its record from memory. It gets a copy, so that the record that the caller made can stay
+        // in registers.
+        let branching = *branching;
+        self.give_current(alloc, stack, from, &branching)?;
         Ok(closed)
     }
 }
