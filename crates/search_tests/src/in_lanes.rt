@@ -6,7 +6,7 @@ use crate::fills::assert_fills;
 use crate::numbers::Numbers;
 use crate::shuffled_layouts::shuffled;
 use shop_lanes::StateLanes;
-use shop_layout::{LaidOut, LaneLayout};
+use shop_layout::{LaneLayout, LayoutFor};
 use shop_model::Instance;
 use shop_states::Dispatching;
 use std::alloc::AllocGlobal;
@@ -40,13 +40,14 @@ fn assert_tried<D: Dispatching<S>, S: Drop>(
 fn assert_over<L: StateLanes>(
     rt: &(impl Abort + AllocGlobal),
     numbers: &mut Numbers,
-    layout: LaidOut<'_, '_, L>,
+    layout: LayoutFor<'_, '_, L>,
     instance: &Instance,
     tried: Tried,
 )
     requires { layout.asked ≡ instance.now }
 {
-    assert_tried(rt, numbers, &layout, instance, tried)
+    let laid_out = layout.laid_out();
+    assert_tried(rt, numbers, &laid_out, instance, tried)
 }
 
 /// Does what `assert_tried` does, in the lanes of the instance's layout, where its machines stand in a random order.

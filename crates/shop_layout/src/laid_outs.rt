@@ -1,4 +1,4 @@
-// `LaidOut`: an instance with its layout in lanes of one width. `LaneLayout`: the lanes that a layout has.
+// `LaidOut`: an instance with its layout in lanes of one width, made of a `LayoutFor`, which the layout lends.
 ghost use Rattle.std.specs.Prelude.{◌≡◌, ◌≤◌, ◌<◌};
 ghost use Rattle.shop_model.specs.{Limits.IsWithinLimits, Shop.operation_count};
 ghost use Rattle.shop_bound.specs.Renumbered.{IsRenumbered};
@@ -10,6 +10,40 @@ use crate::layouts::Layout;
 use shop_lanes::{Lanes16, Lanes32, Lanes64, StateLanes};
 use shop_model::Instance;
 use std::marker::Model;
+
+/// The layout of an instance, which lanes of the type `L` hold. Contracts see it as they see a `LaidOut`. `LaneLayout`
+/// holds this in place of the `LaidOut` itself, since the searchers of `shop_tree` then take half as long to prove.
+#[derive(Drop)]
+pub struct LayoutFor<'l, 'a, L: StateLanes> {
+    layout: &'l Layout<'a>,
+    fixed: &'l Rows<L::Number>,
+}
+
+impl<'l, 'a, L: StateLanes> Model for LayoutFor<'l, 'a, L> {
+    ghost use Rattle.std.specs.Prelude.{◌≡◌, ◌≤◌, ◌<◌, map};
+    ghost use Rattle.shop_layout.specs.{LaidOuts.{IsReady, LaidOutState}, Positions.AreEven};
+
+    ghost Value = { LaidOutState };
+
+    ghost view = { λ l. l.layout.now };
+
+    ghost invariant = { λ l. IsReady L.GREATEST l.layout.now.shop l.layout.now.layout
+        × AreEven l.layout.now.layout.blocks L.EACH
+        × (0 < L.EACH → l.layout.now.shop.machines ≤ 64)
+        × (map L.value l.fixed.now.times.items ≡ l.layout.now.layout.times)
+        × (map L.value l.fixed.now.tails.items ≡ l.layout.now.layout.tails) };
+}
+
+impl<'l, 'a, L: StateLanes> LayoutFor<'l, 'a, L> {
+    /// The instance with its layout in these lanes.
+    pub fn laid_out(self) -> LaidOut<'l, 'a, L>
+        ensures { result ≡ self.entry }
+    {
+        let layout = self.layout;
+        let grid = Grid::new(&layout.rows, self.fixed);
+        LaidOut { layout, grid }
+    }
+}
 
 /// An instance with its layout in lanes of one width. The layout calls each machine by its rank. Contracts see the
 /// instance both as it was given and with its machines called so.
@@ -75,46 +109,34 @@ const MOST_MACHINES: usize = 64;
 /// blocks, nothing looks up their number, and a set of machines is one number of 64 bits.
 #[derive(Drop)]
 pub enum LaneLayout<'l, 'a> {
-    In16By2(LaidOut<'l, 'a, Lanes16<2>>),
-    In16By3(LaidOut<'l, 'a, Lanes16<3>>),
-    In16By4(LaidOut<'l, 'a, Lanes16<4>>),
-    In16(LaidOut<'l, 'a, Lanes16<0>>),
-    In32(LaidOut<'l, 'a, Lanes32>),
-    In64(LaidOut<'l, 'a, Lanes64>),
+    In16By2(LayoutFor<'l, 'a, Lanes16<2>>),
+    In16By3(LayoutFor<'l, 'a, Lanes16<3>>),
+    In16By4(LayoutFor<'l, 'a, Lanes16<4>>),
+    In16(LayoutFor<'l, 'a, Lanes16<0>>),
+    In32(LayoutFor<'l, 'a, Lanes32>),
+    In64(LayoutFor<'l, 'a, Lanes64>),
 }
 
 impl<'a> Layout<'a> {
-    ghost use Rattle.std.specs.Prelude.{map};
-    ghost use Rattle.shop_layout.specs.{Layouts.shop_laid_out, inner.Widths.FitsIn};
-
-    /// The layout in lanes of the type `L`, in which its times and tails are `fixed`.
-    fn laid_out<'l, L: StateLanes>(&'l self, fixed: &'l Rows<L::Number>) -> LaidOut<'l, 'a, L>
-        requires { FitsIn L.GREATEST L.EACH self.now (map L.value fixed.now.times.items)
-            (map L.value fixed.now.tails.items) }
-        ensures { result ≡ self.now }
-    {
-        let grid = Grid::new(&self.rows, fixed);
-        LaidOut { layout: self, grid }
-    }
+    ghost use Rattle.shop_layout.specs.Layouts.{shop_laid_out};
 
     /// The layout in lanes of the width that its maker chose.
     pub fn lanes(&self) -> LaneLayout<'_, 'a>
         ensures { shop_laid_out result ≡ self.now.asked }
     {
         let layout = self;
-        let machines = layout.instance.machines();
         match &layout.fixed {
-            FixedRows::In16(fixed) if machines > MOST_MACHINES => {
-                LaneLayout::In16(layout.laid_out(fixed))
+            FixedRows::In16(fixed) if layout.instance.machines() > MOST_MACHINES => {
+                LaneLayout::In16(LayoutFor { layout, fixed })
             }
             FixedRows::In16(fixed) => match layout.rows.blocks_each {
-                2 => LaneLayout::In16By2(layout.laid_out(fixed)),
-                3 => LaneLayout::In16By3(layout.laid_out(fixed)),
-                4 => LaneLayout::In16By4(layout.laid_out(fixed)),
-                _ => LaneLayout::In16(layout.laid_out(fixed)),
+                2 => LaneLayout::In16By2(LayoutFor { layout, fixed }),
+                3 => LaneLayout::In16By3(LayoutFor { layout, fixed }),
+                4 => LaneLayout::In16By4(LayoutFor { layout, fixed }),
+                _ => LaneLayout::In16(LayoutFor { layout, fixed }),
             },
-            FixedRows::In32(fixed) => LaneLayout::In32(layout.laid_out(fixed)),
-            FixedRows::In64(fixed) => LaneLayout::In64(layout.laid_out(fixed)),
+            FixedRows::In32(fixed) => LaneLayout::In32(LayoutFor { layout, fixed }),
+            FixedRows::In64(fixed) => LaneLayout::In64(LayoutFor { layout, fixed }),
         }
     }
 }

@@ -11,7 +11,7 @@ mod routes;
 mod slots;
 
 pub use grid::Grid;
-pub use laid_outs::{LaidOut, LaneLayout};
+pub use laid_outs::{LaidOut, LaneLayout, LayoutFor};
 pub use layouts::Layout;
 pub use legs::Leg;
 pub use routes::Routes;

@@ -5,7 +5,7 @@ ghost use Rattle.shop_tree.specs.{Searches.Searches, inner.StateWalkers.HasState
 
 use crate::walkers::Walker;
 use shop_lanes::{Lanes16, Lanes32, Lanes64, StateLanes};
-use shop_layout::{LaidOut, LaneLayout, Layout};
+use shop_layout::{LaidOut, LaneLayout, Layout, LayoutFor};
 use shop_model::Instance;
 use shop_nodes::{Piece, Sheet};
 use shop_states::State;
@@ -23,14 +23,14 @@ type WalkerIn<'l, 'a, L> = Walker<'a, LaidOut<'l, 'a, L>, State<L>>;
 fn walker_in<'l, 'a, L: StateLanes>(
     alloc: Global,
     instance: &'a Instance,
-    layout: LaidOut<'l, 'a, L>,
+    layout: LayoutFor<'l, 'a, L>,
     most: usize,
 ) -> Result<WalkerIn<'l, 'a, L>, NoMemory>
     requires { layout.asked ≡ instance.now }
     ensures instance { IfOk result (λ w. w.instance.now ≡ instance.now) }
     ensures states { IfOk result HasStates }
 {
-    Walker::new(alloc, instance, layout, most)
+    Walker::new(alloc, instance, layout.laid_out(), most)
 }
 
 /// Searches `piece` like `Walker::search`.
