@@ -11,25 +11,27 @@ use shop_lanes::{Lanes16, Lanes32, Lanes64, StateLanes};
 use shop_model::Instance;
 use std::marker::Model;
 
-/// The layout of an instance, which lanes of the type `L` hold. Contracts see it as they see a `LaidOut`.
+/// The layout of an instance, which lanes of the type `L` hold. Contracts see it as they see a `LaidOut`. `LaneLayout`
+/// holds this in place of the `LaidOut` itself, since the searchers of `shop_tree` then take half as long to prove.
 #[derive(Drop)]
 pub struct LayoutFor<'l, 'a, L: StateLanes> {
     layout: &'l Layout<'a>,
-    rows: &'l Rows<L::Number>,
+    fixed: &'l Rows<L::Number>,
 }
 
 impl<'l, 'a, L: StateLanes> Model for LayoutFor<'l, 'a, L> {
     ghost use Rattle.std.specs.Prelude.{◌≡◌, ◌≤◌, ◌<◌, map};
-    ghost use Rattle.shop_layout.specs.{LaidOuts.LaidOutState, inner.Widths.FitsIn};
+    ghost use Rattle.shop_layout.specs.{LaidOuts.{IsReady, LaidOutState}, Positions.AreEven};
 
     ghost Value = { LaidOutState };
 
     ghost view = { λ l. l.layout.now };
 
-    ghost invariant = { λ l. FitsIn L.GREATEST L.EACH l.layout.now.shop l.layout.now.layout
+    ghost invariant = { λ l. IsReady L.GREATEST l.layout.now.shop l.layout.now.layout
+        × AreEven l.layout.now.layout.blocks L.EACH
         × (0 < L.EACH → l.layout.now.shop.machines ≤ 64)
-        × (map L.value l.rows.now.times.items ≡ l.layout.now.layout.times)
-        × (map L.value l.rows.now.tails.items ≡ l.layout.now.layout.tails) };
+        × (map L.value l.fixed.now.times.items ≡ l.layout.now.layout.times)
+        × (map L.value l.fixed.now.tails.items ≡ l.layout.now.layout.tails) };
 }
 
 impl<'l, 'a, L: StateLanes> LayoutFor<'l, 'a, L> {
@@ -38,51 +40,36 @@ impl<'l, 'a, L: StateLanes> LayoutFor<'l, 'a, L> {
         ensures { result ≡ self.entry }
     {
         let layout = self.layout;
-        LaidOut {
-            instance: layout.instance,
-            ranks: layout.ranks.as_slice(),
-            grid: Grid::of(layout, self.rows),
-        }
+        let grid = Grid::new(&layout.rows, self.fixed);
+        LaidOut { layout, grid }
     }
 }
 
 /// An instance with its layout in lanes of one width. The layout calls each machine by its rank. Contracts see the
 /// instance both as it was given and with its machines called so.
 pub struct LaidOut<'l, 'a, L: StateLanes> {
-    instance: &'a Instance,
-    /// the number of each machine in the layout, which only contracts read
-    ranks: &'l [usize],
+    layout: &'l Layout<'a>,
     grid: Grid<'l, L>,
 }
 
 // Not derived: a derived `Drop` would be compiled anew into each function that has a walk.
 impl<L: StateLanes> Drop for LaidOut<'_, '_, L> {
     fn drop(self) {
-        let LaidOut {
-            instance: _,
-            ranks: _,
-            grid: _,
-        } = self;
+        let LaidOut { layout: _, grid: _ } = self;
     }
 }
 
 impl<'l, 'a, L: StateLanes> Model for LaidOut<'l, 'a, L> {
-    ghost use Rattle.std.specs.Prelude.{◌≤◌, ◌<◌};
-    ghost use Rattle.shop_model.specs.Limits.{IsWithinLimits};
-    ghost use Rattle.shop_layout.specs.{LaidOuts.{IsReady, LaidOutState}, Ranks.{AreRanks, ranked}};
+    ghost use Rattle.std.specs.Prelude.{◌≡◌, ◌≤◌, ◌<◌};
+    ghost use Rattle.shop_layout.specs.LaidOuts.{IsReady, LaidOutState};
 
     ghost Value = { LaidOutState };
 
-    ghost view = { λ l. record {
-      shop = ranked l.ranks.now l.instance.now;
-      asked = l.instance.now;
-      layout = l.grid;
-    } };
+    ghost view = { λ l. l.layout.now };
 
-    ghost invariant = { λ l. IsReady L.GREATEST (ranked l.ranks.now l.instance.now) l.grid
-        × (0 < L.EACH → l.instance.now.machines ≤ 64)
-        × IsWithinLimits l.instance.now
-        × AreRanks l.instance.now.machines l.ranks.now };
+    ghost invariant = { λ l. (l.grid ≡ l.layout.now.layout)
+        × IsReady L.GREATEST l.layout.now.shop l.layout.now.layout
+        × (0 < L.EACH → l.layout.now.shop.machines ≤ 64) };
 }
 
 impl<'l, 'a, L: StateLanes> LaidOut<'l, 'a, L> {
@@ -95,7 +82,7 @@ impl<'l, 'a, L: StateLanes> LaidOut<'l, 'a, L> {
         ensures machines { self.now.shop.machines ≡ self.now.asked.machines }
         ensures operations { operation_count self.now.shop ≡ operation_count self.now.asked }
     {
-        self.instance
+        self.layout.instance()
     }
 
     /// The layout in lanes, which are wide enough for each head and each end that dispatches can reach. Lanes for a
@@ -108,6 +95,8 @@ impl<'l, 'a, L: StateLanes> LaidOut<'l, 'a, L> {
         ensures renumbered { IsRenumbered self.now.asked self.now.shop }
         ensures limits { IsWithinLimits self.now.asked }
     {
+        // reads nothing: brings in what is known of the instance
+        let _ = self.layout.instance();
         &self.grid
     }
 }
@@ -137,17 +126,17 @@ impl<'a> Layout<'a> {
     {
         let layout = self;
         match &layout.fixed {
-            FixedRows::In16(rows) if layout.instance.machines() > MOST_MACHINES => {
-                LaneLayout::In16(LayoutFor { layout, rows })
+            FixedRows::In16(fixed) if layout.instance.machines() > MOST_MACHINES => {
+                LaneLayout::In16(LayoutFor { layout, fixed })
             }
-            FixedRows::In16(rows) => match layout.blocks_each {
-                2 => LaneLayout::In16By2(LayoutFor { layout, rows }),
-                3 => LaneLayout::In16By3(LayoutFor { layout, rows }),
-                4 => LaneLayout::In16By4(LayoutFor { layout, rows }),
-                _ => LaneLayout::In16(LayoutFor { layout, rows }),
+            FixedRows::In16(fixed) => match layout.rows.blocks_each {
+                2 => LaneLayout::In16By2(LayoutFor { layout, fixed }),
+                3 => LaneLayout::In16By3(LayoutFor { layout, fixed }),
+                4 => LaneLayout::In16By4(LayoutFor { layout, fixed }),
+                _ => LaneLayout::In16(LayoutFor { layout, fixed }),
             },
-            FixedRows::In32(rows) => LaneLayout::In32(LayoutFor { layout, rows }),
-            FixedRows::In64(rows) => LaneLayout::In64(LayoutFor { layout, rows }),
+            FixedRows::In32(fixed) => LaneLayout::In32(LayoutFor { layout, fixed }),
+            FixedRows::In64(fixed) => LaneLayout::In64(LayoutFor { layout, fixed }),
         }
     }
 }
