@@ -163,15 +163,15 @@ impl<D: Dispatching<S>, S: Drop> WalkStates<D, S> {
         Ok(())
     }
 
-    /// Puts the children of the word of `branching` with bounds below its limit on the stack: by bound, then by job, the
-    /// first on top, each with its trial's state while there is room. Returns how many children are closed: those tried
-    /// in vain, and the others without a listed candidate. Fails with `NoMemory` if memory runs out.
+    /// Puts the children of the word of `branching` with bounds below its limit on the stack: by bound, then by job,
+    /// the first on top, each with its trial's state while there is room. Returns how many children are closed: those
+    /// tried in vain, and the others without a listed candidate. Fails with `NoMemory` if memory runs out.
     ///
-    /// If `bound_children` answered a number `top`, `together`, a child is settled if the bound of `branching` or the candidate's
-    /// `own` reaches `top`: the greater of the two is then its bound, as a trial would find. A settled child goes on the
-    /// stack without a trial and without a state. The one on top, which is walked next, gets a state by a dispatch in
-    /// the current one, if a state is free to take that one's place; when the turn of another comes, its state is filled
-    /// from its word.
+    /// `together` is what `bound_children` answered. If it is a number, a child is settled if the bound of `branching`
+    /// or the candidate's `own` reaches it: the greater of the two is then its bound, as a trial would find. A settled
+    /// child goes on the stack without a trial and without a state. The one on top, which is walked next, gets a state
+    /// by a dispatch in the current one, if a state is free to take that one's place; when the turn of another comes,
+    /// its state is filled from its word.
     // inlined into both callers, so that where `together` is `None` nothing is left of it
     #[inline(always)]
     fn put_each(

@@ -6,8 +6,8 @@ use Rattle.shop_states.specs.declared.dispatching.Candidate.{Candidate}
 use Rattle.shop_tree.{specs.inner.Tried.{AreSlotsFrom, HasPutChildren}, proofs.AddLemmas.conflict_few}
 use Rattle.shop_tree.proofs.{StripLemmas.{are_slots, many, tried_kept}, TrialLemmas.IsTrying}
 use Rattle.shop_tree.proofs.SiblingLemmas.{kept_then, known_put, known_stay, known_unless, put_given, known_settled}
-use Rattle.shop_tree.proofs.{SiblingLemmas.settled_child, TrialLemmas.{trying_begins, next_own, next_fits, turn_counted}}
-use Rattle.shop_tree.proofs.TrialLemmas.{turn_kept, told_high, still_wanted, all_tried}
+use Rattle.shop_tree.proofs.{SiblingLemmas.settled_child, TrialLemmas.{trying_begins, next_own, next_fits}}
+use Rattle.shop_tree.proofs.TrialLemmas.{turn_counted, turn_kept, told_high, still_wanted, all_tried}
 use Rattle.shop_tree.proofs.walk_states.WalkStates.put_each.Goals as goal
 
 pub overflow_cast-depth : goal.overflow_cast-depth
@@ -60,8 +60,8 @@ loop-index-preserved-in_ok-put g c =
     in let job = (get_or cs (i - 1) none).job
     in let b = c.max-least.result
     in let within : i - 1 < length cs = (let a = now.trying.within in omega arith)
-    in let told = known_settled g.D.Dispatching c.loop-index.self at c.args.together now.known (i - 1) none within b c.max-least.ensures
-    (c.is_settled.ensures.0 c.if-is_settled.true)
+    in let told = known_settled g.D.Dispatching c.loop-index.self at c.args.together now.known (i - 1) none within b
+    c.max-least.ensures (c.is_settled.ensures.0 c.if-is_settled.true)
     in let child = settled_child is shop word at.limit job b told c.if-least-limit.true
     in let e : c.len-from.result ≡ length c.args.stack.now.items =
     (let a = c.len-from.ensures in let k = c.args.stack.now.ok.0 in omega arith)
@@ -90,8 +90,8 @@ loop-index-preserved-else-least-limit g c =
     in let job = (get_or cs (i - 1) none).job
     in let b = c.max-least.result
     in let within : i - 1 < length cs = (let a = now.trying.within in omega arith)
-    in let told = known_settled g.D.Dispatching c.loop-index.self at c.args.together now.known (i - 1) none within b c.max-least.ensures
-    (c.is_settled.ensures.0 c.if-is_settled.true)
+    in let told = known_settled g.D.Dispatching c.loop-index.self at c.args.together now.known (i - 1) none within b
+    c.max-least.ensures (c.is_settled.ensures.0 c.if-is_settled.true)
     in let high : at.limit ≤ lb shop (word ++ job ∷ []) = (let a = c.if-least-limit.false in omega arith)
     in record {
       kids = now.kids;
