@@ -168,8 +168,8 @@ fn assert_same(rt: &impl Abort, candidates: &[Candidate], others: &[Candidate]) 
     }
 }
 
-/// Walks a random word of `instance`. Asserts that each dispatch tells the same bound in a copy as in a state filled from
-/// the word, and leaves states with the same candidates, as does one without a bound.
+/// Walks a random word of `instance`. Asserts that each dispatch tells the same bound in a copy as in a state filled
+/// from the word, and leaves states with the same candidates, as does one without a bound.
 pub fn assert_walk<D: Dispatching<S>, S: Drop>(
     rt: &impl Abort,
     alloc: Global,

@@ -31,6 +31,7 @@ impl<D: Dispatching<S>, S: Drop> WalkStates<D, S> {
     /// a copy of the current one or, for the last trial, the current state itself, which the walk no longer needs.
     /// After `bound_children` answered `together`, it is always a copy, and the child is bounded by what that left.
     /// `bound` is the bound of the current word.
+    #[inline(always)]
     fn try_candidate(
         &mut self,
         candidate: Candidate,
@@ -132,7 +133,6 @@ impl<D: Dispatching<S>, S: Drop> WalkStates<D, S> {
     /// Gives the child on top of the stack a state, if the child lies from index `from` on and has none, and another
     /// state can take the place of the current one: dispatches its job in the current state, which the walk no longer
     /// needs. The child is one of `branching`, with a bound below its limit. Fails with `NoMemory` if memory runs out.
-    #[inline(never)]
     fn give_current(
         &mut self,
         alloc: Global,
@@ -163,29 +163,31 @@ impl<D: Dispatching<S>, S: Drop> WalkStates<D, S> {
         Ok(())
     }
 
-    /// Puts the children of the word of `branching` with bounds below its limit on the stack: by bound, then by job, the
-    /// first on top, each with its trial's state while there is room. Returns how many children are closed: those tried
-    /// in vain, and the others without a listed candidate. Fails with `NoMemory` if memory runs out.
+    /// Puts the children of the word of `branching` with bounds below its limit on the stack: by bound, then by job,
+    /// the first on top, each with its trial's state while there is room. Returns how many children are closed: those
+    /// tried in vain, and the others without a listed candidate. Fails with `NoMemory` if memory runs out.
     ///
-    /// If `bound_children` answers a number `top`, a child is settled if the bound of `branching` or the candidate's
-    /// `own` reaches `top`: the greater of the two is then its bound, as a trial would find. A settled child goes on the
-    /// stack without a trial and without a state. The one on top, which is walked next, gets a state by a dispatch in
-    /// the current one, if a state is free to take that one's place; when the turn of another comes, its state is filled
-    /// from its word.
+    /// `together` is what `bound_children` answered. If it is a number, a child is settled if the bound of `branching`
+    /// or the candidate's `own` reaches it: the greater of the two is then its bound, as a trial would find. A settled
+    /// child goes on the stack without a trial and without a state. The one on top, which is walked next, gets a state
+    /// by a dispatch in the current one, if a state is free to take that one's place; when the turn of another comes,
+    /// its state is filled from its word.
+    // inlined into both callers, so that where `together` is `None` nothing is left of it
     #[inline(always)]
-    pub(crate) fn put_children(
+    fn put_each(
         &mut self,
         alloc: Global,
         stack: &mut Vec<Held<S>>,
         branching: &Branching<'_>,
+        together: Option<u64>,
     ) -> Result<usize, NoMemory>
         requires sound { HoldSlots D.Dispatching self.old }
         requires branching { IsBranchingOf D.Dispatching self.old branching.now }
+        requires bounded { IfSome together (AreBounded D.Dispatching self.old branching.now) }
         ensures sound { KeepSlots D.Dispatching self.old self.new }
         ensures children { IfOk result
             (HasPutAll D.Dispatching self.old branching.now stack.old.items stack.new.items) }
     {
-        let together = self.bound_children(branching);
         let bound = branching.bound;
         let limit = branching.limit;
         let candidates = branching.candidates;
@@ -216,10 +218,49 @@ impl<D: Dispatching<S>, S: Drop> WalkStates<D, S> {
         if together.is_none() {
             return Ok(closed);
         }
-        // `give_current` reads its record from memory. It gets a copy, so that the record that the caller made can stay
-        // in registers.
-        let branching = *branching;
-        self.give_current(alloc, stack, from, &branching)?;
+        self.give_current(alloc, stack, from, branching)?;
         Ok(closed)
+    }
+
+    /// Puts the children on the stack like `put_each`, after `bound_children` answered `top`.
+    #[inline(never)]
+    fn put_together(
+        &mut self,
+        alloc: Global,
+        stack: &mut Vec<Held<S>>,
+        branching: &Branching<'_>,
+        top: u64,
+    ) -> Result<usize, NoMemory>
+        requires sound { HoldSlots D.Dispatching self.old }
+        requires branching { IsBranchingOf D.Dispatching self.old branching.now }
+        requires bounded { AreBounded D.Dispatching self.old branching.now top }
+        ensures sound { KeepSlots D.Dispatching self.old self.new }
+        ensures children { IfOk result
+            (HasPutAll D.Dispatching self.old branching.now stack.old.items stack.new.items) }
+    {
+        self.put_each(alloc, stack, branching, Some(top))
+    }
+
+    /// Puts the children of the word of `branching` on the stack like `put_each`, after `bound_children`.
+    #[inline(always)]
+    pub(crate) fn put_children(
+        &mut self,
+        alloc: Global,
+        stack: &mut Vec<Held<S>>,
+        branching: &Branching<'_>,
+    ) -> Result<usize, NoMemory>
+        requires sound { HoldSlots D.Dispatching self.old }
+        requires branching { IsBranchingOf D.Dispatching self.old branching.now }
+        ensures sound { KeepSlots D.Dispatching self.old self.new }
+        ensures children { IfOk result
+            (HasPutAll D.Dispatching self.old branching.now stack.old.items stack.new.items) }
+    {
+        if let Some(top) = self.bound_children(branching) {
+            // `put_together` isn't inlined, and reads its record from memory. It gets a copy, so that the record that
+            // the caller made can stay in registers.
+            let branching = *branching;
+            return self.put_together(alloc, stack, &branching, top);
+        }
+        self.put_each(alloc, stack, branching, None)
     }
 }
