@@ -13,7 +13,7 @@ use std::marker::Model;
 use std::snapshot::Snapshot;
 
 /// The layout of an instance, which lanes of the type `L` hold. Contracts see it as they see a `LaidOut`. `LaneLayout`
-/// holds this in place of the `LaidOut` itself, since the searchers of `shop_tree` then take half as long to prove.
+/// holds this in place of the `LaidOut` itself, with which each function that has a `LaneLayout` is dear to prove.
 #[derive(Drop)]
 pub struct LayoutFor<'l, 'a, L: StateLanes> {
     layout: &'l Layout<'a>,
