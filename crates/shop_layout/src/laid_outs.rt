@@ -10,9 +10,10 @@ use crate::layouts::Layout;
 use shop_lanes::{Lanes16, Lanes32, Lanes64, StateLanes};
 use shop_model::Instance;
 use std::marker::Model;
+use std::snapshot::Snapshot;
 
 /// The layout of an instance, which lanes of the type `L` hold. Contracts see it as they see a `LaidOut`. `LaneLayout`
-/// holds this in place of the `LaidOut` itself, since the searchers of `shop_tree` then take half as long to prove.
+/// holds this in place of the `LaidOut` itself, with which each function that has a `LaneLayout` is dear to prove.
 #[derive(Drop)]
 pub struct LayoutFor<'l, 'a, L: StateLanes> {
     layout: &'l Layout<'a>,
@@ -41,35 +42,51 @@ impl<'l, 'a, L: StateLanes> LayoutFor<'l, 'a, L> {
     {
         let layout = self.layout;
         let grid = Grid::new(&layout.rows, self.fixed);
-        LaidOut { layout, grid }
+        LaidOut {
+            instance: layout.instance,
+            ranks: &layout.ranks,
+            grid,
+        }
     }
 }
 
 /// An instance with its layout in lanes of one width. The layout calls each machine by its rank. Contracts see the
 /// instance both as it was given and with its machines called so.
 pub struct LaidOut<'l, 'a, L: StateLanes> {
-    layout: &'l Layout<'a>,
+    instance: &'a Instance,
+    /// the number of each machine in the layout, which only contracts read
+    ranks: &'l Snapshot<Vec<usize>>,
     grid: Grid<'l, L>,
 }
 
 // Not derived: a derived `Drop` would be compiled anew into each function that has a walk.
 impl<L: StateLanes> Drop for LaidOut<'_, '_, L> {
     fn drop(self) {
-        let LaidOut { layout: _, grid: _ } = self;
+        let LaidOut {
+            instance: _,
+            ranks: _,
+            grid: _,
+        } = self;
     }
 }
 
 impl<'l, 'a, L: StateLanes> Model for LaidOut<'l, 'a, L> {
-    ghost use Rattle.std.specs.Prelude.{◌≡◌, ◌≤◌, ◌<◌};
-    ghost use Rattle.shop_layout.specs.LaidOuts.{IsReady, LaidOutState};
+    ghost use Rattle.std.specs.Prelude.{◌≤◌, ◌<◌};
+    ghost use Rattle.shop_model.specs.Limits.{IsWithinLimits};
+    ghost use Rattle.shop_layout.specs.{LaidOuts.{IsReady, LaidOutState}, Ranks.{AreRanks, ranked}};
 
     ghost Value = { LaidOutState };
 
-    ghost view = { λ l. l.layout.now };
+    ghost view = { λ l. record {
+      shop = ranked l.ranks.now.value.items l.instance.now;
+      asked = l.instance.now;
+      layout = l.grid;
+    } };
 
-    ghost invariant = { λ l. (l.grid ≡ l.layout.now.layout)
-        × IsReady L.GREATEST l.layout.now.shop l.layout.now.layout
-        × (0 < L.EACH → l.layout.now.shop.machines ≤ 64) };
+    ghost invariant = { λ l. IsReady L.GREATEST (ranked l.ranks.now.value.items l.instance.now) l.grid
+        × (0 < L.EACH → l.instance.now.machines ≤ 64)
+        × IsWithinLimits l.instance.now
+        × AreRanks l.instance.now.machines l.ranks.now.value.items };
 }
 
 impl<'l, 'a, L: StateLanes> LaidOut<'l, 'a, L> {
@@ -82,7 +99,7 @@ impl<'l, 'a, L: StateLanes> LaidOut<'l, 'a, L> {
         ensures machines { self.now.shop.machines ≡ self.now.asked.machines }
         ensures operations { operation_count self.now.shop ≡ operation_count self.now.asked }
     {
-        self.layout.instance()
+        self.instance
     }
 
     /// The layout in lanes, which are wide enough for each head and each end that dispatches can reach. Lanes for a
@@ -95,8 +112,6 @@ impl<'l, 'a, L: StateLanes> LaidOut<'l, 'a, L> {
         ensures renumbered { IsRenumbered self.now.asked self.now.shop }
         ensures limits { IsWithinLimits self.now.asked }
     {
-        // reads nothing: brings in what is known of the instance
-        let _ = self.layout.instance();
         &self.grid
     }
 }
