@@ -1,5 +1,6 @@
 -- A candidate of a word is dispatched: what that asks for, what is told of its bound, and what is kept.
-use Rattle.std.proofs.Common.{◌≡◌, ℕ, Bool, true, false, IsTrue, IsFalse, List, [], ◌∷◌, ◌++◌, max, min, refl, subst, sym, ap}
+use Rattle.std.proofs.Common.{◌≡◌, ℕ, Bool, true, false, IsTrue, IsFalse, List, [], ◌∷◌, ◌++◌, max, min}
+use Rattle.std.proofs.Common.{refl, subst, sym, ap}
 use Rattle.std.{proofs.Common.{length, arith}, specs.Prelude.{◌^◌, Option, OnSome}}
 use Rattle.shop_model.specs.{Limits.IsWithinLimits, Shop.Shop, Word.IsWord}
 use Rattle.shop_bound.specs.Bound.{lb}

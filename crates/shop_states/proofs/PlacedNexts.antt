@@ -1,6 +1,7 @@
 -- Next legs, and when jobs are ready and machines free, while a word is placed.
 use Rattle.std.proofs.Common.{rules, ◌≡◌, ℕ, ◌+◌, ◌-◌, ◌≤◌, ◌<◌, ◌^◌, max, List, length, map, take, get_or, set}
-use Rattle.std.proofs.{Common.{◌∙◌, ap, subst, sym, arith}, lemmas.{Bool.cases_eq, Grind.get_or-set_at, List.get_or-set_other}}
+use Rattle.std.proofs.Common.{◌∙◌, ap, subst, sym, arith}
+use Rattle.std.proofs.lemmas.{Bool.cases_eq, Grind.get_or-set_at, List.get_or-set_other}
 use Rattle.std.proofs.lemmas.List.{length-set, take_more, FromFn.{get_or-map-range_with_len, length-map-range_with_len}}
 use Rattle.std.specs.List.{range_with_len}
 use Rattle.shop_model.specs.{Limits.IsWithinLimits, Placements.{IsPlacement, PlacementState}, declared.ops.Op.Op}

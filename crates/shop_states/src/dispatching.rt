@@ -113,7 +113,8 @@ pub trait Dispatching<S: Drop>: Drop {
     ) -> Option<u64>
         requires scratch { IsScratch self.now scratch.old }
         requires to { IsSlot self.now to.old }
-        requires can { CanDispatch (shop self.now) (λ w. IsStateOf self.now w from.now × IsCandidate self.now w candidate
+        requires can { CanDispatch (shop self.now) (λ w. IsStateOf self.now w from.now
+            × IsCandidate self.now w candidate
             × (IsTrue is_known → KnowsChild self.now scratch.old w candidate.job)) candidate.job bound }
         ensures dispatched { HasDispatched (shop self.now)
             (λ w. IsStateOf self.now w from.now × IsCandidate self.now w candidate)

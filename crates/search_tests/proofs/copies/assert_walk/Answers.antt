@@ -93,7 +93,10 @@ list_candidates-requires-in-loop-2-clause-state g c =
     c.index-candidate.result.now (omega arith) c.index-candidate.ensures
     in let is = g.D.Dispatching.IsStateOf d w
     in let still = subst is (sym (c.bound_together-together.ensures.state ∙ c.fill_rooms.ensures.state)) was.state
-    in record { word = w ++ c.index-candidate.result.now.job ∷ []; is = c.in-Some.ensures.direct.state w (still, its.1) }
+    in record {
+      word = w ++ c.index-candidate.result.now.job ∷ [];
+      is = c.in-Some.ensures.direct.state w (still, its.1);
+    }
 
 pub list_candidates-requires-in-loop-3-clause-state : goal.list_candidates-requires-in-loop-3-clause-state
 list_candidates-requires-in-loop-3-clause-state g c =
@@ -106,7 +109,10 @@ list_candidates-requires-in-loop-3-clause-state g c =
     in let is = g.D.Dispatching.IsStateOf d w
     in let settled = subst is (sym c.bound_together-together.ensures.settled)
     (rw c.as_slice.ensures.value at c.fill_rooms.ensures.settled)
-    in record { word = w ++ c.index-candidate.result.now.job ∷ []; is = c.dispatch_twice-told.ensures.settled w settled its.1 }
+    in record {
+      word = w ++ c.index-candidate.result.now.job ∷ [];
+      is = c.dispatch_twice-told.ensures.settled w settled its.1;
+    }
 
 pub loop-preserved : goal.loop-preserved
 loop-preserved g c =

@@ -16,7 +16,8 @@ loop-preserved g c =
       c.search_or_pass.ensures.round ∙ same,
       subst (λ r. IsHitOrEnd (hits_of_round r) low) same c.search_or_pass.ensures.low,
       rw c.in_ok-push.ensures.items (one_taken (told (g.P.PieceSearch.searched c.args.searcher.now))
-          c.loop.low low number c.loop.entries.items entry c.loop.invariant.4 c.search_or_pass.ensures.lower is c.in_ok-entry.ensures.passed hit),
+          c.loop.low low number c.loop.entries.items entry c.loop.invariant.4 c.search_or_pass.ensures.lower is
+          c.in_ok-entry.ensures.passed hit),
     )
 
 pub search_or_pass-requires : goal.search_or_pass-requires
