@@ -6,6 +6,7 @@
 --     IsStateIn g s w           the current state is that of word w
 --     Lists g s w limit cs n    the candidates of w with own numbers below the limit are cs, and there are n others
 --     CanTake g s c bound       the current state is that of some word of this bound, which can go on with candidate c
+--     CanTryKnown g s c bound   so, and what a dispatch needs knows the child
 --     CanTry g s together c bound
 --                               so, and what a dispatch needs knows the child, if children were bounded together
 --     StaysKnown g old new      the current state is the same, and of children as much is known
@@ -42,6 +43,10 @@ module _ {D S C : Type 0} (g : Ghosts D S C) (s : WalkStates D S C) where
 
   abbrev pub CanTake : Candidate → ℕ → Type 0
   CanTake c bound = CanDispatch (g.shop d) (λ w. IsStateIn w × g.IsCandidate d w c) c.job bound
+
+  abbrev pub CanTryKnown : Candidate → ℕ → Type 0
+  CanTryKnown c bound = CanDispatch (g.shop d)
+      (λ w. IsStateIn w × g.IsCandidate d w c × g.KnowsChild d s.scratch w c.job) c.job bound
 
   abbrev pub CanTry : Option ℕ → Candidate → ℕ → Type 0
   CanTry together c bound = CanDispatch (g.shop d) (λ w. IsStateIn w × g.IsCandidate d w c

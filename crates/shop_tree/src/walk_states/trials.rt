@@ -3,12 +3,12 @@
 ghost use Rattle.std.specs.Prelude.{◌≡◌, ℕ, ◌≤◌, false, IsTrue, List, [], ◌∷◌, ◌++◌, All, IfOk, IfSome, OnOk, length};
 ghost use Rattle.std.specs.Prelude.{◌↔◌, IsSomeAnd};
 ghost use Rattle.shop_states.specs.States.{IsOfSomeWord};
-ghost use Rattle.shop_tree.specs.inner.Slots.{AreBounded, CanTry, HasPutAll, HasTaken, HoldSlots, IsBranchingOf};
+ghost use Rattle.shop_tree.specs.inner.Slots.{AreBounded, CanTry, CanTryKnown, HasPutAll, HasTaken, HoldSlots, IsBranchingOf};
 ghost use Rattle.shop_tree.specs.inner.Slots.{IsStateIn, KeepSlots, StaysKnown};
 ghost use Rattle.shop_tree.specs.inner.Tried.{AreSlotsFrom, HasGiven, HasPutTried};
 
 use super::{Branching, WalkStates};
-use crate::held::{Held, bare_top, put, strip_top};
+use crate::held::{Held, bare_top, put, put_bare, strip_top};
 use shop_nodes::Open;
 use shop_states::{Candidate, Dispatching};
 use std::alloc::{AllocError as NoMemory, Global};
@@ -31,7 +31,6 @@ impl<D: Dispatching<S>, S: Drop> WalkStates<D, S> {
     /// a copy of the current one or, for the last trial, the current state itself, which the walk no longer needs.
     /// After `bound_children` answered `together`, it is always a copy, and the child is bounded by what that left.
     /// `bound` is the bound of the current word.
-    #[inline(always)]
     fn try_candidate(
         &mut self,
         candidate: Candidate,
@@ -47,8 +46,10 @@ impl<D: Dispatching<S>, S: Drop> WalkStates<D, S> {
         ensures current { is_last ≡ false → self.new.current.value ≡ self.old.current.value }
         ensures known { IfSome together (λ top. StaysKnown D.Dispatching self.old self.new) }
     {
-        let is_known = together.is_some();
-        if is_last && !is_known {
+        if together.is_some() {
+            return self.try_known(candidate, bound, limit);
+        }
+        if is_last {
             let child = self.dispatch_below(candidate, bound, limit);
             mem::swap(&mut self.current, &mut self.trial);
             return child;
@@ -56,7 +57,24 @@ impl<D: Dispatching<S>, S: Drop> WalkStates<D, S> {
         let (scratch, trial) = (&mut self.scratch, &mut self.trial);
         let current = &self.current;
         self.dispatcher
-            .dispatch_in_copy(scratch, current, trial, candidate, is_known, bound, limit)
+            .dispatch_in_copy(scratch, current, trial, candidate, false, bound, limit)
+    }
+
+    /// Dispatches `candidate` in a copy of the current state, the trial's, and bounds the child by what `bound_children`
+    /// left. Returns its bound if it is below `limit`. `bound` is the bound of the current word. Stays out of line, so
+    /// that the trials of other children are inlined.
+    #[inline(never)]
+    fn try_known(&mut self, candidate: Candidate, bound: u64, limit: u64) -> Option<u64>
+        requires sound { HoldSlots D.Dispatching self.old }
+        requires can { CanTryKnown D.Dispatching self.old candidate bound }
+        ensures sound { KeepSlots D.Dispatching self.old self.new }
+        ensures taken { HasTaken D.Dispatching self.old candidate bound limit result self.new.trial.value }
+        ensures known { StaysKnown D.Dispatching self.old self.new }
+    {
+        let (scratch, trial) = (&mut self.scratch, &mut self.trial);
+        let current = &self.current;
+        self.dispatcher
+            .dispatch_in_copy(scratch, current, trial, candidate, true, bound, limit)
     }
 
     /// Bounds the children of the current word, that of `branching`, as `Dispatching::bound_children` does, if they are
@@ -133,6 +151,7 @@ impl<D: Dispatching<S>, S: Drop> WalkStates<D, S> {
     /// Gives the child on top of the stack a state, if the child lies from index `from` on and has none, and another
     /// state can take the place of the current one: dispatches its job in the current state, which the walk no longer
     /// needs. The child is one of `branching`, with a bound below its limit. Fails with `NoMemory` if memory runs out.
+    #[inline(never)]
     fn give_current(
         &mut self,
         alloc: Global,
@@ -163,31 +182,29 @@ impl<D: Dispatching<S>, S: Drop> WalkStates<D, S> {
         Ok(())
     }
 
-    /// Puts the children of the word of `branching` with bounds below its limit on the stack: by bound, then by job,
-    /// the first on top, each with its trial's state while there is room. Returns how many children are closed: those
-    /// tried in vain, and the others without a listed candidate. Fails with `NoMemory` if memory runs out.
+    /// Puts the children of the word of `branching` with bounds below its limit on the stack: by bound, then by job, the
+    /// first on top, each with its trial's state while there is room. Returns how many children are closed: those tried
+    /// in vain, and the others without a listed candidate. Fails with `NoMemory` if memory runs out.
     ///
-    /// `together` is what `bound_children` answered. If it is a number, a child is settled if the bound of `branching`
-    /// or the candidate's `own` reaches it: the greater of the two is then its bound, as a trial would find. A settled
-    /// child goes on the stack without a trial and without a state. The one on top, which is walked next, gets a state
-    /// by a dispatch in the current one, if a state is free to take that one's place; when the turn of another comes,
-    /// its state is filled from its word.
-    // inlined into both callers, so that where `together` is `None` nothing is left of it
+    /// If `bound_children` answers a number `top`, a child is settled if the bound of `branching` or the candidate's
+    /// `own` reaches `top`: the greater of the two is then its bound, as a trial would find. A settled child goes on the
+    /// stack without a trial and without a state. The one on top, which is walked next, gets a state by a dispatch in
+    /// the current one, if a state is free to take that one's place; when the turn of another comes, its state is filled
+    /// from its word.
     #[inline(always)]
-    fn put_each(
+    pub(crate) fn put_children(
         &mut self,
         alloc: Global,
         stack: &mut Vec<Held<S>>,
         branching: &Branching<'_>,
-        together: Option<u64>,
     ) -> Result<usize, NoMemory>
         requires sound { HoldSlots D.Dispatching self.old }
         requires branching { IsBranchingOf D.Dispatching self.old branching.now }
-        requires bounded { IfSome together (AreBounded D.Dispatching self.old branching.now) }
         ensures sound { KeepSlots D.Dispatching self.old self.new }
         ensures children { IfOk result
             (HasPutAll D.Dispatching self.old branching.now stack.old.items stack.new.items) }
     {
+        let together = self.bound_children(branching);
         let bound = branching.bound;
         let limit = branching.limit;
         let candidates = branching.candidates;
@@ -202,7 +219,7 @@ impl<D: Dispatching<S>, S: Drop> WalkStates<D, S> {
             if is_settled(least, together) {
                 if least < limit {
                     let bound = least;
-                    put(stack, from, Open { depth, job, bound }, None)?;
+                    put_bare(stack, from, Open { depth, job, bound })?;
                 } else {
                     closed += 1;
                 }
@@ -218,49 +235,10 @@ impl<D: Dispatching<S>, S: Drop> WalkStates<D, S> {
         if together.is_none() {
             return Ok(closed);
         }
-        self.give_current(alloc, stack, from, branching)?;
+        // `give_current` reads its record from memory. It gets a copy, so that the record that the caller made can stay
+        // in registers.
+        let branching = *branching;
+        self.give_current(alloc, stack, from, &branching)?;
         Ok(closed)
-    }
-
-    /// Puts the children on the stack like `put_each`, after `bound_children` answered `top`.
-    #[inline(never)]
-    fn put_together(
-        &mut self,
-        alloc: Global,
-        stack: &mut Vec<Held<S>>,
-        branching: &Branching<'_>,
-        top: u64,
-    ) -> Result<usize, NoMemory>
-        requires sound { HoldSlots D.Dispatching self.old }
-        requires branching { IsBranchingOf D.Dispatching self.old branching.now }
-        requires bounded { AreBounded D.Dispatching self.old branching.now top }
-        ensures sound { KeepSlots D.Dispatching self.old self.new }
-        ensures children { IfOk result
-            (HasPutAll D.Dispatching self.old branching.now stack.old.items stack.new.items) }
-    {
-        self.put_each(alloc, stack, branching, Some(top))
-    }
-
-    /// Puts the children of the word of `branching` on the stack like `put_each`, after `bound_children`.
-    #[inline(always)]
-    pub(crate) fn put_children(
-        &mut self,
-        alloc: Global,
-        stack: &mut Vec<Held<S>>,
-        branching: &Branching<'_>,
-    ) -> Result<usize, NoMemory>
-        requires sound { HoldSlots D.Dispatching self.old }
-        requires branching { IsBranchingOf D.Dispatching self.old branching.now }
-        ensures sound { KeepSlots D.Dispatching self.old self.new }
-        ensures children { IfOk result
-            (HasPutAll D.Dispatching self.old branching.now stack.old.items stack.new.items) }
-    {
-        if let Some(top) = self.bound_children(branching) {
-            // `put_together` isn't inlined, and reads its record from memory. It gets a copy, so that the record that
-            // the caller made can stay in registers.
-            let branching = *branching;
-            return self.put_together(alloc, stack, &branching, top);
-        }
-        self.put_each(alloc, stack, branching, None)
     }
 }

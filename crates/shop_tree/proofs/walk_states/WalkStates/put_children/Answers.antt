@@ -1,5 +1,244 @@
-use Rattle.std.proofs.Common.{arith}
+use Rattle.std.proofs.Common.{◌≡◌, ◌<◌, ◌≤◌, ◌-◌, [], ◌∷◌, ◌++◌, None, get_or, sym, ◌∙◌, ap, subst, append-nil, arith}
+use Rattle.std.{proofs.{Common.{length}, lemmas.Option.IfSome_then}, specs.List.insert}
+use Rattle.shop_model.proofs.WordLengths.{word_length}
+use Rattle.shop_bound.specs.Bound.{lb}
+use Rattle.shop_states.specs.declared.dispatching.Candidate.{Candidate}
+use Rattle.shop_tree.{specs.inner.Tried.{AreSlotsFrom, HasPutChildren}, proofs.AddLemmas.conflict_few}
+use Rattle.shop_tree.proofs.{StripLemmas.{are_slots, many, tried_kept}, TrialLemmas.IsTrying}
+use Rattle.shop_tree.proofs.SiblingLemmas.{kept_then, known_put, known_stay, known_unless, put_given, known_settled}
+use Rattle.shop_tree.proofs.{SiblingLemmas.settled_child, TrialLemmas.{trying_begins, next_own, next_fits, turn_counted}}
+use Rattle.shop_tree.proofs.TrialLemmas.{turn_kept, told_high, still_wanted, all_tried}
 use Rattle.shop_tree.proofs.walk_states.WalkStates.put_children.Goals as goal
 
-pub put_together-requires-clause-bounded : goal.put_together-requires-clause-bounded
-put_together-requires-clause-bounded g c = grind arith
+pub overflow_cast-depth : goal.overflow_cast-depth
+overflow_cast-depth g c = grind (arith, word_length)
+
+pub loop-index-init : goal.loop-index-init
+loop-index-init g c =
+    let branching = c.bound_children-together.ensures.branching
+    in record {
+      kids = [];
+      stack = sym (append-nil _);
+      trying = trying_begins branching.listed branching.state;
+      bound = branching.bound;
+      known = IfSome_then c.bound_children-together.result c.bound_children-together.ensures.bounded
+          (λ top bounded. (branching, bounded));
+      more = omega arith;
+      sound = c.bound_children-together.ensures.sound.states;
+      same = c.bound_children-together.ensures.sound.dispatcher;
+    }
+
+pub overflow_add-closed : goal.overflow_add-closed
+overflow_add-closed g c =
+    let d = c.loop-index.self.dispatcher in let now = c.loop-index.invariant in let a = now.trying.few
+    in let some : 0 < c.loop-index.index = (let a = c.loop-index-test.true in omega arith)
+    in let word = c.args.branching.now.word.now
+    in let limits = (g.met.D.Dispatching.state_is_of_word d word _ (now.trying.wanted some)).limits
+    in let b = conflict_few (g.D.Dispatching.shop d) word in let e = limits.jobs in omega arith
+
+pub overflow_add-closed-in_default : goal.overflow_add-closed-in_default
+overflow_add-closed-in_default g c =
+    let d = c.loop-index.self.dispatcher in let now = c.loop-index.invariant in let a = now.trying.few
+    in let some : 0 < c.loop-index.index = (let a = c.loop-index-test.true in omega arith)
+    in let word = c.args.branching.now.word.now
+    in let limits = (g.met.D.Dispatching.state_is_of_word d word _ (now.trying.wanted some)).limits
+    in let b = conflict_few (g.D.Dispatching.shop d) word in let e = limits.jobs in omega arith
+
+pub put_bare-requires : goal.put_bare-requires
+put_bare-requires g c = let now = c.loop-index.invariant in let a = c.len-from.ensures in let b = c.args.stack.now.ok.0
+    in let long = many c.args.stack.now.items now.kids c.len-from.result (omega arith)
+    c.loop-index.stack.items now.stack in omega arith
+
+pub loop-index-preserved-in_ok-put_bare : goal.loop-index-preserved-in_ok-put_bare
+loop-index-preserved-in_ok-put_bare g c =
+    let now = c.loop-index.invariant in let d = c.loop-index.self.dispatcher
+    in let is = g.D.Dispatching.IsStateOf d in let shop = g.D.Dispatching.shop d
+    in let at = c.args.branching.now in let word = at.word.now in let cs = at.candidates.now
+    in let i = c.loop-index.index
+    in let some : 0 < i = (let a = c.loop-index-test.true in omega arith)
+    in let none : Candidate = record { job = 0; own = 0 }
+    in let job = (get_or cs (i - 1) none).job
+    in let b = c.max-least.result
+    in let within : i - 1 < length cs = (let a = now.trying.within in omega arith)
+    in let told = known_settled g.D.Dispatching c.loop-index.self at c.bound_children-together.result now.known
+    (i - 1) none within b c.max-least.ensures (c.is_settled.ensures.0 c.if-is_settled.true)
+    in let child = settled_child is shop word at.limit job b told c.if-least-limit.true
+    in let e : c.len-from.result ≡ length c.args.stack.now.items =
+    (let a = c.len-from.ensures in let k = c.args.stack.now.ok.0 in omega arith)
+    in let put = c.in_ok-put_bare.ensures c.args.stack.now.items now.kids e now.stack
+    in record {
+      kids = insert now.kids put.at
+          (record { «open» = record { depth = length word; job = job; bound = b }; state = None });
+      stack = put.put;
+      trying = turn_kept some now.trying c.loop-index.self.current.value
+          (g.met.D.Dispatching.state_is_of_word d word _ (now.trying.wanted some)).word child put
+          (λ more. now.trying.wanted some);
+      bound = now.bound;
+      known = now.known;
+      more = now.more;
+      sound = now.sound;
+      same = now.same;
+    }
+
+pub loop-index-preserved-else-least-limit : goal.loop-index-preserved-else-least-limit
+loop-index-preserved-else-least-limit g c =
+    let now = c.loop-index.invariant in let d = c.loop-index.self.dispatcher
+    in let shop = g.D.Dispatching.shop d in let at = c.args.branching.now in let word = at.word.now
+    in let cs = at.candidates.now in let i = c.loop-index.index
+    in let some : 0 < i = (let a = c.loop-index-test.true in omega arith)
+    in let none : Candidate = record { job = 0; own = 0 }
+    in let job = (get_or cs (i - 1) none).job
+    in let b = c.max-least.result
+    in let within : i - 1 < length cs = (let a = now.trying.within in omega arith)
+    in let told = known_settled g.D.Dispatching c.loop-index.self at c.bound_children-together.result now.known
+    (i - 1) none within b c.max-least.ensures (c.is_settled.ensures.0 c.if-is_settled.true)
+    in let high : at.limit ≤ lb shop (word ++ job ∷ []) = (let a = c.if-least-limit.false in omega arith)
+    in record {
+      kids = now.kids;
+      stack = now.stack;
+      trying = turn_counted some now.trying c.loop-index.self.current.value high (λ more. now.trying.wanted some);
+      bound = now.bound;
+      known = now.known;
+      more = (let a = now.more in omega arith);
+      sound = now.sound;
+      same = now.same;
+    }
+
+pub try_candidate-requires-clause-can : goal.try_candidate-requires-clause-can
+try_candidate-requires-clause-can g c =
+    let now = c.loop-index.invariant in let word = c.args.branching.now.word.now in let i = c.loop-index.index
+    in let some : 0 < i = (let a = c.loop-index-test.true in omega arith)
+    in let none : Candidate = record { job = 0; own = 0 }
+    in let within : i - 1 < length c.args.branching.now.candidates.now = (let a = now.trying.within in omega arith)
+    in let state = now.trying.wanted some
+    in record {
+      word = word;
+      is = (
+        state,
+        next_own some now.trying,
+        IfSome_then c.bound_children-together.result now.known (λ top known. known.1.known (i - 1) none within),
+      );
+      fits = next_fits some now.trying
+          (g.met.D.Dispatching.state_is_of_word c.loop-index.self.dispatcher word _ state).word;
+      bound_is = now.bound;
+    }
+
+pub loop-index-preserved-in_default : goal.loop-index-preserved-in_default
+loop-index-preserved-in_default g c =
+    let now = c.loop-index.invariant in let d = c.loop-index.self.dispatcher
+    in let at = c.args.branching.now in let word = at.word.now in let cs = at.candidates.now
+    in let i = c.loop-index.index
+    in let some : 0 < i = (let a = c.loop-index-test.true in omega arith)
+    in let job = (get_or cs (i - 1) (record { job = 0; own = 0 })).job
+    in let state = now.trying.wanted some
+    in let high = told_high at.limit (lb (g.D.Dispatching.shop d) (word ++ job ∷ [])) c.try_candidate.result
+    c.in_default.is (c.try_candidate.ensures.taken.told word (state, next_own some now.trying) now.bound)
+    in let left = c.try_candidate.new.self.current.value in let same = c.try_candidate.ensures.sound.dispatcher
+    in record {
+      kids = now.kids;
+      stack = now.stack;
+      trying = rw same (turn_counted some now.trying left high
+          (still_wanted (g.D.Dispatching.IsStateOf d word) i c.try_candidate.ensures.current state));
+      bound = now.bound ∙ ap (λ x. lb (g.D.Dispatching.shop x) word) (sym same);
+      known = known_stay g.D.Dispatching c.loop-index.self c.try_candidate.new.self at same
+          c.bound_children-together.result c.try_candidate.ensures.known now.known;
+      more = (let a = now.more in omega arith);
+      sound = c.try_candidate.ensures.sound.states;
+      same = same ∙ now.same;
+    }
+
+pub put_tried-requires-clause-sound : goal.put_tried-requires-clause-sound
+put_tried-requires-clause-sound g c = c.try_candidate.ensures.sound.states
+
+pub put_tried-requires-clause-slots : goal.put_tried-requires-clause-slots
+put_tried-requires-clause-slots g c =
+    let now = c.loop-index.invariant in let d = c.loop-index.self.dispatcher in let slot = g.D.Dispatching.IsSlot
+    in let a = c.len-from.ensures in let b = c.args.stack.now.ok.0
+    in subst (λ x. AreSlotsFrom (slot x) c.len-from.result c.loop-index.stack.items)
+    (sym c.try_candidate.ensures.sound.dispatcher)
+    (are_slots c.args.stack.now.items now.kids c.len-from.result (omega arith) c.loop-index.stack.items now.stack
+    (g.D.Dispatching.IsStateOf d) _ now.trying.states (slot d)
+    (λ w s is. (g.met.D.Dispatching.state_is_of_word d w s is).slot))
+
+pub put_tried-requires-clause-from : goal.put_tried-requires-clause-from
+put_tried-requires-clause-from g c =
+    let now = c.loop-index.invariant in let a = c.len-from.ensures in let b = c.args.stack.now.ok.0
+    in let long = many c.args.stack.now.items now.kids c.len-from.result (omega arith)
+    c.loop-index.stack.items now.stack in omega arith
+
+pub loop-index-preserved : goal.loop-index-preserved
+loop-index-preserved g c =
+    let now = c.loop-index.invariant in let d = c.loop-index.self.dispatcher
+    in let is = g.D.Dispatching.IsStateOf d in let at = c.args.branching.now in let word = at.word.now
+    in let i = c.loop-index.index
+    in let some : 0 < i = (let a = c.loop-index-test.true in omega arith)
+    in let state = now.trying.wanted some
+    in let e : c.len-from.result ≡ length c.args.stack.now.items =
+    (let a = c.len-from.ensures in let b = c.args.stack.now.ok.0 in omega arith)
+    in let mid = c.try_candidate.new.self in let left = c.put_tried.new.self.current.value
+    in let kept = tried_kept some now.trying e now.stack c.in_ok-put_tried.ensures.put c.in-Some.is
+    (c.try_candidate.ensures.taken.told word (state, next_own some now.trying) now.bound)
+    (c.try_candidate.ensures.taken.state word (state, next_own some now.trying))
+    (g.met.D.Dispatching.state_is_of_word d word _ state).word left
+    (still_wanted (is word) i (λ f. c.in_ok-put_tried.ensures.current ∙ c.try_candidate.ensures.current f) state)
+    in let same = c.put_tried.ensures.sound.dispatcher ∙ c.try_candidate.ensures.sound.dispatcher
+    in record {
+      kids = kept.kids;
+      stack = kept.stack;
+      trying = subst (λ x. IsTrying (g.D.Dispatching.IsStateOf x) (g.D.Dispatching.IsCandidate x word)
+          (g.D.Dispatching.shop x) at.limit word at.candidates.now (i - 1) kept.kids
+          c.loop-index.closed left) (sym same) kept.trying;
+      bound = now.bound ∙ ap (λ x. lb (g.D.Dispatching.shop x) word) (sym same);
+      known = known_put g.D.Dispatching mid c.put_tried.new.self at c.put_tried.ensures.sound.dispatcher
+          c.in_ok-put_tried.ensures.current c.in_ok-put_tried.ensures.scratch c.bound_children-together.result
+          (known_stay g.D.Dispatching c.loop-index.self mid at c.try_candidate.ensures.sound.dispatcher
+          c.bound_children-together.result c.try_candidate.ensures.known now.known);
+      more = now.more;
+      sound = c.put_tried.ensures.sound.states;
+      same = same ∙ now.same;
+    }
+
+pub returns-in_err-put_tried-clause-sound : goal.returns-in_err-put_tried-clause-sound
+returns-in_err-put_tried-clause-sound g c = kept_then c.put_tried.ensures.sound
+    (c.try_candidate.ensures.sound.dispatcher ∙ c.loop-index.invariant.same)
+
+pub returns-then-is_none-clause-children : goal.returns-then-is_none-clause-children
+returns-then-is_none-clause-children g c =
+    let at = c.args.branching.now in let old = c.args.stack.now.items in let new = c.loop-index.stack.items
+    in let now = c.loop-index.invariant
+    in record {
+      put = subst (λ x. HasPutChildren (g.D.Dispatching.IsStateOf x) (g.D.Dispatching.shop x) at.limit at.word.now old
+          new c.loop-index.closed) now.same (all_tried c.loop-index.index now.kids c.loop-index.closed
+          c.loop-index.self.current.value old new (let a = c.loop-index-test.false in omega arith) now.stack
+          now.trying);
+      more = now.more;
+    }
+
+pub give_current-requires-clause-branching : goal.give_current-requires-clause-branching
+give_current-requires-clause-branching g c =
+    let known = c.loop-index.invariant.known in let together = c.bound_children-together.result
+    in known_unless together c.is_none.ensures c.if-is_none.false
+    (IfSome_then together known (λ top known. known.0))
+
+pub returns-clause-children : goal.returns-clause-children
+returns-clause-children g c =
+    let at = c.args.branching.now in let word = at.word.now in let old = c.args.stack.now.items
+    in let mid = c.loop-index.stack.items in let new = c.give_current.new.stack.items
+    in let now = c.loop-index.invariant in let d = c.loop-index.self.dispatcher
+    in let is = g.D.Dispatching.IsStateOf d
+    in let e : c.len-from.result ≡ length old =
+    (let a = c.len-from.ensures in let b = c.args.stack.now.ok.0 in omega arith)
+    in let put = all_tried c.loop-index.index now.kids c.loop-index.closed c.loop-index.self.current.value old mid
+    (let a = c.loop-index-test.false in omega arith) now.stack now.trying
+    in record {
+      put = subst (λ x. HasPutChildren (g.D.Dispatching.IsStateOf x) (g.D.Dispatching.shop x) at.limit word old new
+          c.loop-index.closed) now.same (put_given is (g.D.Dispatching.shop d) at.limit word old mid new
+          c.loop-index.closed c.len-from.result e put c.in_ok-give_current.ensures.given);
+      more = now.more;
+    }
+
+pub returns-in_err-give_current-clause-sound : goal.returns-in_err-give_current-clause-sound
+returns-in_err-give_current-clause-sound g c = kept_then c.give_current.ensures.sound c.loop-index.invariant.same
+
+pub returns-clause-sound : goal.returns-clause-sound
+returns-clause-sound g c = kept_then c.give_current.ensures.sound c.loop-index.invariant.same

@@ -2,7 +2,7 @@ use Rattle.std.proofs.Common.{◌≡◌, ◌≤◌, ◌++◌, List, map}
 use Rattle.shop_bound.specs.Bound.{lb}
 use Rattle.shop_tree.specs.inner.{Held.{Kept, held}, Slots.HoldSlots}
 use Rattle.shop_tree.proofs.{SiblingLemmas.AreKnown, TrialLemmas.IsTrying}
-use Rattle.shop_tree.proofs.walk_states.WalkStates.put_each.Given as goal
+use Rattle.shop_tree.proofs.walk_states.WalkStates.put_children.Given as goal
 
 abbrev pub invariant-loop-index : goal.invariant-loop-index
 invariant-loop-index g l = record {
