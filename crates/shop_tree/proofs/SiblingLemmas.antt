@@ -1,6 +1,7 @@
 -- Children that are settled without a trial, and the one on top of the stack, which is given the current state.
 use Rattle.std.proofs.Common.{◌≡◌, ℕ, zero, suc, ◌-◌, ◌≤◌, ◌<◌, List, [], ◌∷◌, ◌++◌, length, map, get_or, set, take}
-use Rattle.std.proofs.Common.{Bool, max, not, is_some, All, IfSome, IsSomeAnd, IsTrue, IsFalse, None, Option, Some, inl, inr, sym}
+use Rattle.std.proofs.Common.{Bool, max, not, is_some, All, IfSome, IsSomeAnd, IsTrue, IsFalse, None, Option, Some}
+use Rattle.std.proofs.Common.{inl, inr, sym}
 use Rattle.std.proofs.Common.{◌∙◌, ap, subst, arith}
 use Rattle.std.proofs.{Math.Seq.{map-set_same, take-length}, lemmas.List.Elements.{All-set, All-from_recursion}}
 use Rattle.std.proofs.lemmas.List.{get_or-map, length-map, map-set, set-append_right}
@@ -12,7 +13,8 @@ use Rattle.shop_nodes.specs.Halts.{open_child, word_at}
 use Rattle.shop_nodes.specs.declared.halts.{Open.Open, Waiting.{Waiting, TheVariants.{Child, Rest}}}
 use Rattle.shop_tree.specs.{declared.walk_states.{WalkStates.WalkStates, Branching.Branching}, inner.Opens.AreChildren}
 use Rattle.shop_tree.specs.{inner.Held.{IsHeldOf, IsKept, Kept, held, opens_in}, declared.held.Held.Held}
-use Rattle.shop_tree.specs.inner.{Slots.{AreBounded, IsBranchingOf, IsStateIn, KeepSlots, Lists, StaysKnown}, Tried.HasGiven}
+use Rattle.shop_tree.specs.inner.Slots.{AreBounded, IsBranchingOf, IsStateIn, KeepSlots, Lists, StaysKnown}
+use Rattle.shop_tree.specs.inner.Tried.{HasGiven}
 use Rattle.shop_tree.{specs.inner.Tried.HasPutChildren, proofs.{StripLemmas.{at_kid, many}, TrialLemmas.IsChildBelow}}
 
 -- it is put without a state
@@ -113,7 +115,8 @@ module _ {D S C : Type 0} (g : Ghosts D S C) (s t : WalkStates D S C) (b : Branc
     },
     record {
       settled = rw same of.settled;
-      known = λ k c within. subst (λ x. g.KnowsChild x t.scratch b.word.now (get_or b.candidates.now k c).job) (sym same)
+      known = λ k c within. subst (λ x. g.KnowsChild x t.scratch b.word.now (get_or b.candidates.now k c).job)
+          (sym same)
           (stays.kept b.word.now (get_or b.candidates.now k c).job (of.known k c within));
     },
   )

@@ -3,8 +3,8 @@
 ghost use Rattle.std.specs.Prelude.{◌≡◌, ℕ, ◌≤◌, false, IsTrue, List, [], ◌∷◌, ◌++◌, All, IfOk, IfSome, OnOk, length};
 ghost use Rattle.std.specs.Prelude.{◌↔◌, IsSomeAnd};
 ghost use Rattle.shop_states.specs.States.{IsOfSomeWord};
-ghost use Rattle.shop_tree.specs.inner.Slots.{AreBounded, CanTry, CanTryKnown, HasPutAll, HasTaken, HoldSlots, IsBranchingOf};
-ghost use Rattle.shop_tree.specs.inner.Slots.{IsStateIn, KeepSlots, StaysKnown};
+ghost use Rattle.shop_tree.specs.inner.Slots.{AreBounded, CanTry, CanTryKnown, HasPutAll, HasTaken, HoldSlots};
+ghost use Rattle.shop_tree.specs.inner.Slots.{IsBranchingOf, IsStateIn, KeepSlots, StaysKnown};
 ghost use Rattle.shop_tree.specs.inner.Tried.{AreSlotsFrom, HasGiven, HasPutTried};
 
 use super::{Branching, WalkStates};
@@ -60,9 +60,9 @@ impl<D: Dispatching<S>, S: Drop> WalkStates<D, S> {
             .dispatch_in_copy(scratch, current, trial, candidate, false, bound, limit)
     }
 
-    /// Dispatches `candidate` in a copy of the current state, the trial's, and bounds the child by what `bound_children`
-    /// left. Returns its bound if it is below `limit`. `bound` is the bound of the current word. Stays out of line, so
-    /// that the trials of other children are inlined.
+    /// Dispatches `candidate` in a copy of the current state, the trial's, and bounds the child by what
+    /// `bound_children` left. Returns its bound if it is below `limit`. `bound` is the bound of the current word. Stays
+    /// out of line, so that the trials of other children are inlined.
     #[inline(never)]
     fn try_known(&mut self, candidate: Candidate, bound: u64, limit: u64) -> Option<u64>
         requires sound { HoldSlots D.Dispatching self.old }
@@ -182,15 +182,15 @@ impl<D: Dispatching<S>, S: Drop> WalkStates<D, S> {
         Ok(())
     }
 
-    /// Puts the children of the word of `branching` with bounds below its limit on the stack: by bound, then by job, the
-    /// first on top, each with its trial's state while there is room. Returns how many children are closed: those tried
-    /// in vain, and the others without a listed candidate. Fails with `NoMemory` if memory runs out.
+    /// Puts the children of the word of `branching` with bounds below its limit on the stack: by bound, then by job,
+    /// the first on top, each with its trial's state while there is room. Returns how many children are closed: those
+    /// tried in vain, and the others without a listed candidate. Fails with `NoMemory` if memory runs out.
     ///
     /// If `bound_children` answers a number `top`, a child is settled if the bound of `branching` or the candidate's
-    /// `own` reaches `top`: the greater of the two is then its bound, as a trial would find. A settled child goes on the
-    /// stack without a trial and without a state. The one on top, which is walked next, gets a state by a dispatch in
-    /// the current one, if a state is free to take that one's place; when the turn of another comes, its state is filled
-    /// from its word.
+    /// `own` reaches `top`: the greater of the two is then its bound, as a trial would find. A settled child goes on
+    /// the stack without a trial and without a state. The one on top, which is walked next, gets a state by a dispatch
+    /// in the current one, if a state is free to take that one's place; when the turn of another comes, its state is
+    /// filled from its word.
     #[inline(always)]
     pub(crate) fn put_children(
         &mut self,

@@ -6,7 +6,8 @@ use Rattle.shop_states.specs.declared.dispatching.Candidate.{Candidate}
 use Rattle.shop_tree.{specs.inner.Tried.{AreSlotsFrom, HasPutChildren}, proofs.AddLemmas.conflict_few}
 use Rattle.shop_tree.proofs.{StripLemmas.{are_slots, many, tried_kept}, TrialLemmas.IsTrying}
 use Rattle.shop_tree.proofs.SiblingLemmas.{kept_then, known_put, known_stay, known_unless, put_given, known_settled}
-use Rattle.shop_tree.proofs.{SiblingLemmas.settled_child, TrialLemmas.{trying_begins, next_own, next_fits, turn_counted}}
+use Rattle.shop_tree.proofs.SiblingLemmas.{settled_child}
+use Rattle.shop_tree.proofs.TrialLemmas.{trying_begins, next_own, next_fits, turn_counted}
 use Rattle.shop_tree.proofs.TrialLemmas.{turn_kept, told_high, still_wanted, all_tried}
 use Rattle.shop_tree.proofs.walk_states.WalkStates.put_children.Goals as goal
 
