@@ -40,11 +40,7 @@ pub(crate) enum FixedRows {
 impl FixedRows {
     /// Puts the times and tails of `positions` into the narrowest lanes whose greatest number is above `most`. Fails
     /// with `NoMemory` if memory runs out.
-    pub(crate) fn new(
-        alloc: Global,
-        positions: &Positions,
-        most: u64,
-    ) -> Result<FixedRows, NoMemory>
+    pub(crate) fn of(alloc: Global, positions: &Positions, most: u64) -> Result<FixedRows, NoMemory>
         requires ready { (shop : Shop) × IsReadyAbove most shop positions.now }
         requires small { most < 2 ^ 50 }
         ensures rows { IfOk result (HasRowsOf positions.now) }

@@ -4,39 +4,57 @@ ghost use Rattle.shop_lanes.specs.{Rows.{AreBlocks, lanes_between}, Spans.{AreOw
 ghost use Rattle.shop_layout.specs.{Lanes.rows_of, Positions.{AreEven, HoldsMachines}};
 
 use crate::fixed_rows::Rows;
-use crate::routes::{PositionRows, Routes};
+use crate::layouts::Layout;
+use crate::legs::{Leg, Routes};
+use crate::positions::Positions;
 use shop_lanes::{LaneRows, StateLanes};
 use std::marker::Model;
 
 /// The layout of an instance, with times and tails in lanes. Contracts see the layout without lanes.
 #[derive(Drop)]
 pub struct Grid<'l, L: StateLanes> {
-    rows: &'l PositionRows,
-    fixed: &'l Rows<L::Number>,
+    positions: &'l Positions,
+    /// the legs of all routes
+    legs: &'l [Leg],
+    /// at each position, where the legs behind its operation begin
+    behind: &'l [usize],
+    /// the number of blocks of each machine, or 0 if not all machines have equally many
+    blocks_each: usize,
+    rows: &'l Rows<L::Number>,
 }
 
 impl<'l, L: StateLanes> Model for Grid<'l, L> {
     ghost use Rattle.std.specs.Prelude.{◌≡◌, map};
-    ghost use Rattle.shop_layout.specs.Positions.{AreEven, LayoutState};
+    ghost use Rattle.shop_layout.specs.{Positions.{AreEven, LayoutState}, Legs.all_legs, inner.RouteRows.IsBehind};
 
     ghost Value = { LayoutState };
 
-    ghost view = { λ g. g.rows.now };
+    ghost view = { λ g. g.positions.now };
 
-    ghost invariant = { λ g. (map L.value g.fixed.now.times.items ≡ g.rows.now.times)
-        × (map L.value g.fixed.now.tails.items ≡ g.rows.now.tails)
-        × AreEven g.rows.now.blocks L.EACH };
+    ghost invariant = { λ g. (map L.value g.rows.now.times.items ≡ g.positions.now.times)
+        × (map L.value g.rows.now.tails.items ≡ g.positions.now.tails)
+        × AreEven g.positions.now.blocks g.blocks_each
+        × AreEven g.positions.now.blocks L.EACH
+        × (g.legs.now ≡ all_legs g.positions.now)
+        × IsBehind g.positions.now g.behind.now };
 }
 
 impl<'l, L: StateLanes> Grid<'l, L> {
-    /// Makes a grid of the layout `rows`, whose times and tails stand in the lanes of `fixed`.
-    pub(crate) fn new(rows: &'l PositionRows, fixed: &'l Rows<L::Number>) -> Grid<'l, L>
-        requires times { map L.value fixed.now.times.items ≡ rows.now.times }
-        requires tails { map L.value fixed.now.tails.items ≡ rows.now.tails }
-        requires even { AreEven rows.now.blocks L.EACH }
-        ensures { result ≡ rows.now }
+    /// Makes a grid of `layout`, whose times and tails stand in the lanes of `rows`.
+    pub(crate) fn of(layout: &'l Layout<'_>, rows: &'l Rows<L::Number>) -> Grid<'l, L>
+        requires times { map L.value rows.now.times.items ≡ layout.now.layout.times }
+        requires tails { map L.value rows.now.tails.items ≡ layout.now.layout.tails }
+        requires even { AreEven layout.now.layout.blocks L.EACH }
+        ensures { result ≡ layout.now.layout }
     {
-        Grid { rows, fixed }
+        let positions = &layout.positions;
+        Grid {
+            positions,
+            legs: layout.legs.as_slice(),
+            behind: layout.behind.as_slice(),
+            blocks_each: layout.blocks_each,
+            rows,
+        }
     }
 
     /// The rows of the layout that a walk along a route reads.
@@ -44,7 +62,17 @@ impl<'l, L: StateLanes> Grid<'l, L> {
     pub fn routes(&self) -> Routes
         ensures { result ≡ self.now }
     {
-        Routes::new(self.rows)
+        Routes::of(self.positions, self.legs, self.behind)
+    }
+
+    /// The position of each step of `job`.
+    #[inline(always)]
+    pub fn places(&self, job: usize) -> &[u32]
+        requires { job < length self.now.places }
+        ensures { result.now ≡ slice_index_or self.now.places job [] }
+    {
+        let positions = self.positions;
+        positions.places[job].as_slice()
     }
 
     /// The first block of `machine`; the number of all blocks if `machine` is the number of machines.
@@ -53,8 +81,8 @@ impl<'l, L: StateLanes> Grid<'l, L> {
         requires { machine < length self.now.blocks }
         ensures { result ≡ slice_index self.now.blocks machine }
     {
-        let rows = self.rows;
-        rows.blocks[machine] as usize
+        let positions = self.positions;
+        positions.blocks[machine] as usize
     }
 
     /// The number of blocks of each machine, or 0 if not all machines have equally many.
@@ -62,8 +90,7 @@ impl<'l, L: StateLanes> Grid<'l, L> {
     pub fn blocks_each(&self) -> usize
         ensures { AreEven self.now.blocks result }
     {
-        let rows = self.rows;
-        rows.blocks_each
+        self.blocks_each
     }
 
     /// The number of blocks of each machine if the lanes have code for that number alone, else 0: the constant `EACH`.
@@ -73,7 +100,7 @@ impl<'l, L: StateLanes> Grid<'l, L> {
         ensures even { AreEven self.now.blocks result }
     {
         // reads nothing: brings in the invariant, by which `EACH` fits the blocks
-        let _ = &self.rows;
+        let _ = &self.positions;
         L::EACH
     }
 
@@ -101,8 +128,8 @@ impl<'l, L: StateLanes> Grid<'l, L> {
         requires { position < length self.now.following }
         ensures { result ≡ slice_index self.now.following position }
     {
-        let rows = self.rows;
-        rows.following[position]
+        let positions = self.positions;
+        positions.following[position]
     }
 
     /// The number of all positions.
@@ -110,16 +137,16 @@ impl<'l, L: StateLanes> Grid<'l, L> {
     pub fn positions(&self) -> usize
         ensures { result ≡ length self.now.following }
     {
-        let rows = self.rows;
-        rows.following.len()
+        let positions = self.positions;
+        positions.following.len()
     }
 
     /// The number of positions of the machine that has the most of them.
     pub fn most_positions(&self) -> usize
         ensures { HoldsMachines self.now result }
     {
-        let rows = self.rows;
-        let blocks = rows.blocks.as_slice();
+        let positions = self.positions;
+        let blocks = positions.blocks.as_slice();
         let mut most = 0;
         for behind in 1..blocks.len() {
             // first blocks rise from machine to machine: nothing saturates
@@ -137,8 +164,8 @@ impl<'l, L: StateLanes> Grid<'l, L> {
         ensures times { map L.value result.times.now ≡ self.now.times }
         ensures tails { map L.value result.tails.now ≡ self.now.tails }
     {
-        let fixed = self.fixed;
-        lanes.rows(fixed.times.as_slice(), fixed.tails.as_slice())
+        let rows = self.rows;
+        lanes.rows(rows.times.as_slice(), rows.tails.as_slice())
     }
 
     /// Writes to the start of `owns` the own span of each waiting operation in blocks `from` up to `to` (excluded): how
@@ -155,7 +182,7 @@ impl<'l, L: StateLanes> Grid<'l, L> {
         ensures owns { AreOwnSpans (L.heads lanes.now) self.now.times self.now.tails from to (map L.value owns.new) }
     {
         let owns = &mut owns[..8 * (to - from)];
-        let (times, tails) = (self.fixed.times.as_slice(), self.fixed.tails.as_slice());
+        let (times, tails) = (self.rows.times.as_slice(), self.rows.tails.as_slice());
         lanes.own_spans(times, tails, from, to, owns);
     }
 }

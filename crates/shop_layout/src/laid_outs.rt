@@ -10,29 +10,27 @@ use crate::layouts::Layout;
 use shop_lanes::{Lanes16, Lanes32, Lanes64, StateLanes};
 use shop_model::Instance;
 use std::marker::Model;
-use std::snapshot::Snapshot;
 
 /// The layout of an instance, which lanes of the type `L` hold. Contracts see it as they see a `LaidOut`. `LaneLayout`
 /// holds this in place of the `LaidOut` itself, with which each function that has a `LaneLayout` is dear to prove.
 #[derive(Drop)]
 pub struct LayoutFor<'l, 'a, L: StateLanes> {
     layout: &'l Layout<'a>,
-    fixed: &'l Rows<L::Number>,
+    rows: &'l Rows<L::Number>,
 }
 
 impl<'l, 'a, L: StateLanes> Model for LayoutFor<'l, 'a, L> {
     ghost use Rattle.std.specs.Prelude.{◌≡◌, ◌≤◌, ◌<◌, map};
-    ghost use Rattle.shop_layout.specs.{LaidOuts.{IsReady, LaidOutState}, Positions.AreEven};
+    ghost use Rattle.shop_layout.specs.{LaidOuts.LaidOutState, inner.Widths.FitsIn};
 
     ghost Value = { LaidOutState };
 
     ghost view = { λ l. l.layout.now };
 
-    ghost invariant = { λ l. IsReady L.GREATEST l.layout.now.shop l.layout.now.layout
-        × AreEven l.layout.now.layout.blocks L.EACH
+    ghost invariant = { λ l. FitsIn L.GREATEST L.EACH l.layout.now.shop l.layout.now.layout
         × (0 < L.EACH → l.layout.now.shop.machines ≤ 64)
-        × (map L.value l.fixed.now.times.items ≡ l.layout.now.layout.times)
-        × (map L.value l.fixed.now.tails.items ≡ l.layout.now.layout.tails) };
+        × (map L.value l.rows.now.times.items ≡ l.layout.now.layout.times)
+        × (map L.value l.rows.now.tails.items ≡ l.layout.now.layout.tails) };
 }
 
 impl<'l, 'a, L: StateLanes> LayoutFor<'l, 'a, L> {
@@ -41,11 +39,10 @@ impl<'l, 'a, L: StateLanes> LayoutFor<'l, 'a, L> {
         ensures { result ≡ self.entry }
     {
         let layout = self.layout;
-        let grid = Grid::new(&layout.rows, self.fixed);
         LaidOut {
             instance: layout.instance,
-            ranks: &layout.ranks,
-            grid,
+            ranks: layout.ranks.as_slice(),
+            grid: Grid::of(layout, self.rows),
         }
     }
 }
@@ -55,7 +52,7 @@ impl<'l, 'a, L: StateLanes> LayoutFor<'l, 'a, L> {
 pub struct LaidOut<'l, 'a, L: StateLanes> {
     instance: &'a Instance,
     /// the number of each machine in the layout, which only contracts read
-    ranks: &'l Snapshot<Vec<usize>>,
+    ranks: &'l [usize],
     grid: Grid<'l, L>,
 }
 
@@ -78,15 +75,15 @@ impl<'l, 'a, L: StateLanes> Model for LaidOut<'l, 'a, L> {
     ghost Value = { LaidOutState };
 
     ghost view = { λ l. record {
-      shop = ranked l.ranks.now.value.items l.instance.now;
+      shop = ranked l.ranks.now l.instance.now;
       asked = l.instance.now;
       layout = l.grid;
     } };
 
-    ghost invariant = { λ l. IsReady L.GREATEST (ranked l.ranks.now.value.items l.instance.now) l.grid
+    ghost invariant = { λ l. IsReady L.GREATEST (ranked l.ranks.now l.instance.now) l.grid
         × (0 < L.EACH → l.instance.now.machines ≤ 64)
         × IsWithinLimits l.instance.now
-        × AreRanks l.instance.now.machines l.ranks.now.value.items };
+        × AreRanks l.instance.now.machines l.ranks.now };
 }
 
 impl<'l, 'a, L: StateLanes> LaidOut<'l, 'a, L> {
@@ -141,17 +138,17 @@ impl<'a> Layout<'a> {
     {
         let layout = self;
         match &layout.fixed {
-            FixedRows::In16(fixed) if layout.instance.machines() > MOST_MACHINES => {
-                LaneLayout::In16(LayoutFor { layout, fixed })
+            FixedRows::In16(rows) if layout.instance.machines() > MOST_MACHINES => {
+                LaneLayout::In16(LayoutFor { layout, rows })
             }
-            FixedRows::In16(fixed) => match layout.rows.blocks_each {
-                2 => LaneLayout::In16By2(LayoutFor { layout, fixed }),
-                3 => LaneLayout::In16By3(LayoutFor { layout, fixed }),
-                4 => LaneLayout::In16By4(LayoutFor { layout, fixed }),
-                _ => LaneLayout::In16(LayoutFor { layout, fixed }),
+            FixedRows::In16(rows) => match layout.blocks_each {
+                2 => LaneLayout::In16By2(LayoutFor { layout, rows }),
+                3 => LaneLayout::In16By3(LayoutFor { layout, rows }),
+                4 => LaneLayout::In16By4(LayoutFor { layout, rows }),
+                _ => LaneLayout::In16(LayoutFor { layout, rows }),
             },
-            FixedRows::In32(fixed) => LaneLayout::In32(LayoutFor { layout, fixed }),
-            FixedRows::In64(fixed) => LaneLayout::In64(LayoutFor { layout, fixed }),
+            FixedRows::In32(rows) => LaneLayout::In32(LayoutFor { layout, rows }),
+            FixedRows::In64(rows) => LaneLayout::In64(LayoutFor { layout, rows }),
         }
     }
 }

@@ -7,12 +7,10 @@ mod laid_outs;
 mod layouts;
 mod legs;
 mod positions;
-mod routes;
 mod slots;
 
 pub use grid::Grid;
 pub use laid_outs::{LaidOut, LaneLayout, LayoutFor};
 pub use layouts::Layout;
-pub use legs::Leg;
-pub use routes::Routes;
+pub use legs::{Leg, Routes};
 pub use slots::Slot;

@@ -225,7 +225,7 @@ pub(crate) fn even_blocks(blocks: &[u32]) -> usize
 impl Positions {
     /// Lays out the operations of `instance` by position, machine after machine by rank. Fails with `NoMemory` if
     /// memory runs out.
-    pub(crate) fn new(
+    pub(crate) fn of(
         alloc: Global,
         instance: &Instance,
         ranks: &[usize],

@@ -1,15 +1,14 @@
 -- Next legs, and when jobs are ready and machines free, while a word is placed.
-use Rattle.std.proofs.Common.{rules, ◌≡◌, ℕ, ◌+◌, ◌-◌, ◌≤◌, ◌<◌, ◌^◌, max, List, length, map, take, get_or, set}
-use Rattle.std.proofs.Common.{◌∙◌, ap, subst, sym, arith}
-use Rattle.std.proofs.lemmas.{Bool.cases_eq, Grind.get_or-set_at, List.get_or-set_other}
+use Rattle.std.proofs.Common.{rules, ◌≡◌, ℕ, ◌+◌, ◌-◌, ◌≤◌, ◌<◌, ◌^◌, max, List, [], length, map, take, get_or, set}
+use Rattle.std.proofs.{Common.{subst, sym, arith}, lemmas.{Bool.cases_eq, Grind.get_or-set_at, List.get_or-set_other}}
 use Rattle.std.proofs.lemmas.List.{length-set, take_more, FromFn.{get_or-map-range_with_len, length-map-range_with_len}}
 use Rattle.std.specs.List.{range_with_len}
-use Rattle.shop_model.specs.{Limits.IsWithinLimits, Placements.{IsPlacement, PlacementState}, declared.ops.Op.Op}
+use Rattle.shop_model.specs.{Limits.IsWithinLimits, Placements.{IsPlacement, PlacementState}}
 use Rattle.shop_model.specs.Shop.{Shop, IsOperation, machine_of, release_of, route_of, time_of}
 use Rattle.shop_model.specs.Word.{Placing, IsWord, none_placed, place_next, placing}
 use Rattle.shop_model.proofs.{Ends.IsOperation-job, PlacementLemmas.{IsWord-take, placing-take}, Placings.place_next-is}
 use Rattle.shop_model.proofs.{Unders.{after_word, next_operation}, WordLengths.{ready_word, word_length}}
-use Rattle.shop_bound.specs.{Renumbered.IsRenumbered, inner.PlacedWords.IsOfWord}
+use Rattle.shop_bound.specs.inner.PlacedWords.{IsOfWord}
 use Rattle.shop_layout.specs.{declared.legs.Leg.Leg, Legs.{all_legs, end_of, leg_index}}
 use Rattle.shop_layout.specs.Positions.{IsLaidOut, LayoutState}
 use Rattle.shop_states.specs.inner.PlacedNexts.{IsPlacedAt, IsWordAt}
@@ -41,13 +40,11 @@ pub none_at : (shop : Shop) (l : LayoutState) → (legs ready free old : List �
 none_at shop l legs ready free old begun same none long = grind arith
 
 -- where the legs of the next job begin, which is a small number
-pub begins_behind : {shop asked : Shop} → IsWithinLimits shop → {l : LayoutState} → IsLaidOut shop l
-    → IsRenumbered asked shop → {read : Shop} → read ≡ asked → {n : ℕ} → n < length shop.jobs
-    → {route : List Op} → route ≡ route_of read n → {i : ℕ} → i ≡ leg_index l n 0
-    → (i + (length route + 1) ≡ leg_index l (n + 1) 0) × (i + (length route + 1) < 2 ^ 32)
-begins_behind {asked = asked} limits laid numbered same {n} known is at =
-    let row = laid.routes n in let steps = numbered.steps n
-    in let long = ap length (is ∙ ap (λ (shop : Shop). route_of shop n) same) in grind (arith, next_first, first_small)
+pub begins_behind : {shop : Shop} → IsWithinLimits shop → {l : LayoutState} → IsLaidOut shop l → {n : ℕ}
+    → n < length shop.jobs → {read : LayoutState} → read ≡ l → {places : List ℕ} → places ≡ get_or read.places n []
+    → {i : ℕ} → i ≡ leg_index l n 0
+    → (i + (length places + 1) ≡ leg_index l (n + 1) 0) × (i + (length places + 1) < 2 ^ 32)
+begins_behind limits {l} laid {n} known same {places} are at = grind (arith, next_first, first_small)
 
 -- what is read of the next leg of a job that can go on
 module _ {shop : Shop} (limits : IsWithinLimits shop) {l : LayoutState} {p : Placing}

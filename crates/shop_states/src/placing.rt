@@ -22,13 +22,12 @@ pub(crate) fn place_none<L: StateLanes>(
         next_legs.new ready.new free.new }
 {
     let instance = laid_out.instance();
-    // reads nothing: brings in what is known of the layout
-    let _ = laid_out.grid();
+    let grid = laid_out.grid();
     let mut first: usize = 0;
     for job in 0..next_legs.len() {
         next_legs[job] = first as u32;
         ready[job] = instance.release(job);
-        first += instance.route(job).len() + 1;
+        first += grid.places(job).len() + 1;
     }
     // each machine is free from time 0 on
     free.fill(0);

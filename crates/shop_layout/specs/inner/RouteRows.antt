@@ -6,13 +6,12 @@
 --     IsBehind l behind              the same of a layout, where an operation stands
 use Rattle.std.specs.Prelude.{◌≡◌, ℕ, ◌+◌, ◌*◌, ◌%◌, ◌<◌, ◌^◌, All, List, [], flat_map, length, take, slice_index}
 use Rattle.std.specs.Prelude.{slice_index_or}
-use Rattle.shop_layout.specs.{Legs.{all_legs, leg_index}, Positions.LayoutState, declared.legs.Leg.Leg}
+use Rattle.shop_layout.specs.{Legs.leg_index, Positions.LayoutState, declared.legs.Leg.Leg}
 
 pub record AreSmallRows (l : LayoutState) : Type 0 where
   pub jobs : 4 * length l.jobs < 2 ^ 64
   pub machines : 4 * length l.machines < 2 ^ 64
   pub times : 8 * length l.times < 2 ^ 64
-  pub legs : length (all_legs l) < 2 ^ 64
 
 abbrev pub AreBelow : ℕ → List ℕ → Type 0
 AreBelow n places = All (λ p. p < n) places

@@ -1,5 +1,5 @@
 use Rattle.std.proofs.{Common.arith, lemmas.Grind.common_steps}
-use Rattle.shop_layout.proofs.fixed_rows.FixedRows.new.Goals as goal
+use Rattle.shop_layout.proofs.fixed_rows.FixedRows.of.Goals as goal
 
 pub returns-clause-rows : goal.returns-clause-rows
 returns-clause-rows c = grind (arith, common_steps)

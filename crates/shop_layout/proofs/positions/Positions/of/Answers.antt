@@ -5,7 +5,7 @@ use Rattle.shop_layout.specs.{declared.slots.Slot.Slot, Ranks.{AreRanks, ranked}
 use Rattle.shop_layout.specs.inner.Layings.{AreCells, ArePlaces, AreShorter, HaveRoom, place_after}
 use Rattle.shop_layout.{specs.Positions.AreMachinesOf, proofs.RankedShops.{jobs_ranked, limits_ranked}}
 use Rattle.shop_layout.proofs.{LaidLists.{blocks_few, cells_known, laid_out, machine_few}, RankedSlots.places_ranked}
-use Rattle.shop_layout.proofs.positions.Positions.new.Goals as goal
+use Rattle.shop_layout.proofs.positions.Positions.of.Goals as goal
 
 -- the slots of the machines, as they were lent, and the cells that they make
 module _ {shop : Shop} (limits : IsWithinLimits shop) {ranks : List ℕ} (by : AreRanks shop.machines ranks)
