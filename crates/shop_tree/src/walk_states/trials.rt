@@ -14,8 +14,8 @@ use shop_states::{Candidate, Dispatching};
 use std::alloc::{AllocError as NoMemory, Global};
 use std::mem;
 
-/// Whether `least`, the greater of a word's bound and a candidate's `own`, is the child's bound by what
-/// `bound_children` answered.
+/// Returns whether `least`, the greater of a word's bound and a candidate's `own`, is the child's bound by `together`,
+/// what `bound_children` answered.
 #[inline(always)]
 fn is_settled(least: u64, together: Option<u64>) -> bool
     ensures { IsTrue result ↔ IsSomeAnd together (λ top. top ≤ least) }
@@ -29,8 +29,9 @@ fn is_settled(least: u64, together: Option<u64>) -> bool
 impl<D: Dispatching<S>, S: Drop> WalkStates<D, S> {
     /// Dispatches `candidate` in the trial's state, and returns the child's bound if it is below `limit`. That state is
     /// a copy of the current one or, for the last trial, the current state itself, which the walk no longer needs.
-    /// After `bound_children` answered `together`, it is always a copy, and the child is bounded by what that left.
-    /// `bound` is the bound of the current word.
+    /// If `together`, what `bound_children` answered, is a number, it is always a copy, and the child is bounded by
+    /// what that call left. `bound` is the bound of the current word.
+    #[inline(always)]
     fn try_candidate(
         &mut self,
         candidate: Candidate,
