@@ -1,9 +1,10 @@
-// A dispatch in a copy of a state, in a state filled from the word, and without a bound: the bounds are equal, and the
-// states behave alike. So too where the children of a word were bounded together.
-ghost use Rattle.std.specs.Prelude.{◌≡◌, ℕ, ◌++◌, ◌∷◌, [], All, IfSome, List};
-ghost use Rattle.shop_model.specs.Word.{IsWord};
-ghost use Rattle.shop_bound.specs.{Bound.lb, Conflicts.conflict};
-ghost use Rattle.shop_states.specs.States.{CanDispatch, HasDispatched, HasListed, ListsBelow};
+// A dispatch in a copy of a state, by one call and by two, and without a bound: the bounds are equal, and the states
+// behave alike. So too where the children of a word were bounded together.
+ghost use Rattle.std.specs.Prelude.{◌≡◌, ℕ, ◌++◌, ◌∷◌, [], All, IfSome, List, OnSome};
+ghost use Rattle.shop_bound.specs.Bound.{lb};
+ghost use Rattle.shop_bound.specs.Conflicts.{conflict};
+ghost use Rattle.shop_states.specs.States.{CanDispatch, HasListed, ListsBelow};
+ghost use Rattle.shop_states.specs.States.{TellsBoundBelow};
 
 use crate::in_lanes::{Tried, assert_in_lanes};
 use crate::long_machines::{LATEST, SHAPES, made};
@@ -15,11 +16,11 @@ use std::alloc::{AllocGlobal, Global};
 use std::mem;
 use std::process::Abort;
 
-/// Room for a state, for a copy of it, and for two states filled from its word.
+/// Room for a state and for copies of it.
 #[derive(Drop)]
 struct Rooms<S: Drop> {
     state: S,
-    filled: S,
+    copied: S,
     direct: S,
     settled: S,
 }
@@ -27,13 +28,13 @@ struct Rooms<S: Drop> {
 /// Makes rooms for states of `dispatcher`.
 fn rooms_of<D: Dispatching<S>, S: Drop>(rt: &impl Abort, alloc: Global, dispatcher: &D) -> Rooms<S>
     ensures state { D.IsSlot dispatcher.now result.state }
-    ensures filled { D.IsSlot dispatcher.now result.filled }
+    ensures copied { D.IsSlot dispatcher.now result.copied }
     ensures direct { D.IsSlot dispatcher.now result.direct }
     ensures settled { D.IsSlot dispatcher.now result.settled }
 {
     Rooms {
         state: dispatcher.slot(alloc).expect(rt, "memory"),
-        filled: dispatcher.slot(alloc).expect(rt, "memory"),
+        copied: dispatcher.slot(alloc).expect(rt, "memory"),
         direct: dispatcher.slot(alloc).expect(rt, "memory"),
         settled: dispatcher.slot(alloc).expect(rt, "memory"),
     }
@@ -49,29 +50,45 @@ struct Trial {
     together: Option<u64>,
 }
 
-/// Fills two states from the word `path`.
-fn fill_rooms<D: Dispatching<S>, S: Drop>(
+/// Dispatches a candidate in a copy of the state by one call: that after `bound_children`, if children were bounded
+/// together.
+fn dispatch_in_copy<D: Dispatching<S>, S: Drop>(
     dispatcher: &D,
     scratch: &mut D::Scratch,
-    rooms: &mut Rooms<S>,
-    path: &[u16],
-)
+    state: &S,
+    direct: &mut S,
+    trial: Trial,
+) -> Option<u64>
     requires scratch { D.IsScratch dispatcher.now scratch.old }
-    requires filled { D.IsSlot dispatcher.now rooms.old.filled }
-    requires settled { D.IsSlot dispatcher.now rooms.old.settled }
-    requires word { IsWord (D.shop dispatcher.now) path.now }
-    ensures filled { D.IsStateOf dispatcher.now path.now rooms.new.filled }
-    ensures settled { D.IsStateOf dispatcher.now path.now rooms.new.settled }
-    ensures state { rooms.new.state ≡ rooms.old.state }
-    ensures direct { rooms.new.direct ≡ rooms.old.direct }
+    requires direct { D.IsSlot dispatcher.now direct.old }
+    requires can { CanDispatch (D.shop dispatcher.now)
+        (λ w. D.IsStateOf dispatcher.now w state.now
+        × D.IsCandidate dispatcher.now w trial.candidate
+        × IfSome trial.together
+        (λ top. D.KnowsChild dispatcher.now scratch.old w trial.candidate.job))
+        trial.candidate.job trial.bound }
+    ensures told { (w : List ℕ) → D.IsStateOf dispatcher.now w state.now
+        → D.IsCandidate dispatcher.now w trial.candidate
+        → trial.bound ≡ lb (D.shop dispatcher.now) w
+        → TellsBoundBelow trial.limit
+        (lb (D.shop dispatcher.now) (w ++ trial.candidate.job ∷ [])) result }
+    ensures state { (w : List ℕ) → D.IsStateOf dispatcher.now w state.now
+        → D.IsCandidate dispatcher.now w trial.candidate
+        → OnSome result (D.IsStateOf dispatcher.now (w ++ trial.candidate.job ∷ []) direct.new) }
+    ensures direct { D.IsSlot dispatcher.now direct.new }
     ensures scratch { D.IsScratch dispatcher.now scratch.new }
 {
-    dispatcher.fill(scratch, path, &mut rooms.filled);
-    dispatcher.fill(scratch, path, &mut rooms.settled);
+    let (candidate, bound, limit) = (trial.candidate, trial.bound, trial.limit);
+    match trial.together {
+        Some(_) => dispatcher.dispatch_child_in_copy(
+            scratch, state, direct, candidate, bound, limit,
+        ),
+        None => dispatcher.dispatch_below_in_copy(scratch, state, direct, candidate, bound, limit),
+    }
 }
 
-/// Dispatches a candidate in a copy of the state, and in a filled one, and asserts that both tell the same bound.
-/// Dispatches it in the other filled state without a bound.
+/// Dispatches a candidate in a copy of the state by two calls, and in another copy by one, and asserts that both tell
+/// the same bound. Dispatches it in a third copy without a bound.
 fn dispatch_twice<D: Dispatching<S>, S: Drop>(
     rt: &impl Abort,
     dispatcher: &D,
@@ -80,40 +97,44 @@ fn dispatch_twice<D: Dispatching<S>, S: Drop>(
     trial: Trial,
 ) -> Option<u64>
     requires scratch { D.IsScratch dispatcher.now scratch.old }
+    requires copied { D.IsSlot dispatcher.now rooms.old.copied }
     requires direct { D.IsSlot dispatcher.now rooms.old.direct }
+    requires settled { D.IsSlot dispatcher.now rooms.old.settled }
     requires can { CanDispatch (D.shop dispatcher.now)
         (λ w. D.IsStateOf dispatcher.now w rooms.old.state
-        × D.IsStateOf dispatcher.now w rooms.old.filled
-        × D.IsStateOf dispatcher.now w rooms.old.settled
         × D.IsCandidate dispatcher.now w trial.candidate
         × IfSome trial.together
         (λ top. D.KnowsChild dispatcher.now scratch.old w trial.candidate.job))
         trial.candidate.job trial.bound }
-    ensures direct { HasDispatched (D.shop dispatcher.now)
-        (λ w. D.IsStateOf dispatcher.now w rooms.old.state × D.IsCandidate dispatcher.now w trial.candidate)
-        (λ w. D.IsStateOf dispatcher.now w rooms.new.direct)
-        trial.candidate.job trial.bound trial.limit result }
-    ensures filled { HasDispatched (D.shop dispatcher.now)
-        (λ w. D.IsStateOf dispatcher.now w rooms.old.filled × D.IsCandidate dispatcher.now w trial.candidate)
-        (λ w. D.IsStateOf dispatcher.now w rooms.new.filled)
-        trial.candidate.job trial.bound trial.limit result }
-    ensures settled { (w : List ℕ) → D.IsStateOf dispatcher.now w rooms.old.settled
+    ensures told { (w : List ℕ) → D.IsStateOf dispatcher.now w rooms.old.state
+        → D.IsCandidate dispatcher.now w trial.candidate
+        → trial.bound ≡ lb (D.shop dispatcher.now) w
+        → TellsBoundBelow trial.limit
+        (lb (D.shop dispatcher.now) (w ++ trial.candidate.job ∷ [])) result }
+    ensures state { (w : List ℕ) → D.IsStateOf dispatcher.now w rooms.old.state
+        → D.IsCandidate dispatcher.now w trial.candidate
+        → OnSome result
+        (D.IsStateOf dispatcher.now (w ++ trial.candidate.job ∷ []) rooms.new.copied) }
+    ensures same { (w : List ℕ) → D.IsStateOf dispatcher.now w rooms.old.state
+        → D.IsCandidate dispatcher.now w trial.candidate
+        → OnSome result
+        (D.IsStateOf dispatcher.now (w ++ trial.candidate.job ∷ []) rooms.new.direct) }
+    ensures alike { (w : List ℕ) → D.IsStateOf dispatcher.now w rooms.old.state
         → D.IsCandidate dispatcher.now w trial.candidate
         → D.IsStateOf dispatcher.now (w ++ trial.candidate.job ∷ []) rooms.new.settled }
     ensures first { rooms.new.state ≡ rooms.old.state }
-    ensures slots { D.IsSlot dispatcher.now rooms.new.direct
-        × D.IsSlot dispatcher.now rooms.new.filled
-        × D.IsSlot dispatcher.now rooms.new.settled }
+    ensures copied { D.IsSlot dispatcher.now rooms.new.copied }
+    ensures direct { D.IsSlot dispatcher.now rooms.new.direct }
+    ensures settled { D.IsSlot dispatcher.now rooms.new.settled }
     ensures scratch { D.IsScratch dispatcher.now scratch.new }
 {
     let (candidate, bound, limit) = (trial.candidate, trial.bound, trial.limit);
+    dispatcher.copy(&rooms.state, &mut rooms.settled);
     dispatcher.dispatch_settled(&mut rooms.settled, candidate);
-    let told = dispatcher.dispatch_below(scratch, &mut rooms.filled, candidate, bound, limit);
+    dispatcher.copy(&rooms.state, &mut rooms.copied);
+    let told = dispatcher.dispatch_below(scratch, &mut rooms.copied, candidate, bound, limit);
     let (state, direct) = (&rooms.state, &mut rooms.direct);
-    let is_known = trial.together.is_some();
-    let again = dispatcher.dispatch_in_copy(
-        scratch, state, direct, candidate, is_known, bound, limit,
-    );
+    let again = dispatch_in_copy(dispatcher, scratch, state, direct, trial);
     assert_eq!(rt; told, again);
     again
 }
@@ -125,7 +146,7 @@ pub enum Manner {
     Together,
 }
 
-/// Bounds the children of the word together, if they are to be dispatched so. Uses up the copy.
+/// Bounds the children of the word together, if they are to be dispatched so. Uses up the first copy.
 fn bound_together<D: Dispatching<S>, S: Drop>(
     dispatcher: &D,
     scratch: &mut D::Scratch,
@@ -135,7 +156,7 @@ fn bound_together<D: Dispatching<S>, S: Drop>(
     manner: Manner,
 ) -> Option<u64>
     requires scratch { D.IsScratch dispatcher.now scratch.old }
-    requires direct { D.IsSlot dispatcher.now rooms.old.direct }
+    requires copied { D.IsSlot dispatcher.now rooms.old.copied }
     requires can { HasListed (D.shop dispatcher.now)
         (λ w. D.IsStateOf dispatcher.now w rooms.old.state)
         (D.IsCandidate dispatcher.now) candidates.now bound }
@@ -145,16 +166,16 @@ fn bound_together<D: Dispatching<S>, S: Drop>(
         (conflict (D.shop dispatcher.now) w) candidates.now others
         → All (λ c. D.KnowsChild dispatcher.now scratch.new w c.job) candidates.now) }
     ensures state { rooms.new.state ≡ rooms.old.state }
-    ensures direct { D.IsSlot dispatcher.now rooms.new.direct }
-    ensures filled { rooms.new.filled ≡ rooms.old.filled }
-    ensures settled { rooms.new.settled ≡ rooms.old.settled }
+    ensures copied { D.IsSlot dispatcher.now rooms.new.copied }
+    ensures direct { rooms.new.direct ≡ rooms.old.direct }
+    ensures unused { rooms.new.settled ≡ rooms.old.settled }
     ensures scratch { D.IsScratch dispatcher.now scratch.new }
 {
     match manner {
         Manner::Alone => None,
         Manner::Together => {
-            let (state, direct) = (&rooms.state, &mut rooms.direct);
-            dispatcher.bound_children(scratch, state, direct, candidates, bound)
+            let (state, copied) = (&rooms.state, &mut rooms.copied);
+            dispatcher.bound_children(scratch, state, copied, candidates, bound)
         }
     }
 }
@@ -168,8 +189,8 @@ fn assert_same(rt: &impl Abort, candidates: &[Candidate], others: &[Candidate]) 
     }
 }
 
-/// Walks a random word of `instance`. Asserts that each dispatch tells the same bound in a copy as in a state filled
-/// from the word, and leaves states with the same candidates, as does one without a bound.
+/// Walks a random word of `instance`. Asserts that each dispatch in a copy tells the same bound by one call and by two,
+/// and leaves states with the same candidates, as does one without a bound.
 pub fn assert_walk<D: Dispatching<S>, S: Drop>(
     rt: &impl Abort,
     alloc: Global,
@@ -184,7 +205,6 @@ pub fn assert_walk<D: Dispatching<S>, S: Drop>(
     let mut rooms = rooms_of(rt, alloc, dispatcher);
     let mut candidates = Vec::with_capacity(alloc, instance.jobs()).expect(rt, "memory");
     let mut others = Vec::with_capacity(alloc, instance.jobs()).expect(rt, "memory");
-    let mut path = Vec::new(alloc);
     let word = Word::of_jobs(Vec::new(alloc));
     let mut bound = lower_bound(alloc, instance, &word).expect(rt, "memory");
     dispatcher.fill(&mut scratch, &[], &mut rooms.state);
@@ -197,7 +217,6 @@ pub fn assert_walk<D: Dispatching<S>, S: Drop>(
         let index = numbers.up_to(u32::MAX) as usize % count;
         let candidate = candidates[index];
         let limit = bound.saturating_add(numbers.up_to(99));
-        fill_rooms(dispatcher, &mut scratch, &mut rooms, path.as_slice());
         let together = bound_together(
             dispatcher,
             &mut scratch,
@@ -216,13 +235,12 @@ pub fn assert_walk<D: Dispatching<S>, S: Drop>(
         let Some(below) = told else {
             continue;
         };
-        dispatcher.list_candidates(&mut scratch, &rooms.filled, u64::MAX, &mut candidates);
+        dispatcher.list_candidates(&mut scratch, &rooms.copied, u64::MAX, &mut candidates);
         dispatcher.list_candidates(&mut scratch, &rooms.direct, u64::MAX, &mut others);
         assert_same(rt, &candidates, &others);
         dispatcher.list_candidates(&mut scratch, &rooms.settled, u64::MAX, &mut others);
         assert_same(rt, &candidates, &others);
         mem::swap(&mut rooms.state, &mut rooms.direct);
-        path.push(candidate.job).expect(rt, "memory");
         bound = below;
     }
 }

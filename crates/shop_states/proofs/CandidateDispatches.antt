@@ -1,7 +1,5 @@
 -- A candidate of a word is dispatched: what that asks for, what is told of its bound, and what is kept.
-use Rattle.std.proofs.Common.{◌≡◌, ℕ, Bool, true, false, IsTrue, IsFalse, List, [], ◌∷◌, ◌++◌, max, min}
-use Rattle.std.proofs.Common.{refl, subst, sym, ap}
-use Rattle.std.{proofs.Common.{length, arith}, specs.Prelude.{◌^◌, Option, OnSome}}
+use Rattle.std.{proofs.Common.{◌≡◌, ℕ, List, [], ◌∷◌, ◌++◌, max, min, refl, subst}, specs.Prelude.{◌^◌, Option, OnSome}}
 use Rattle.shop_model.specs.{Limits.IsWithinLimits, Shop.Shop, Word.IsWord}
 use Rattle.shop_bound.specs.Bound.{lb}
 use Rattle.shop_layout.specs.{Lanes.rows_of, Positions.LayoutState}
@@ -45,16 +43,3 @@ module _ {greatest : ℕ} {l read : LayoutState} (is : read ≡ l) {heads ends n
       → OnSome told (IsKeptInLanes greatest shop (w ++ its ∷ []) read (rows_of read heads' ends') nexts'))
       → OnSome told (IsKeptInLanes greatest shop (w ++ j ∷ []) l (rows_of l heads' ends') nexts')
   candidate_kept {shop} {w} kept fits told heads' ends' nexts' keeps = rw (is, same) at keeps shop w kept fits
-
--- the ceilings of a child that is known, and none of another
-pub no_ceilings : (shop : Shop) (w : List ℕ) (l : LayoutState) (j : ℕ) (ceilings : List ℕ) → ceilings ≡ []
-    → AreChildCeilings shop w l j ceilings
-no_ceilings shop w l j ceilings none = λ rows heads times tails m here known later above.
-    absurd (let e = ap (λ (xs : List ℕ). length xs) none in omega arith)
-
-pub ceilings_if : (shop : Shop) (w : List ℕ) (l : LayoutState) (j : ℕ) (is_known : Bool) {all ceilings : List ℕ}
-    → (IsTrue is_known → ceilings ≡ all) → (IsFalse is_known → ceilings ≡ [])
-    → (IsTrue is_known → AreChildCeilings shop w l j all) → AreChildCeilings shop w l j ceilings
-ceilings_if shop w l j true same none known =
-    subst (λ (xs : List ℕ). AreChildCeilings shop w l j xs) (sym (same refl)) (known refl)
-ceilings_if shop w l j false {ceilings = ceilings} same none known = no_ceilings shop w l j ceilings (none refl)

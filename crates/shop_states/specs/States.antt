@@ -6,17 +6,12 @@
 --                                   limit these are
 --     Settles shop w bound top cs   the child by a candidate is bounded by the greater of the word's bound and its own
 --                                   number, where `top` is no more than that
---     HasDispatched shop P Q job bound limit answer
---                                   if P holds of a word of this bound, the bound of the word with the job is
---                                   answered, if below the limit, and then Q holds of that word
---     IsOfWord shop w IsSlot        the word is one of the instance, which is within the limits; a sole candidate keeps
---                                   its bound; and its state is room for any other
 --     TellsBoundBelow limit bound   the bound where it is below the limit, and else nothing
 --     ListsBelow shop w limit is    the candidates of a conflict set, in order, but for n jobs with which the bound
 --                                   reaches the limit
-use Rattle.std.specs.Prelude.{◌≡◌, ◌≤◌, ◌<◌, ℕ, zero, suc, max, Option, Some, None, List, [], ◌∷◌, ◌++◌, All, OnSome}
-use Rattle.shop_model.specs.{Limits.IsWithinLimits, Shop.Shop, Word.IsWord}
-use Rattle.shop_bound.specs.{Bound.lb, Conflicts.{conflict, SoleCandidateKeepsBound}}
+use Rattle.std.specs.Prelude.{◌≡◌, ◌≤◌, ◌<◌, ℕ, zero, suc, max, Option, Some, None, List, [], ◌∷◌, ◌++◌, All}
+use Rattle.shop_model.specs.{Shop.Shop, Word.IsWord}
+use Rattle.shop_bound.specs.{Bound.lb, Conflicts.conflict}
 use Rattle.shop_states.specs.declared.dispatching.Candidate.{Candidate}
 
 pub record IsOfSomeWord (P : List ℕ → Type 0) : Type 0 where
@@ -37,17 +32,6 @@ pub record CanDispatch (shop : Shop) (P : List ℕ → Type 0) (job bound : ℕ)
 abbrev pub TellsBoundBelow : ℕ → ℕ → Option ℕ → Type 0
 TellsBoundBelow limit bound (Some b) = (b ≡ bound) × (b < limit)
 TellsBoundBelow limit bound None = limit ≤ bound
-
-pub record HasDispatched (shop : Shop) (P Q : List ℕ → Type 0) (job bound limit : ℕ) (answer : Option ℕ)
-    : Type 0 where
-  pub told : (w : List ℕ) → P w → bound ≡ lb shop w → TellsBoundBelow limit (lb shop (w ++ job ∷ [])) answer
-  pub state : (w : List ℕ) → P w → OnSome answer (Q (w ++ job ∷ []))
-
-pub record IsOfWord (shop : Shop) (w : List ℕ) (IsSlot : Type 0) : Type 0 where
-  pub slot : IsSlot
-  pub word : IsWord shop w
-  pub limits : IsWithinLimits shop
-  pub sole : SoleCandidateKeepsBound shop w
 
 pub data ListsBelow (shop : Shop) (word : List ℕ) (limit : ℕ) (is : Candidate → Type 0)
     : List ℕ → List Candidate → ℕ → Type 0 where

@@ -1,5 +1,5 @@
 // Implements `Dispatching` for a layout, with states in lanes of one width.
-ghost use Rattle.std.specs.Prelude.{◌≡◌, ◌^◌, [], IsFalse, IsTrue, length, max, min};
+ghost use Rattle.std.specs.Prelude.{◌≡◌, ◌^◌, length, max, min};
 
 use crate::advances::{advance_below, advance_unbounded, dispatch_in_copy, set_next, strike};
 use crate::beginnings::Beginning;
@@ -35,18 +35,6 @@ fn range_of(candidate: Candidate, bound: u64, limit: u64, ceilings: &[u64]) -> B
         limit: limit.min(ABOVE_BOUNDS),
         ceilings,
     }
-}
-
-/// Returns the ceilings that `bound_children` left, if the child to be bounded is known there; else none.
-#[inline(always)]
-fn ceilings_if(is_known: bool, ceilings: &[u64]) -> &[u64]
-    ensures known { IsTrue is_known → result.now ≡ ceilings.now }
-    ensures unknown { IsFalse is_known → result.now ≡ [] }
-{
-    if is_known {
-        return ceilings;
-    }
-    &[]
 }
 
 impl<'l, 'a, L: StateLanes> Dispatching<State<L>> for LaidOut<'l, 'a, L> {
@@ -108,6 +96,11 @@ impl<'l, 'a, L: StateLanes> Dispatching<State<L>> for LaidOut<'l, 'a, L> {
         fill_state(&mut state.lanes, self, next, ready, free);
     }
 
+    fn copy(&self, from: &State<L>, to: &mut State<L>) {
+        to.lanes.copy_from(&from.lanes);
+        to.next.as_mut_slice().copy_from_slice(from.next.as_slice());
+    }
+
     fn list_candidates(
         &self,
         scratch: &mut Scratch<L>,
@@ -146,19 +139,17 @@ impl<'l, 'a, L: StateLanes> Dispatching<State<L>> for LaidOut<'l, 'a, L> {
     }
 
     #[inline(always)]
-    fn dispatch_in_copy(
+    fn dispatch_below_in_copy(
         &self,
         scratch: &mut Scratch<L>,
         from: &State<L>,
         to: &mut State<L>,
         candidate: Candidate,
-        is_known: bool,
         bound: u64,
         limit: u64,
     ) -> Option<u64> {
         let grid = self.grid();
-        let ceilings = ceilings_if(is_known, scratch.ceilings.as_slice());
-        let range = range_of(candidate, bound, limit, ceilings);
+        let range = range_of(candidate, bound, limit, &[]);
         let job = candidate.job as usize;
         dispatch_in_copy(from, to, &mut scratch.raises, grid, job, &range)
     }
@@ -183,20 +174,38 @@ impl<'l, 'a, L: StateLanes> Dispatching<State<L>> for LaidOut<'l, 'a, L> {
     }
 
     #[inline(never)]
+    fn dispatch_child_in_copy(
+        &self,
+        scratch: &mut Scratch<L>,
+        from: &State<L>,
+        to: &mut State<L>,
+        candidate: Candidate,
+        bound: u64,
+        limit: u64,
+    ) -> Option<u64> {
+        let grid = self.grid();
+        let ceilings = scratch.ceilings.as_slice();
+        let range = range_of(candidate, bound, limit, ceilings);
+        let job = candidate.job as usize;
+        dispatch_in_copy(from, to, &mut scratch.raises, grid, job, &range)
+    }
+
+    #[inline(never)]
     fn dispatch_settled(&self, state: &mut State<L>, candidate: Candidate) {
         let grid = self.grid();
         let dispatch = Dispatch::of(state, grid, candidate.job as usize);
         advance_unbounded(state, grid, dispatch);
     }
 
-    ghost state_is_of_word = { λ d w s is. record {
-      slot = record {
-        positions = is.kept.kept.heads.positions;
-        jobs_with_ends = is.kept.ends.jobs;
-        jobs_with_nexts = is.kept.are_next.jobs;
-      };
-      word = is.word;
-      limits = is.limits;
-      sole = is.sole;
+    ghost state_is_slot = { λ d w s is. record {
+      positions = is.kept.kept.heads.positions;
+      jobs_with_ends = is.kept.ends.jobs;
+      jobs_with_nexts = is.kept.are_next.jobs;
     } };
+
+    ghost state_is_of_word = { λ d w s is. is.word };
+
+    ghost state_is_within_limits = { λ d w s is. is.limits };
+
+    ghost sole_keeps_bound = { λ d w s is. is.sole };
 }

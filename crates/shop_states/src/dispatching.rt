@@ -1,9 +1,9 @@
 // The trait `Dispatching`: how a walk fills, copies and extends the states of words.
-ghost use Rattle.std.specs.Prelude.{◌≡◌, ℕ, ◌≤◌, List, [], ◌∷◌, ◌++◌, All, IfOk, IfSome, IsTrue, length, vec_capacity};
-ghost use Rattle.shop_model.specs.{Shop.Shop, Word.IsWord};
-ghost use Rattle.shop_bound.specs.{Bound.lb, Conflicts.conflict};
-ghost use Rattle.shop_states.specs.States.{CanDispatch, HasDispatched, HasListed, HasSoleCandidate, IsOfSomeWord};
-ghost use Rattle.shop_states.specs.{States.{IsOfWord, ListsBelow, Settles}, declared.dispatching.Candidate.Candidate};
+ghost use Rattle.std.specs.Prelude.{◌≡◌, ℕ, ◌≤◌, List, [], ◌∷◌, ◌++◌, All, IfOk, IfSome, OnSome, length, vec_capacity};
+ghost use Rattle.shop_model.specs.{Limits.IsWithinLimits, Shop.Shop, Word.IsWord};
+ghost use Rattle.shop_bound.specs.{Bound.lb, Conflicts.{conflict, SoleCandidateKeepsBound}};
+ghost use Rattle.shop_states.specs.States.{TellsBoundBelow, CanDispatch, HasListed, HasSoleCandidate, IsOfSomeWord};
+ghost use Rattle.shop_states.specs.{States.{ListsBelow, Settles}, declared.dispatching.Candidate.Candidate};
 
 use std::alloc::{AllocError as NoMemory, Global};
 
@@ -34,7 +34,7 @@ pub trait Dispatching<S: Drop>: Drop {
     /// Says that a candidate's job and `own` are right for a word.
     ghost IsCandidate: { Self → List ℕ → Candidate → Type 0 };
 
-    /// Says that scratch buffers hold what `dispatch_in_copy` needs to bound a word's child by this job.
+    /// Says that scratch buffers hold what `dispatch_child_in_copy` needs to bound a word's child by this job.
     ghost KnowsChild: { Self → Self.Scratch → List ℕ → ℕ → Type 0 };
 
     /// Makes scratch room. Fails with `NoMemory` if memory runs out.
@@ -52,6 +52,13 @@ pub trait Dispatching<S: Drop>: Drop {
         requires word { IsWord (shop self.now) path.now }
         ensures state { IsStateOf self.now path.now state.new }
         ensures scratch { IsScratch self.now scratch.new };
+
+    /// Makes `to` a copy of `from`. For tests and other walks: the program copies where it dispatches.
+    fn copy(&self, from: &S, to: &mut S)
+        requires from { IsSlot self.now from.now }
+        requires to { IsSlot self.now to.old }
+        ensures state { (w : List ℕ) → IsStateOf self.now w from.now → IsStateOf self.now w to.new }
+        ensures slot { IsSlot self.now to.new };
 
     /// Replaces `candidates` by the jobs of the conflict set with `own` below `limit`, in ascending order. Returns how
     /// many jobs are left out. Never leaves out the only job of the set if the word's bound is below `limit`.
@@ -90,35 +97,36 @@ pub trait Dispatching<S: Drop>: Drop {
         requires scratch { IsScratch self.now scratch.old }
         requires can { CanDispatch (shop self.now)
             (λ w. IsStateOf self.now w state.old × IsCandidate self.now w candidate) candidate.job bound }
-        ensures dispatched { HasDispatched (shop self.now)
-            (λ w. IsStateOf self.now w state.old × IsCandidate self.now w candidate)
-            (λ w. IsStateOf self.now w state.new) candidate.job bound limit result }
+        ensures told { (w : List ℕ) → IsStateOf self.now w state.old
+            → IsCandidate self.now w candidate → bound ≡ lb (shop self.now) w
+            → TellsBoundBelow limit (lb (shop self.now) (w ++ candidate.job ∷ [])) result }
+        ensures state { (w : List ℕ) → IsStateOf self.now w state.old → IsCandidate self.now w candidate
+            → OnSome result (IsStateOf self.now (w ++ candidate.job ∷ []) state.new) }
         ensures slot { IsSlot self.now state.new }
         ensures scratch { IsScratch self.now scratch.new }
         ensures kept { (w : List ℕ) (j : ℕ) → KnowsChild self.now scratch.old w j
             → KnowsChild self.now scratch.new w j };
 
-    /// Makes `to` a copy of `from`, and does there what `dispatch_below` does; if `is_known`, in fewer steps, by what
-    /// `bound_children` left in `scratch`. May look up in `from` what it need not read in the copy, which was only just
-    /// written.
-    fn dispatch_in_copy(
+    /// Makes `to` a copy of `from`, and does there what `dispatch_below` does. May look up in `from` what it need not
+    /// read in the copy, which was only just written.
+    fn dispatch_below_in_copy(
         &self,
         scratch: &mut Self::Scratch,
         from: &S,
         to: &mut S,
         candidate: Candidate,
-        is_known: bool,
         bound: u64,
         limit: u64,
     ) -> Option<u64>
         requires scratch { IsScratch self.now scratch.old }
         requires to { IsSlot self.now to.old }
-        requires can { CanDispatch (shop self.now) (λ w. IsStateOf self.now w from.now
-            × IsCandidate self.now w candidate
-            × (IsTrue is_known → KnowsChild self.now scratch.old w candidate.job)) candidate.job bound }
-        ensures dispatched { HasDispatched (shop self.now)
-            (λ w. IsStateOf self.now w from.now × IsCandidate self.now w candidate)
-            (λ w. IsStateOf self.now w to.new) candidate.job bound limit result }
+        requires can { CanDispatch (shop self.now)
+            (λ w. IsStateOf self.now w from.now × IsCandidate self.now w candidate) candidate.job bound }
+        ensures told { (w : List ℕ) → IsStateOf self.now w from.now
+            → IsCandidate self.now w candidate → bound ≡ lb (shop self.now) w
+            → TellsBoundBelow limit (lb (shop self.now) (w ++ candidate.job ∷ [])) result }
+        ensures state { (w : List ℕ) → IsStateOf self.now w from.now
+            → IsCandidate self.now w candidate → OnSome result (IsStateOf self.now (w ++ candidate.job ∷ []) to.new) }
         ensures slot { IsSlot self.now to.new }
         ensures scratch { IsScratch self.now scratch.new }
         ensures kept { (w : List ℕ) (j : ℕ) → KnowsChild self.now scratch.old w j
@@ -127,7 +135,7 @@ pub trait Dispatching<S: Drop>: Drop {
     /// Bounds all children of the word of `state` together, before any candidate is dispatched. `bound` is the bound of
     /// that word, and `list_candidates` listed the candidates. Returns a number: if `bound` or the `own` of a candidate
     /// is at least this number, the bound of the child is the greater of the two. Returns `None` if each child is to be
-    /// bounded alone. Uses up `room`, and leaves in `scratch` what `dispatch_in_copy` needs.
+    /// bounded alone. Uses up `room`, and leaves in `scratch` what `dispatch_child_in_copy` needs.
     fn bound_children(
         &self,
         scratch: &mut Self::Scratch,
@@ -149,6 +157,31 @@ pub trait Dispatching<S: Drop>: Drop {
         ensures room { IsSlot self.now room.new }
         ensures scratch { IsScratch self.now scratch.new };
 
+    /// Dispatches the next operation of `candidate.job` in `to`, made a copy of `from`. Returns what `dispatch_below`
+    /// does, in fewer steps, by what `bound_children` left in `scratch`.
+    fn dispatch_child_in_copy(
+        &self,
+        scratch: &mut Self::Scratch,
+        from: &S,
+        to: &mut S,
+        candidate: Candidate,
+        bound: u64,
+        limit: u64,
+    ) -> Option<u64>
+        requires scratch { IsScratch self.now scratch.old }
+        requires to { IsSlot self.now to.old }
+        requires can { CanDispatch (shop self.now) (λ w. IsStateOf self.now w from.now
+            × IsCandidate self.now w candidate × KnowsChild self.now scratch.old w candidate.job) candidate.job bound }
+        ensures told { (w : List ℕ) → IsStateOf self.now w from.now
+            → IsCandidate self.now w candidate → bound ≡ lb (shop self.now) w
+            → TellsBoundBelow limit (lb (shop self.now) (w ++ candidate.job ∷ [])) result }
+        ensures state { (w : List ℕ) → IsStateOf self.now w from.now
+            → IsCandidate self.now w candidate → OnSome result (IsStateOf self.now (w ++ candidate.job ∷ []) to.new) }
+        ensures slot { IsSlot self.now to.new }
+        ensures scratch { IsScratch self.now scratch.new }
+        ensures kept { (w : List ℕ) (j : ℕ) → KnowsChild self.now scratch.old w j
+            → KnowsChild self.now scratch.new w j };
+
     /// Dispatches the next operation of `candidate.job`. The bound of the extended word is known already, so nothing is
     /// bounded.
     fn dispatch_settled(&self, state: &mut S, candidate: Candidate)
@@ -157,7 +190,15 @@ pub trait Dispatching<S: Drop>: Drop {
             → IsCandidate self.now w candidate → IsStateOf self.now (w ++ candidate.job ∷ []) state.new }
         ensures slot { IsSlot self.now state.new };
 
-    /// Law: what the state of a word shows of its instance and of the word.
-    ghost state_is_of_word: { (d : Self) (w : List ℕ) (s : S) → IsStateOf d w s
-        → IsOfWord (shop d) w (IsSlot d s) };
+    /// Law: the state of a word also has room for any other state.
+    ghost state_is_slot: { (d : Self) (w : List ℕ) (s : S) → IsStateOf d w s → IsSlot d s };
+
+    /// Law: the word of a state is a word of the instance.
+    ghost state_is_of_word: { (d : Self) (w : List ℕ) (s : S) → IsStateOf d w s → IsWord (shop d) w };
+
+    /// Law: if a word has a state, its instance is within the limits.
+    ghost state_is_within_limits: { (d : Self) (w : List ℕ) (s : S) → IsStateOf d w s → IsWithinLimits (shop d) };
+
+    /// Law: dispatching the only job of a conflict set keeps the word's bound.
+    ghost sole_keeps_bound: { (d : Self) (w : List ℕ) (s : S) → IsStateOf d w s → SoleCandidateKeepsBound (shop d) w };
 }

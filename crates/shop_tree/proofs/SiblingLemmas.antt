@@ -1,8 +1,6 @@
 -- Children that are settled without a trial, and the one on top of the stack, which is given the current state.
 use Rattle.std.proofs.Common.{◌≡◌, ℕ, zero, suc, ◌-◌, ◌≤◌, ◌<◌, List, [], ◌∷◌, ◌++◌, length, map, get_or, set, take}
-use Rattle.std.proofs.Common.{Bool, max, not, is_some, All, IfSome, IsSomeAnd, IsTrue, IsFalse, None, Option, Some}
-use Rattle.std.proofs.Common.{inl, inr, sym}
-use Rattle.std.proofs.Common.{◌∙◌, ap, subst, arith}
+use Rattle.std.proofs.Common.{max, All, IfSome, None, Option, Some, inl, inr, sym, ◌∙◌, ap, subst, arith}
 use Rattle.std.proofs.{Math.Seq.{map-set_same, take-length}, lemmas.List.Elements.{All-set, All-from_recursion}}
 use Rattle.std.proofs.lemmas.List.{get_or-map, length-map, map-set, set-append_right}
 use Rattle.shop_model.specs.Shop.{Shop}
@@ -13,9 +11,14 @@ use Rattle.shop_nodes.specs.Halts.{open_child, word_at}
 use Rattle.shop_nodes.specs.declared.halts.{Open.Open, Waiting.{Waiting, TheVariants.{Child, Rest}}}
 use Rattle.shop_tree.specs.{declared.walk_states.{WalkStates.WalkStates, Branching.Branching}, inner.Opens.AreChildren}
 use Rattle.shop_tree.specs.{inner.Held.{IsHeldOf, IsKept, Kept, held, opens_in}, declared.held.Held.Held}
-use Rattle.shop_tree.specs.inner.Slots.{AreBounded, IsBranchingOf, IsStateIn, KeepSlots, Lists, StaysKnown}
-use Rattle.shop_tree.specs.inner.Tried.{HasGiven}
+use Rattle.shop_tree.specs.inner.{Slots.{AreBounded, IsBranchingOf, IsStateIn, KeepSlots, Lists}, Tried.HasGiven}
 use Rattle.shop_tree.{specs.inner.Tried.HasPutChildren, proofs.{StripLemmas.{at_kid, many}, TrialLemmas.IsChildBelow}}
+
+-- the bound of a settled child
+pub settled_bound : (shop : Shop) (word : List ℕ) (bound top : ℕ) (cs : List Candidate)
+    → Settles shop word bound top cs → (k : ℕ) (d : Candidate) → k < length cs → (b : ℕ)
+    → b ≡ max bound (get_or cs k d).own → top ≤ b → lb shop (word ++ (get_or cs k d).job ∷ []) ≡ b
+settled_bound shop word bound top cs settles k d within b is low = grind arith
 
 -- it is put without a state
 pub settled_child : {S : Type 0} (is : List ℕ → S → Type 0) (shop : Shop) (word : List ℕ) (limit job b : ℕ)
@@ -79,55 +82,23 @@ pub kept_then : {D S C : Type 0} {g : Ghosts D S C} {r s t : WalkStates D S C} �
     → s.dispatcher ≡ r.dispatcher → KeepSlots g r t
 kept_then kept same = record { states = kept.states; dispatcher = kept.dispatcher ∙ same }
 
--- what holds if children were bounded together
-pub known_of : {P : Type 0} (together : Option ℕ) {test : Bool} → test ≡ is_some together → IsTrue test
-    → IfSome together (λ top. P) → P
-known_of (Some top) is some known = known
-known_of None is some known = grind arith
-
-pub known_unless : {P : Type 0} (together : Option ℕ) {test : Bool} → is_some together ≡ not test → IsFalse test
-    → IfSome together (λ top. P) → P
-known_unless (Some top) is some known = known
-known_unless None is some known = grind arith
-
--- the children of the current word, if they were bounded together
-abbrev pub AreKnown : {D S C : Type 0} → Ghosts D S C → WalkStates D S C → Branching → Option ℕ → Type 0
-AreKnown g s b together = IfSome together (λ top. IsBranchingOf g s b × AreBounded g s b top)
-
--- the bound of a settled child
-pub known_settled : {D S C : Type 0} (g : Ghosts D S C) (s : WalkStates D S C) (b : Branching) (together : Option ℕ)
-    → AreKnown g s b together → (k : ℕ) (d : Candidate) → k < length b.candidates.now → (least : ℕ)
-    → least ≡ max b.bound (get_or b.candidates.now k d).own → IsSomeAnd together (λ top. top ≤ least)
-    → lb (g.shop s.dispatcher) (b.word.now ++ (get_or b.candidates.now k d).job ∷ []) ≡ least
-known_settled g s b None known k d within least is low = absurd low
-known_settled g s b (Some top) known k d within least is low = let settled = known.1.settled in grind arith
-
-module _ {D S C : Type 0} (g : Ghosts D S C) (s t : WalkStates D S C) (b : Branching)
+-- what is known of the current word, once a trial left its state
+module _ {D S C : Type 0} {g : Ghosts D S C} {s t : WalkStates D S C} {b : Branching}
     (same : t.dispatcher ≡ s.dispatcher) where
-  pub known_stay : (together : Option ℕ) → IfSome together (λ top. StaysKnown g s t) → AreKnown g s b together
-      → AreKnown g t b together
-  known_stay None stays known = known
-  known_stay (Some top) stays (at, of) = (
-    record {
-      state = rw (same, stays.current) at.state;
-      bound = rw same at.bound;
-      listed = rw same at.listed;
-    },
-    record {
-      settled = rw same of.settled;
-      known = λ k c within. subst (λ x. g.KnowsChild x t.scratch b.word.now (get_or b.candidates.now k c).job)
-          (sym same)
-          (stays.kept b.word.now (get_or b.candidates.now k c).job (of.known k c within));
-    },
-  )
+  pub branching_stays : t.current.value ≡ s.current.value → IsBranchingOf g s b → IsBranchingOf g t b
+  branching_stays current at = record {
+    state = rw (same, current) at.state;
+    bound = rw same at.bound;
+    listed = rw same at.listed;
+  }
 
-  pub known_put : t.current.value ≡ s.current.value → t.scratch ≡ s.scratch → (together : Option ℕ)
-      → AreKnown g s b together → AreKnown g t b together
-  known_put current scratch None known = known
-  known_put current scratch (Some top) known = known_stay (Some top) (record {
-    current = current;
-    kept = λ w j of. subst (λ x. g.KnowsChild s.dispatcher x w j) (sym scratch) of;
-  }) known
+  pub bounded_stays : {top : ℕ} → ((w : List ℕ) (j : ℕ) → g.KnowsChild s.dispatcher s.scratch w j
+      → g.KnowsChild s.dispatcher t.scratch w j) → AreBounded g s b top → AreBounded g t b top
+  bounded_stays {top} kept at = record {
+    settled = rw same at.settled;
+    known = λ k c within. subst (λ x. g.KnowsChild x t.scratch b.word.now (get_or b.candidates.now k c).job) (sym same)
+        (kept b.word.now (get_or b.candidates.now k c).job (at.known k c within));
+  }
 
 -- children that were bounded together
 pub bounded_together : {D S C : Type 0} {g : Ghosts D S C} {s : WalkStates D S C} {b : Branching}

@@ -119,7 +119,7 @@ impl<'a, D: Dispatching<S>, S: Drop> Walker<'a, D, S> {
         };
         let all = self
             .states
-            .put_children(alloc, &mut self.stack, &branching)?;
+            .try_candidates(alloc, &mut self.stack, &branching)?;
         set_rest_below(&mut self.stack, below, depth, closed, all)
     }
 

@@ -6,18 +6,15 @@
 --     IsStateIn g s w           the current state is that of word w
 --     Lists g s w limit cs n    the candidates of w with own numbers below the limit are cs, and there are n others
 --     CanTake g s c bound       the current state is that of some word of this bound, which can go on with candidate c
---     CanTryKnown g s c bound   so, and what a dispatch needs knows the child
---     CanTry g s together c bound
---                               so, and what a dispatch needs knows the child, if children were bounded together
---     StaysKnown g old new      the current state is the same, and of children as much is known
+--     CanTakeKnown g s c bound  so, and what a dispatch needs knows the child
 --     HasTaken g s c bound limit answer child
 --                               the child by c has the bound that is answered, if below the limit, and then this state
 --     IsBranchingOf g s b       b tells the current word, its bound and its candidates rightly
 --     AreBounded g s b top      the children of b were bounded together, and those that `top` settles have these bounds
 --     HasPutAll g s b old new n on top of the old stack lie the children of b below its limit, and there are n others
-use Rattle.std.specs.Prelude.{◌≡◌, ℕ, ◌≤◌, Option, List, All, IfSome}
+use Rattle.std.specs.Prelude.{◌≡◌, ℕ, ◌≤◌, Option, List, [], ◌∷◌, ◌++◌, All, OnSome}
 use Rattle.shop_bound.specs.Bound.{lb}
-use Rattle.shop_states.specs.States.{CanDispatch, HasDispatched, ListsBelow, Settles}
+use Rattle.shop_states.specs.States.{CanDispatch, ListsBelow, Settles, TellsBoundBelow}
 use Rattle.shop_states.specs.declared.dispatching.{Candidate.Candidate, Dispatching.Ghosts}
 use Rattle.shop_nodes.specs.Branching.{conflict}
 use Rattle.shop_tree.specs.{declared.walk_states.Branching.Branching, declared.held.Held.Held, inner.Held.AreStates}
@@ -44,17 +41,14 @@ module _ {D S C : Type 0} (g : Ghosts D S C) (s : WalkStates D S C) where
   abbrev pub CanTake : Candidate → ℕ → Type 0
   CanTake c bound = CanDispatch (g.shop d) (λ w. IsStateIn w × g.IsCandidate d w c) c.job bound
 
-  abbrev pub CanTryKnown : Candidate → ℕ → Type 0
-  CanTryKnown c bound = CanDispatch (g.shop d)
+  abbrev pub CanTakeKnown : Candidate → ℕ → Type 0
+  CanTakeKnown c bound = CanDispatch (g.shop d)
       (λ w. IsStateIn w × g.IsCandidate d w c × g.KnowsChild d s.scratch w c.job) c.job bound
 
-  abbrev pub CanTry : Option ℕ → Candidate → ℕ → Type 0
-  CanTry together c bound = CanDispatch (g.shop d) (λ w. IsStateIn w × g.IsCandidate d w c
-      × IfSome together (λ top. g.KnowsChild d s.scratch w c.job)) c.job bound
-
-  abbrev pub HasTaken : Candidate → ℕ → ℕ → Option ℕ → S → Type 0
-  HasTaken c bound limit answer child = HasDispatched (g.shop d) (λ w. IsStateIn w × g.IsCandidate d w c)
-      (λ w. g.IsStateOf d w child) c.job bound limit answer
+  pub record HasTaken (c : Candidate) (bound limit : ℕ) (answer : Option ℕ) (child : S) : Type 0 where
+    pub told : (w : List ℕ) → IsStateIn w → g.IsCandidate d w c → bound ≡ lb (g.shop d) w
+        → TellsBoundBelow limit (lb (g.shop d) (w ++ c.job ∷ [])) answer
+    pub state : (w : List ℕ) → IsStateIn w → g.IsCandidate d w c → OnSome answer (g.IsStateOf d (w ++ c.job ∷ []) child)
 
   pub record IsBranchingOf (b : Branching) : Type 0 where
     pub state : IsStateIn b.word.now
@@ -72,8 +66,3 @@ module _ {D S C : Type 0} (g : Ghosts D S C) (s : WalkStates D S C) where
 pub record KeepSlots {D S C : Type 0} (g : Ghosts D S C) (old new : WalkStates D S C) : Type 0 where
   pub states : HoldSlots g new
   pub dispatcher : new.dispatcher ≡ old.dispatcher
-
-pub record StaysKnown {D S C : Type 0} (g : Ghosts D S C) (old new : WalkStates D S C) : Type 0 where
-  pub current : new.current.value ≡ old.current.value
-  pub kept : (w : List ℕ) (j : ℕ) → g.KnowsChild old.dispatcher old.scratch w j
-      → g.KnowsChild old.dispatcher new.scratch w j

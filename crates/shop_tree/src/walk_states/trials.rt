@@ -1,81 +1,43 @@
 // Trials of a word's children: each in a copy of the state of the word, or in this state itself. Where children are
 // bounded together first, settled ones go on the stack without a trial.
 ghost use Rattle.std.specs.Prelude.{◌≡◌, ℕ, ◌≤◌, false, IsTrue, List, [], ◌∷◌, ◌++◌, All, IfOk, IfSome, OnOk, length};
-ghost use Rattle.std.specs.Prelude.{◌↔◌, IsSomeAnd};
 ghost use Rattle.shop_states.specs.States.{IsOfSomeWord};
-ghost use Rattle.shop_tree.specs.inner.Slots.{AreBounded, CanTry, CanTryKnown, HasPutAll, HasTaken, HoldSlots};
-ghost use Rattle.shop_tree.specs.inner.Slots.{IsBranchingOf, IsStateIn, KeepSlots, StaysKnown};
+ghost use Rattle.shop_tree.specs.inner.Slots.{AreBounded, CanTake, CanTakeKnown, HasPutAll, HasTaken};
+ghost use Rattle.shop_tree.specs.inner.Slots.{HoldSlots, IsBranchingOf, IsStateIn, KeepSlots};
 ghost use Rattle.shop_tree.specs.inner.Tried.{AreSlotsFrom, HasGiven, HasPutTried};
 
 use super::{Branching, WalkStates};
-use crate::held::{Held, bare_top, put, put_bare, strip_top};
+use crate::held::{Held, bare_top, put, strip_top};
 use shop_nodes::Open;
 use shop_states::{Candidate, Dispatching};
 use std::alloc::{AllocError as NoMemory, Global};
 use std::mem;
 
-/// Returns whether `least`, the greater of a word's bound and a candidate's `own`, is the child's bound by `together`,
-/// what `bound_children` answered.
-#[inline(always)]
-fn is_settled(least: u64, together: Option<u64>) -> bool
-    ensures { IsTrue result ↔ IsSomeAnd together (λ top. top ≤ least) }
-{
-    match together {
-        Some(top) => top <= least,
-        None => false,
-    }
-}
-
 impl<D: Dispatching<S>, S: Drop> WalkStates<D, S> {
     /// Dispatches `candidate` in the trial's state, and returns the child's bound if it is below `limit`. That state is
     /// a copy of the current one or, for the last trial, the current state itself, which the walk no longer needs.
-    /// If `together`, what `bound_children` answered, is a number, it is always a copy, and the child is bounded by
-    /// what that call left. `bound` is the bound of the current word.
-    #[inline(always)]
+    /// `bound` is the bound of the current word.
     fn try_candidate(
         &mut self,
         candidate: Candidate,
         is_last: bool,
-        together: Option<u64>,
         bound: u64,
         limit: u64,
     ) -> Option<u64>
         requires sound { HoldSlots D.Dispatching self.old }
-        requires can { CanTry D.Dispatching self.old together candidate bound }
+        requires can { CanTake D.Dispatching self.old candidate bound }
         ensures sound { KeepSlots D.Dispatching self.old self.new }
         ensures taken { HasTaken D.Dispatching self.old candidate bound limit result self.new.trial.value }
         ensures current { is_last ≡ false → self.new.current.value ≡ self.old.current.value }
-        ensures known { IfSome together (λ top. StaysKnown D.Dispatching self.old self.new) }
     {
-        if together.is_some() {
-            return self.try_known(candidate, bound, limit);
-        }
         if is_last {
             let child = self.dispatch_below(candidate, bound, limit);
             mem::swap(&mut self.current, &mut self.trial);
             return child;
         }
         let (scratch, trial) = (&mut self.scratch, &mut self.trial);
-        let current = &self.current;
         self.dispatcher
-            .dispatch_in_copy(scratch, current, trial, candidate, false, bound, limit)
-    }
-
-    /// Dispatches `candidate` in a copy of the current state, the trial's, and bounds the child by what
-    /// `bound_children` left. Returns its bound if it is below `limit`. `bound` is the bound of the current word. Stays
-    /// out of line, so that the trials of other children are inlined.
-    #[inline(never)]
-    fn try_known(&mut self, candidate: Candidate, bound: u64, limit: u64) -> Option<u64>
-        requires sound { HoldSlots D.Dispatching self.old }
-        requires can { CanTryKnown D.Dispatching self.old candidate bound }
-        ensures sound { KeepSlots D.Dispatching self.old self.new }
-        ensures taken { HasTaken D.Dispatching self.old candidate bound limit result self.new.trial.value }
-        ensures known { StaysKnown D.Dispatching self.old self.new }
-    {
-        let (scratch, trial) = (&mut self.scratch, &mut self.trial);
-        let current = &self.current;
-        self.dispatcher
-            .dispatch_in_copy(scratch, current, trial, candidate, true, bound, limit)
+            .dispatch_below_in_copy(scratch, &self.current, trial, candidate, bound, limit)
     }
 
     /// Bounds the children of the current word, that of `branching`, as `Dispatching::bound_children` does, if they are
@@ -96,6 +58,22 @@ impl<D: Dispatching<S>, S: Drop> WalkStates<D, S> {
         let (scratch, room) = (&mut self.scratch, &mut self.trial);
         self.dispatcher
             .bound_children(scratch, &self.current, room, candidates, bound)
+    }
+
+    /// Dispatches `candidate` in a copy of the current state, the trial's, after `bound_children`. Returns the child's
+    /// bound if it is below `limit`. `bound` is the bound of the current word.
+    pub(crate) fn try_child(&mut self, candidate: Candidate, bound: u64, limit: u64) -> Option<u64>
+        requires sound { HoldSlots D.Dispatching self.old }
+        requires can { CanTakeKnown D.Dispatching self.old candidate bound }
+        ensures sound { KeepSlots D.Dispatching self.old self.new }
+        ensures taken { HasTaken D.Dispatching self.old candidate bound limit result self.new.trial.value }
+        ensures kept { (w : List ℕ) (j : ℕ) → D.KnowsChild self.old.dispatcher self.old.scratch w j
+            → D.KnowsChild self.old.dispatcher self.new.scratch w j }
+        ensures current { self.new.current.value ≡ self.old.current.value }
+    {
+        let (scratch, trial) = (&mut self.scratch, &mut self.trial);
+        self.dispatcher
+            .dispatch_child_in_copy(scratch, &self.current, trial, candidate, bound, limit)
     }
 
     /// Dispatches the candidate of `branching` with this `job`, whose child's bound is known already, in the current
@@ -149,10 +127,52 @@ impl<D: Dispatching<S>, S: Drop> WalkStates<D, S> {
         put(stack, from, child, state)
     }
 
+    /// Tries each candidate of `branching`, and puts the children of its word with bounds below its limit on the stack:
+    /// by bound, then by job, the first on top, each with its state while there is room. Returns how many children are
+    /// closed: those tried in vain, and the others without a listed candidate. Where all children are bounded together,
+    /// `settle_candidates` goes on instead of the trials. Fails with `NoMemory` if memory runs out.
+    #[inline(always)]
+    pub(crate) fn try_candidates(
+        &mut self,
+        alloc: Global,
+        stack: &mut Vec<Held<S>>,
+        branching: &Branching<'_>,
+    ) -> Result<usize, NoMemory>
+        requires sound { HoldSlots D.Dispatching self.old }
+        requires branching { IsBranchingOf D.Dispatching self.old branching.now }
+        ensures sound { KeepSlots D.Dispatching self.old self.new }
+        ensures children { IfOk result
+            (HasPutAll D.Dispatching self.old branching.now stack.old.items stack.new.items) }
+    {
+        if let Some(top) = self.bound_children(branching) {
+            // `settle_candidates` isn't inlined, and reads its record from memory. It gets a copy, so that the record
+            // that the caller made can stay in registers.
+            let branching = *branching;
+            return self.settle_candidates(alloc, stack, &branching, top);
+        }
+        let bound = branching.bound;
+        let limit = branching.limit;
+        let candidates = branching.candidates;
+        let from = stack.len();
+        let depth = branching.word.len() as u32;
+        let mut closed = branching.closed;
+        // Tries the last job first, so that of equal bounds the lower job is above.
+        for index in (0..candidates.len()).rev() {
+            let candidate = candidates[index];
+            let is_last = index == 0;
+            let Some(bound) = self.try_candidate(candidate, is_last, bound, limit) else {
+                closed += 1;
+                continue;
+            };
+            let job = candidate.job;
+            self.put_tried(alloc, stack, from, Open { depth, job, bound })?;
+        }
+        Ok(closed)
+    }
+
     /// Gives the child on top of the stack a state, if the child lies from index `from` on and has none, and another
     /// state can take the place of the current one: dispatches its job in the current state, which the walk no longer
     /// needs. The child is one of `branching`, with a bound below its limit. Fails with `NoMemory` if memory runs out.
-    #[inline(never)]
     fn give_current(
         &mut self,
         alloc: Global,
@@ -183,63 +203,54 @@ impl<D: Dispatching<S>, S: Drop> WalkStates<D, S> {
         Ok(())
     }
 
-    /// Puts the children of the word of `branching` with bounds below its limit on the stack: by bound, then by job,
-    /// the first on top, each with its trial's state while there is room. Returns how many children are closed: those
-    /// tried in vain, and the others without a listed candidate. Fails with `NoMemory` if memory runs out.
-    ///
-    /// If `bound_children` answers a number `top`, a child is settled if the bound of `branching` or the candidate's
-    /// `own` reaches `top`: the greater of the two is then its bound, as a trial would find. A settled child goes on
-    /// the stack without a trial and without a state. The one on top, which is walked next, gets a state by a dispatch
-    /// in the current one, if a state is free to take that one's place; when the turn of another comes, its state is
-    /// filled from its word.
-    #[inline(always)]
-    pub(crate) fn put_children(
+    /// Does what `try_candidates` does, after `bound_children` answered `top`. A child is settled if the bound of
+    /// `branching` or the candidate's `own` reaches `top`: the greater of the two is then its bound, as a trial would
+    /// find. A settled child with a bound below the limit goes on the stack without a trial and without a state. The
+    /// one on top, which is walked next, gets a state by a dispatch in the current one, if a state is free to take that
+    /// one's place; when the turn of another comes, its state is filled from its word. Children that aren't settled are
+    /// tried in copies, since the current state is needed to the end. Fails with `NoMemory` if memory runs out.
+    #[inline(never)]
+    pub(crate) fn settle_candidates(
         &mut self,
         alloc: Global,
         stack: &mut Vec<Held<S>>,
         branching: &Branching<'_>,
+        top: u64,
     ) -> Result<usize, NoMemory>
         requires sound { HoldSlots D.Dispatching self.old }
         requires branching { IsBranchingOf D.Dispatching self.old branching.now }
+        requires bounded { AreBounded D.Dispatching self.old branching.now top }
         ensures sound { KeepSlots D.Dispatching self.old self.new }
         ensures children { IfOk result
             (HasPutAll D.Dispatching self.old branching.now stack.old.items stack.new.items) }
     {
-        let together = self.bound_children(branching);
         let bound = branching.bound;
         let limit = branching.limit;
         let candidates = branching.candidates;
         let from = stack.len();
         let depth = branching.word.len() as u32;
         let mut closed = branching.closed;
-        // Begins with the last job, so that of equal bounds the lower job is above.
+        // The last job first, as in `try_candidates`.
         for index in (0..candidates.len()).rev() {
             let candidate = candidates[index];
             let job = candidate.job;
             let least = bound.max(candidate.own);
-            if is_settled(least, together) {
+            if top <= least {
                 if least < limit {
                     let bound = least;
-                    put_bare(stack, from, Open { depth, job, bound })?;
+                    put(stack, from, Open { depth, job, bound }, None)?;
                 } else {
                     closed += 1;
                 }
                 continue;
             }
-            let is_last = index == 0;
-            let Some(bound) = self.try_candidate(candidate, is_last, together, bound, limit) else {
+            let Some(bound) = self.try_child(candidate, bound, limit) else {
                 closed += 1;
                 continue;
             };
             self.put_tried(alloc, stack, from, Open { depth, job, bound })?;
         }
-        if together.is_none() {
-            return Ok(closed);
-        }
-        // `give_current` reads its record from memory. It gets a copy, so that the record that the caller made can stay
-        // in registers.
-        let branching = *branching;
-        self.give_current(alloc, stack, from, &branching)?;
+        self.give_current(alloc, stack, from, branching)?;
         Ok(closed)
     }
 }

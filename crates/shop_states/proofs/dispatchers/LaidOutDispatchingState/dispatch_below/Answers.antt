@@ -1,6 +1,6 @@
 use Rattle.std.proofs.{Common.{rules, ℕ, List, ◌∙◌, ap, arith, length, refl}, lemmas.List.length-set}
 use Rattle.shop_layout.{specs.Positions.LayoutState, proofs.Written.written_vec}
-use Rattle.shop_states.proofs.{CandidateDispatches.{candidate_can, candidate_told, no_ceilings}, ReadStates.kept_read}
+use Rattle.shop_states.proofs.{CandidateDispatches.{candidate_can, candidate_told}, ReadStates.kept_read}
 use Rattle.shop_states.proofs.{AskedStates.{bound_there, kept_on, told_behind}, Trials.{its_job, its_position}}
 use Rattle.shop_states.proofs.KeptRoom.{room_behind, scratch_kept}
 use Rattle.shop_states.proofs.dispatchers.LaidOutDispatchingState.dispatch_below.Goals as goal
@@ -12,19 +12,16 @@ pub advance_below-requires-clause-can : goal.advance_below-requires-clause-can
 advance_below-requires-clause-can g c = rw c.as_slice-next.ensures.value (candidate_can c.grid-grid.ensures.grid
     c.of-dispatch.ensures.job c.requires.can.is.0.kept c.requires.can.is.1
     (bound_there c.requires.can.is.0 c.requires.can.bound_is) c.range_of-range.ensures.least c.requires.scratch.machines
-    (no_ceilings c.args.self.now.shop c.requires.can.word c.args.self.now.layout c.args.candidate.job _
-    c.range_of-range.ensures.ceilings))
+    (λ rows heads times tails m here known later above.
+    absurd (let none = ap (λ (xs : List ℕ). length xs) c.range_of-range.ensures.ceilings in omega arith)))
 
-pub returns-in_err-told-clause-dispatched : goal.returns-in_err-told-clause-dispatched
-returns-in_err-told-clause-dispatched g c = record {
-  told = λ w at bound_is.
-      let told = told_behind at.0 c.args.candidate.job c.args.limit c.advance_below.result at.1.fits
-      (candidate_told c.grid-grid.ensures.grid c.of-dispatch.ensures.job at.0.kept at.1 (bound_there at.0 bound_is)
-      c.range_of-range.ensures.least c.grid-grid.ensures.ready.limits c.args.limit c.range_of-range.ensures.limit
-      c.advance_below.result (rw c.as_slice-next.ensures.value at c.advance_below.ensures.told))
-      in grind arith;
-  state = λ w at. grind arith;
-}
+pub returns-in_err-told-clause-told : goal.returns-in_err-told-clause-told
+returns-in_err-told-clause-told g c = λ w of candidate bound_is.
+    let told = told_behind of c.args.candidate.job c.args.limit c.advance_below.result candidate.fits
+    (candidate_told c.grid-grid.ensures.grid c.of-dispatch.ensures.job of.kept candidate (bound_there of bound_is)
+    c.range_of-range.ensures.least c.grid-grid.ensures.ready.limits c.args.limit c.range_of-range.ensures.limit
+    c.advance_below.result (rw c.as_slice-next.ensures.value at c.advance_below.ensures.told))
+    in grind arith
 
 pub set_next-requires-clause-job : goal.set_next-requires-clause-job
 set_next-requires-clause-job g c = rw c.as_mut_slice.ensures.value
@@ -38,24 +35,23 @@ set_next-requires-clause-position g c =
     in let following = kept.kept.laid.positions.following in let long = kept.kept.heads.positions
     in let same = ap (λ (l : LayoutState). length l.following) c.grid-grid.ensures.grid in omega arith
 
-pub returns-clause-dispatched : goal.returns-clause-dispatched
-returns-clause-dispatched g c = record {
-  told = λ w at bound_is.
-      let told = told_behind at.0 c.args.candidate.job c.args.limit c.advance_below.result at.1.fits
-      (candidate_told c.grid-grid.ensures.grid c.of-dispatch.ensures.job at.0.kept at.1 (bound_there at.0 bound_is)
-      c.range_of-range.ensures.least c.grid-grid.ensures.ready.limits c.args.limit c.range_of-range.ensures.limit
-      c.advance_below.result (rw c.as_slice-next.ensures.value at c.advance_below.ensures.told))
-      in grind arith;
-  state = λ w at.
-      let ready = rw (c.grid-grid.ensures.grid, c.of-dispatch.ensures.job, c.as_slice-next.ensures.value)
-      at c.in_ok-told.ensures.ready
-      in let on = rw (c.grid-grid.ensures.grid, c.as_mut_slice.ensures.value) at c.set_next.ensures
-      in let long = ap (λ (ns : List ℕ). length ns) c.set_next.ensures.are_next
-      ∙ length-set c.as_mut_slice.result.now _ _
-      in let whole = written_vec c.args.state.now.next c.as_mut_slice.result.now c.set_next.new.next
-      c.as_mut_slice.ensures.value long
-      in rw whole (kept_on at.0 (ready.kept c.args.self.now.shop w at.0.kept at.1.fits _ _ on));
-}
+pub returns-clause-told : goal.returns-clause-told
+returns-clause-told g c = λ w of candidate bound_is.
+    let told = told_behind of c.args.candidate.job c.args.limit c.advance_below.result candidate.fits
+    (candidate_told c.grid-grid.ensures.grid c.of-dispatch.ensures.job of.kept candidate (bound_there of bound_is)
+    c.range_of-range.ensures.least c.grid-grid.ensures.ready.limits c.args.limit c.range_of-range.ensures.limit
+    c.advance_below.result (rw c.as_slice-next.ensures.value at c.advance_below.ensures.told))
+    in grind arith
+
+pub returns-clause-state : goal.returns-clause-state
+returns-clause-state g c = λ w of candidate.
+    let ready = rw (c.grid-grid.ensures.grid, c.of-dispatch.ensures.job, c.as_slice-next.ensures.value)
+    at c.in_ok-told.ensures.ready
+    in let on = rw (c.grid-grid.ensures.grid, c.as_mut_slice.ensures.value) at c.set_next.ensures
+    in let long = ap (λ (ns : List ℕ). length ns) c.set_next.ensures.are_next ∙ length-set c.as_mut_slice.result.now _ _
+    in let whole = written_vec c.args.state.now.next c.as_mut_slice.result.now c.set_next.new.next
+    c.as_mut_slice.ensures.value long
+    in rw whole (kept_on of (ready.kept c.args.self.now.shop w of.kept candidate.fits _ _ on))
 
 pub advance_below-requires-clause-at_rest : goal.advance_below-requires-clause-at_rest
 advance_below-requires-clause-at_rest g c = c.requires.scratch.at_rest

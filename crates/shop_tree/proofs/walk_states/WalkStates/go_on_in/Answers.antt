@@ -9,7 +9,7 @@ returns-in_err-push-clause-sound g c =
       states = record {
         scratch_is = old.scratch_is;
         current_is = subst (λ b. slot b.value) (sym c.replace-before.ensures.after)
-            (g.met.D.Dispatching.state_is_of_word d c.args.word.now c.in-Some.state.value own).slot;
+            (g.met.D.Dispatching.state_is_slot d c.args.word.now c.in-Some.state.value own);
         trial_is = old.trial_is;
         spare_are = rw c.in_err-push.ensures.items old.spare_are;
       };
@@ -25,7 +25,7 @@ returns-clause-sound g c =
       states = record {
         scratch_is = old.scratch_is;
         current_is = subst (λ b. slot b.value) (sym c.replace-before.ensures.after)
-            (g.met.D.Dispatching.state_is_of_word d c.args.word.now c.in-Some.state.value own).slot;
+            (g.met.D.Dispatching.state_is_slot d c.args.word.now c.in-Some.state.value own);
         trial_is = old.trial_is;
         spare_are = rw c.in_ok-push.ensures.items (All-append (λ b. slot b.value) c.args.self.now.spare.items
             (before ∷ []) old.spare_are (All-from_recursion (λ b. slot b.value) (before ∷ []) (kept, tt)));

@@ -40,7 +40,7 @@ returns-then-closed-eq0 g c =
     in let short : length word < operation_count shop =
     (let a = c.requires.listed.short in let b = self.counted in omega arith)
     in let keeps : SoleCandidateKeepsBound shop word = subst (λ (x : Shop). SoleCandidateKeepsBound x word)
-    self.same_shop (g.met.D.Dispatching.state_is_of_word d word self.states.current.value at.state).sole
+    self.same_shop (g.met.D.Dispatching.sole_keeps_bound d word self.states.current.value at.state)
     in let gone = follows_one (stage_of self) job short
     (ap (λ (x : Shop). conflict x word) (sym self.same_shop) ∙ alone) keeps c.requires.some (let a = at.bound in let b =
     at.below in omega arith) at.in_order
@@ -62,24 +62,24 @@ dispatch_below-requires-clause-can g c =
         alone_own one c.requires.listed.candidates,
       );
       fits = alone_fits one c.requires.listed.candidates
-          (g.met.D.Dispatching.state_is_of_word d word self.states.current.value at.state).word;
+          (g.met.D.Dispatching.state_is_of_word d word self.states.current.value at.state);
       bound_is = at.bound ∙ ap (λ (x : Shop). lb x word) (sym self.same_shop);
     }
 
 pub overflow_add-closed : goal.overflow_add-closed
 overflow_add-closed g c =
     let self = c.args.self.now in let few = few_closed c.requires.listed.candidates
-    in let limits = (g.met.D.Dispatching.state_is_of_word self.states.dispatcher self.path.items _
-    c.requires.listed.at.state).limits.jobs
+    in let limits = (g.met.D.Dispatching.state_is_within_limits self.states.dispatcher self.path.items _
+    c.requires.listed.at.state).jobs
     in omega arith
 
 pub close-requires-clause-word : goal.close-requires-clause-word
 close-requires-clause-word g c = let self = c.args.self.now in subst (λ x. IsWord x self.path.items) self.same_shop
-    (g.met.D.Dispatching.state_is_of_word self.states.dispatcher self.path.items _ c.requires.listed.at.state).word
+    (g.met.D.Dispatching.state_is_of_word self.states.dispatcher self.path.items _ c.requires.listed.at.state)
 
 pub close-requires-clause-limits : goal.close-requires-clause-limits
 close-requires-clause-limits g c = let self = c.args.self.now in subst IsWithinLimits self.same_shop
-    (g.met.D.Dispatching.state_is_of_word self.states.dispatcher self.path.items _ c.requires.listed.at.state).limits
+    (g.met.D.Dispatching.state_is_within_limits self.states.dispatcher self.path.items _ c.requires.listed.at.state)
 
 pub close-requires-clause-closed : goal.close-requires-clause-closed
 close-requires-clause-closed g c =
@@ -88,7 +88,7 @@ close-requires-clause-closed g c =
     in let one = one_listed self.candidates.items cand _ c.requires.one c.index-candidate.ensures
     in let bound = at.bound ∙ ap (λ (x : Shop). lb x word) (sym self.same_shop)
     in let high = told_high self.best (lb shop (word ++ cand.job ∷ [])) c.dispatch_below.result c.in_default.is
-    (c.dispatch_below.ensures.taken.told word (at.state, alone_own one c.requires.listed.candidates) bound)
+    (c.dispatch_below.ensures.taken.told word at.state (alone_own one c.requires.listed.candidates) bound)
     in subst (λ (x : Shop). AreChildren x self.best word [] (c.args.closed + 1)) self.same_shop
     (alone_closed one c.requires.listed.candidates high)
 
@@ -102,9 +102,9 @@ pub put_rest-requires : goal.put_rest-requires
 put_rest-requires g c =
     let self = c.args.self.now in let d = self.states.dispatcher in let word = self.path.items
     in let state = c.requires.listed.at.state
-    in let limits = (g.met.D.Dispatching.state_is_of_word d word self.states.current.value state).limits
+    in let limits = g.met.D.Dispatching.state_is_within_limits d word self.states.current.value state
     in let most = word_length (g.D.Dispatching.shop d) word limits
-    (g.met.D.Dispatching.state_is_of_word d word self.states.current.value state).word
+    (g.met.D.Dispatching.state_is_of_word d word self.states.current.value state)
     in let few = few_closed c.requires.listed.candidates
     in let jobs = limits.jobs in let b = c.len.ensures in let e = self.path.ok.0
     in record { depth = omega arith; count = omega arith }
@@ -126,8 +126,8 @@ take_job-requires-2-clause-state g c =
     in let is = g.D.Dispatching.IsStateOf in let after = c.dispatch_below.new.self.current.value
     in subst (λ x. is x (word ++ cand.job ∷ []) after) (sym c.dispatch_below.ensures.sound.dispatcher)
     (told_state (is self.states.dispatcher (word ++ cand.job ∷ []) after) c.in-Some.bound c.dispatch_below.result
-    c.in-Some.is (c.dispatch_below.ensures.taken.state word
-    (c.requires.listed.at.state, alone_own one c.requires.listed.candidates)))
+    c.in-Some.is (c.dispatch_below.ensures.taken.state word c.requires.listed.at.state
+    (alone_own one c.requires.listed.candidates)))
 
 pub returns : goal.returns
 returns g c =
@@ -137,9 +137,9 @@ returns g c =
     in let at = c.requires.listed.at
     in let bound = at.bound ∙ ap (λ (x : Shop). lb x word) (sym self.same_shop)
     in let own = alone_own one c.requires.listed.candidates
-    in let is_word = (g.met.D.Dispatching.state_is_of_word d word self.states.current.value at.state).word
+    in let is_word = g.met.D.Dispatching.state_is_of_word d word self.states.current.value at.state
     in let low = told_low self.best (lb shop (word ++ cand.job ∷ [])) c.in-Some.bound c.dispatch_below.result
-    c.in-Some.is (c.dispatch_below.ensures.taken.told word (at.state, own) bound)
+    c.in-Some.is (c.dispatch_below.ensures.taken.told word at.state own bound)
     in let o : Open = record { depth = length word; job = cand.job; bound = c.in-Some.bound }
     in let kids : AreChildren self.instance.now self.best word (o ∷ []) c.args.closed =
     subst (λ (x : Shop). AreChildren x self.best word (o ∷ []) c.args.closed) self.same_shop

@@ -11,10 +11,10 @@ use Rattle.shop_tree.proofs.walkers.Walker.push_children.Goals as goal
 pub put_rest-requires : goal.put_rest-requires
 put_rest-requires g c =
     let self = c.args.self.now in let d = self.states.dispatcher in let word = self.path.items
-    in let limits = (g.met.D.Dispatching.state_is_of_word d word self.states.current.value
-    c.requires.listed.at.state).limits
+    in let limits = g.met.D.Dispatching.state_is_within_limits d word self.states.current.value
+    c.requires.listed.at.state
     in let most = word_length (g.D.Dispatching.shop d) word limits
-    (g.met.D.Dispatching.state_is_of_word d word self.states.current.value c.requires.listed.at.state).word
+    (g.met.D.Dispatching.state_is_of_word d word self.states.current.value c.requires.listed.at.state)
     in let few = few_closed c.requires.listed.candidates
     in let jobs = limits.jobs in let b = c.len-depth.ensures in let e = self.path.ok.0
     in record { depth = omega arith; count = omega arith }
@@ -28,10 +28,10 @@ set_rest_below-requires g c =
     in let e = ap (λ (hs : List (Held g.row.S.Denot)). length hs) c.in_ok-put_rest.ensures
     in let f = rest_long old c.len-depth.result c.args.closed
     in let h = c.len-below.ensures in let i = self.stack.ok.0
-    in let limits = (g.met.D.Dispatching.state_is_of_word d word self.states.current.value
-    c.requires.listed.at.state).limits
+    in let limits = g.met.D.Dispatching.state_is_within_limits d word self.states.current.value
+    c.requires.listed.at.state
     in let most = word_length (g.D.Dispatching.shop d) word limits
-    (g.met.D.Dispatching.state_is_of_word d word self.states.current.value c.requires.listed.at.state).word
+    (g.met.D.Dispatching.state_is_of_word d word self.states.current.value c.requires.listed.at.state)
     in let few = few_open put.children
     in let jobs = limits.jobs in let k = c.len-depth.ensures in let n = self.path.ok.0
     in record {
@@ -48,7 +48,7 @@ returns-clause-branched g c =
     in let n = c.in_ok-all.all
     in let kids = rw (self.same_shop, c.as_slice.ensures.value) at put.children
     in let is : IsWord self.instance.now word = subst (λ x. IsWord x word) self.same_shop
-    (g.met.D.Dispatching.state_is_of_word d word self.states.current.value c.requires.listed.at.state).word
+    (g.met.D.Dispatching.state_is_of_word d word self.states.current.value c.requires.listed.at.state)
     in let short : length word < operation_count self.instance.now = (let a = c.requires.listed.short
     in let b = self.counted in omega arith)
     in let depth : c.len-depth.result ≡ length word = (let a = c.len-depth.ensures in let b = self.path.ok.0
@@ -67,8 +67,8 @@ returns-clause-branched g c =
 pub returns-clause-states : goal.returns-clause-states
 returns-clause-states g c = grind (arith, on_ok, held_branched)
 
-pub put_children-requires-clause-branching : goal.put_children-requires-clause-branching
-put_children-requires-clause-branching g c =
+pub try_candidates-requires-clause-branching : goal.try_candidates-requires-clause-branching
+try_candidates-requires-clause-branching g c =
     let self = c.args.self.now in let at = c.requires.listed.at in let s = self.states in let is = g.D.Dispatching
     in let word = sym c.as_slice.ensures.value
     in record {

@@ -1,8 +1,7 @@
 use Rattle.std.proofs.Common.{◌≡◌, ◌≤◌, ◌++◌, List, map}
 use Rattle.shop_bound.specs.Bound.{lb}
-use Rattle.shop_tree.specs.inner.{Held.{Kept, held}, Slots.HoldSlots}
-use Rattle.shop_tree.proofs.{SiblingLemmas.AreKnown, TrialLemmas.IsTrying}
-use Rattle.shop_tree.proofs.walk_states.WalkStates.put_children.Given as goal
+use Rattle.shop_tree.{specs.inner.{Held.{Kept, held}, Slots.HoldSlots}, proofs.TrialLemmas.IsTrying}
+use Rattle.shop_tree.proofs.walk_states.WalkStates.try_candidates.Given as goal
 
 abbrev pub invariant-loop-index : goal.invariant-loop-index
 invariant-loop-index g l = record {
@@ -13,7 +12,6 @@ invariant-loop-index g l = record {
       (g.D.Dispatching.shop l.self.dispatcher) l.branching.limit l.branching.word.now
       l.branching.candidates.now l.index kids l.closed l.self.current.value;
   bound : l.branching.bound ≡ lb (g.D.Dispatching.shop l.self.dispatcher) l.branching.word.now;
-  known : AreKnown g.D.Dispatching l.self l.branching l.together;
   more : l.branching.closed ≤ l.closed;
   sound : HoldSlots g.D.Dispatching l.self;
   same : l.self.dispatcher ≡ l.fn.self.dispatcher;

@@ -1,0 +1,215 @@
+use Rattle.std.proofs.Common.{◌≡◌, ◌<◌, ◌≤◌, ◌-◌, [], ◌∷◌, ◌++◌, None, get_or, sym, ◌∙◌, subst, append-nil, arith}
+use Rattle.std.{proofs.Common.{length, refl}, specs.List.insert}
+use Rattle.shop_model.proofs.WordLengths.{word_length}
+use Rattle.shop_bound.specs.Bound.{lb}
+use Rattle.shop_states.specs.declared.dispatching.Candidate.{Candidate}
+use Rattle.shop_tree.{specs.inner.Tried.{AreSlotsFrom, HasPutChildren}, proofs.AddLemmas.conflict_few}
+use Rattle.shop_tree.proofs.{StripLemmas.{are_slots, many, tried_kept}, SiblingLemmas.{bounded_stays, branching_stays}}
+use Rattle.shop_tree.proofs.{SiblingLemmas.{kept_then, put_given, settled_bound, settled_child}, TrialLemmas.IsTrying}
+use Rattle.shop_tree.proofs.TrialLemmas.{trying_begins, next_own, next_fits, turn_counted, turn_kept, told_high}
+use Rattle.shop_tree.proofs.TrialLemmas.{all_tried}
+use Rattle.shop_tree.proofs.walk_states.WalkStates.settle_candidates.Goals as goal
+
+pub overflow_cast-depth : goal.overflow_cast-depth
+overflow_cast-depth g c = grind (arith, word_length)
+
+pub loop-index-init : goal.loop-index-init
+loop-index-init g c = record {
+  kids = [];
+  stack = sym (append-nil _);
+  trying = trying_begins c.requires.branching.listed c.requires.branching.state;
+  branching = c.requires.branching;
+  bounded = c.requires.bounded;
+  more = omega arith;
+  sound = c.requires.sound;
+  same = refl;
+}
+
+pub overflow_add-closed : goal.overflow_add-closed
+overflow_add-closed g c =
+    let d = c.loop-index.self.dispatcher in let now = c.loop-index.invariant in let a = now.trying.few
+    in let limits = g.met.D.Dispatching.state_is_within_limits d c.args.branching.now.word.now _ now.branching.state
+    in let b = conflict_few (g.D.Dispatching.shop d) c.args.branching.now.word.now in let e = limits.jobs
+    in let some = c.loop-index-test.true in omega arith
+
+pub overflow_add-closed-in_default : goal.overflow_add-closed-in_default
+overflow_add-closed-in_default g c =
+    let d = c.loop-index.self.dispatcher in let now = c.loop-index.invariant in let a = now.trying.few
+    in let limits = g.met.D.Dispatching.state_is_within_limits d c.args.branching.now.word.now _ now.branching.state
+    in let b = conflict_few (g.D.Dispatching.shop d) c.args.branching.now.word.now in let e = limits.jobs
+    in let some = c.loop-index-test.true in omega arith
+
+pub loop-index-preserved-in_ok-put : goal.loop-index-preserved-in_ok-put
+loop-index-preserved-in_ok-put g c =
+    let now = c.loop-index.invariant in let d = c.loop-index.self.dispatcher
+    in let is = g.D.Dispatching.IsStateOf d in let shop = g.D.Dispatching.shop d
+    in let at = c.args.branching.now in let word = at.word.now in let cs = at.candidates.now
+    in let i = c.loop-index.index
+    in let some : 0 < i = (let a = c.loop-index-test.true in omega arith)
+    in let none : Candidate = record { job = 0; own = 0 }
+    in let job = (get_or cs (i - 1) none).job
+    in let b = c.max-least.result
+    in let within : i - 1 < length cs = (let a = now.trying.within in omega arith)
+    in let told = settled_bound shop word at.bound c.args.top cs now.bounded.settled (i - 1) none within b
+    c.max-least.ensures c.if-top-least.true
+    in let child = settled_child is shop word at.limit job b told c.if-least-limit.true
+    in let e : c.len-from.result ≡ length c.args.stack.now.items =
+    (let a = c.len-from.ensures in let k = c.args.stack.now.ok.0 in omega arith)
+    in let put = c.in_ok-put.ensures c.args.stack.now.items now.kids e now.stack
+    in record {
+      kids = insert now.kids put.at
+          (record { «open» = record { depth = length word; job = job; bound = b }; state = None });
+      stack = put.put;
+      trying = turn_kept some now.trying c.loop-index.self.current.value
+          (g.met.D.Dispatching.state_is_of_word d word _ now.branching.state) child put (λ more. now.branching.state);
+      branching = now.branching;
+      bounded = now.bounded;
+      more = now.more;
+      sound = now.sound;
+      same = now.same;
+    }
+
+pub loop-index-preserved-else-least-limit : goal.loop-index-preserved-else-least-limit
+loop-index-preserved-else-least-limit g c =
+    let now = c.loop-index.invariant in let d = c.loop-index.self.dispatcher
+    in let shop = g.D.Dispatching.shop d in let at = c.args.branching.now in let word = at.word.now
+    in let cs = at.candidates.now in let i = c.loop-index.index
+    in let some : 0 < i = (let a = c.loop-index-test.true in omega arith)
+    in let none : Candidate = record { job = 0; own = 0 }
+    in let job = (get_or cs (i - 1) none).job
+    in let b = c.max-least.result
+    in let within : i - 1 < length cs = (let a = now.trying.within in omega arith)
+    in let told = settled_bound shop word at.bound c.args.top cs now.bounded.settled (i - 1) none within b
+    c.max-least.ensures c.if-top-least.true
+    in let high : at.limit ≤ lb shop (word ++ job ∷ []) = (let a = c.if-least-limit.false in omega arith)
+    in record {
+      kids = now.kids;
+      stack = now.stack;
+      trying = turn_counted some now.trying c.loop-index.self.current.value high (λ more. now.branching.state);
+      branching = now.branching;
+      bounded = now.bounded;
+      more = (let a = now.more in omega arith);
+      sound = now.sound;
+      same = now.same;
+    }
+
+pub try_child-requires-clause-can : goal.try_child-requires-clause-can
+try_child-requires-clause-can g c =
+    let now = c.loop-index.invariant in let word = c.args.branching.now.word.now in let i = c.loop-index.index
+    in let some : 0 < i = (let a = c.loop-index-test.true in omega arith)
+    in let none : Candidate = record { job = 0; own = 0 }
+    in let within : i - 1 < length c.args.branching.now.candidates.now = (let a = now.trying.within in omega arith)
+    in record {
+      word = word;
+      is = (now.branching.state, next_own some now.trying, now.bounded.known (i - 1) none within);
+      fits = next_fits some now.trying
+          (g.met.D.Dispatching.state_is_of_word c.loop-index.self.dispatcher word _ now.branching.state);
+      bound_is = now.branching.bound;
+    }
+
+pub loop-index-preserved-in_default : goal.loop-index-preserved-in_default
+loop-index-preserved-in_default g c =
+    let now = c.loop-index.invariant in let d = c.loop-index.self.dispatcher
+    in let at = c.args.branching.now in let word = at.word.now in let cs = at.candidates.now
+    in let i = c.loop-index.index
+    in let some : 0 < i = (let a = c.loop-index-test.true in omega arith)
+    in let job = (get_or cs (i - 1) (record { job = 0; own = 0 })).job
+    in let high = told_high at.limit (lb (g.D.Dispatching.shop d) (word ++ job ∷ [])) c.try_child.result
+    c.in_default.is (c.try_child.ensures.taken.told word now.branching.state (next_own some now.trying)
+    now.branching.bound)
+    in let left = c.try_child.new.self.current.value in let same = c.try_child.ensures.sound.dispatcher
+    in let state = subst (λ s. g.D.Dispatching.IsStateOf d word s) (sym c.try_child.ensures.current) now.branching.state
+    in record {
+      kids = now.kids;
+      stack = now.stack;
+      trying = rw same (turn_counted some now.trying left high (λ more. state));
+      branching = branching_stays same c.try_child.ensures.current now.branching;
+      bounded = bounded_stays same c.try_child.ensures.kept now.bounded;
+      more = (let a = now.more in omega arith);
+      sound = c.try_child.ensures.sound.states;
+      same = same ∙ now.same;
+    }
+
+pub put_tried-requires-clause-sound : goal.put_tried-requires-clause-sound
+put_tried-requires-clause-sound g c = c.try_child.ensures.sound.states
+
+pub put_tried-requires-clause-slots : goal.put_tried-requires-clause-slots
+put_tried-requires-clause-slots g c =
+    let now = c.loop-index.invariant in let d = c.loop-index.self.dispatcher in let slot = g.D.Dispatching.IsSlot
+    in let a = c.len-from.ensures in let b = c.args.stack.now.ok.0
+    in subst (λ x. AreSlotsFrom (slot x) c.len-from.result c.loop-index.stack.items)
+    (sym c.try_child.ensures.sound.dispatcher)
+    (are_slots c.args.stack.now.items now.kids c.len-from.result (omega arith) c.loop-index.stack.items now.stack
+    (g.D.Dispatching.IsStateOf d) _ now.trying.states (slot d) (g.met.D.Dispatching.state_is_slot d))
+
+pub put_tried-requires-clause-from : goal.put_tried-requires-clause-from
+put_tried-requires-clause-from g c =
+    let now = c.loop-index.invariant in let a = c.len-from.ensures in let b = c.args.stack.now.ok.0
+    in let long = many c.args.stack.now.items now.kids c.len-from.result (omega arith)
+    c.loop-index.stack.items now.stack in omega arith
+
+pub loop-index-preserved : goal.loop-index-preserved
+loop-index-preserved g c =
+    let now = c.loop-index.invariant in let d = c.loop-index.self.dispatcher
+    in let at = c.args.branching.now in let word = at.word.now in let cs = at.candidates.now
+    in let i = c.loop-index.index
+    in let some : 0 < i = (let a = c.loop-index-test.true in omega arith)
+    in let e : c.len-from.result ≡ length c.args.stack.now.items =
+    (let a = c.len-from.ensures in let b = c.args.stack.now.ok.0 in omega arith)
+    in let left = c.put_tried.new.self.current.value
+    in let same = c.put_tried.ensures.sound.dispatcher ∙ c.try_child.ensures.sound.dispatcher
+    in let current = c.in_ok-put_tried.ensures.current ∙ c.try_child.ensures.current
+    in let state = subst (g.D.Dispatching.IsStateOf d word) (sym current) now.branching.state
+    in let kept = tried_kept some now.trying e now.stack c.in_ok-put_tried.ensures.put c.in-Some.is
+    (c.try_child.ensures.taken.told word now.branching.state (next_own some now.trying) now.branching.bound)
+    (c.try_child.ensures.taken.state word now.branching.state (next_own some now.trying))
+    (g.met.D.Dispatching.state_is_of_word d word _ now.branching.state) left (λ more. state)
+    in record {
+      kids = kept.kids;
+      stack = kept.stack;
+      trying = subst (λ x. IsTrying (g.D.Dispatching.IsStateOf x) (g.D.Dispatching.IsCandidate x word)
+          (g.D.Dispatching.shop x) at.limit word cs (i - 1) kept.kids c.loop-index.closed left)
+          (sym same) kept.trying;
+      branching = branching_stays same current now.branching;
+      bounded = bounded_stays same (λ w j known. subst (λ x. g.D.Dispatching.KnowsChild d x w j)
+          (sym c.in_ok-put_tried.ensures.scratch) (c.try_child.ensures.kept w j known)) now.bounded;
+      more = now.more;
+      sound = c.put_tried.ensures.sound.states;
+      same = same ∙ now.same;
+    }
+
+pub returns-clause-children : goal.returns-clause-children
+returns-clause-children g c =
+    let at = c.args.branching.now in let word = at.word.now in let old = c.args.stack.now.items
+    in let mid = c.loop-index.stack.items in let new = c.give_current.new.stack.items
+    in let now = c.loop-index.invariant in let d = c.loop-index.self.dispatcher
+    in let is = g.D.Dispatching.IsStateOf d
+    in let e : c.len-from.result ≡ length old =
+    (let a = c.len-from.ensures in let b = c.args.stack.now.ok.0 in omega arith)
+    in let put = all_tried c.loop-index.index now.kids c.loop-index.closed c.loop-index.self.current.value old mid
+    (let a = c.loop-index-test.false in omega arith) now.stack now.trying
+    in record {
+      put = subst (λ x. HasPutChildren (g.D.Dispatching.IsStateOf x) (g.D.Dispatching.shop x) at.limit word old new
+          c.loop-index.closed) now.same (put_given is (g.D.Dispatching.shop d) at.limit word old mid new
+          c.loop-index.closed c.len-from.result e put c.in_ok-give_current.ensures.given);
+      more = now.more;
+    }
+
+pub put-requires : goal.put-requires
+put-requires g c = let now = c.loop-index.invariant in let a = c.len-from.ensures in let b = c.args.stack.now.ok.0
+    in let long = many c.args.stack.now.items now.kids c.len-from.result (omega arith)
+    c.loop-index.stack.items now.stack in omega arith
+
+pub returns-in_err-put_tried-clause-sound : goal.returns-in_err-put_tried-clause-sound
+returns-in_err-put_tried-clause-sound g c = kept_then c.put_tried.ensures.sound
+    (c.try_child.ensures.sound.dispatcher ∙ c.loop-index.invariant.same)
+
+pub returns-in_err-give_current-clause-sound : goal.returns-in_err-give_current-clause-sound
+returns-in_err-give_current-clause-sound g c = kept_then c.give_current.ensures.sound c.loop-index.invariant.same
+
+pub returns-clause-sound : goal.returns-clause-sound
+returns-clause-sound g c = kept_then c.give_current.ensures.sound c.loop-index.invariant.same
+
+pub returns-in_err-put-clause-sound : goal.returns-in_err-put-clause-sound
+returns-in_err-put-clause-sound g c =
+    record { states = c.loop-index.invariant.sound; dispatcher = c.loop-index.invariant.same }
