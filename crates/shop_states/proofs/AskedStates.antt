@@ -1,12 +1,13 @@
 -- What is known of a word in a layout that numbers machines anew, and of the same word of the instance itself.
 use Rattle.std.proofs.Common.{arith, ◌≡◌, ◌≤◌, ◌∙◌, ℕ, inl, inr, List, [], ◌∷◌, ◌++◌, refl, subst, sym}
 use Rattle.std.specs.Prelude.{Option, Some, None, OnSome}
-use Rattle.shop_lanes.specs.Rows.{Rows}
+use Rattle.shop_lanes.specs.{Rows.Rows, declared.state_lanes.StateLanes.Ghosts}
 use Rattle.shop_model.specs.{Limits.IsWithinLimits, Shop.Shop, Word.IsWord}
 use Rattle.shop_bound.specs.{Bound.lb, Conflicts.conflict, Renumbered.AreAlike}
 use Rattle.shop_layout.specs.LaidOuts.{LaidOutState}
 use Rattle.shop_states.specs.{States.{ListsBelow, TellsBoundBelow, none, listed, closed}, inner.AskedStates.IsKeptFor}
-use Rattle.shop_states.specs.{declared.dispatching.Candidate.Candidate, inner.LaneStates.IsKeptInLanes}
+use Rattle.shop_states.specs.{declared.states.Candidate.Candidate, inner.LaneStates.IsKeptInLanes}
+use Rattle.shop_states.specs.{declared.states.State.State, inner.LaidLanes.rows_in, inner.WordStates.IsStateOf}
 use Rattle.shop_states.{specs.inner.RisingLists.IsIn, proofs.Candidates.candidate_fits}
 
 -- a word that is kept in the layout
@@ -51,11 +52,13 @@ module _ {greatest : ℕ} {d : LaidOutState} {w : List ℕ} {rows : Rows} {nexts
       → IsKeptInLanes greatest d.shop v d.layout rows' nexts' → IsKeptFor greatest d v rows' nexts'
   kept_on after = kept_for of.alike after of.limits
 
-  pub kept_on_some : (v : List ℕ) (rows' : Rows) (nexts' : List ℕ) (told : Option ℕ)
-      → OnSome told (IsKeptInLanes greatest d.shop v d.layout rows' nexts')
-      → OnSome told (IsKeptFor greatest d v rows' nexts')
-  kept_on_some v rows' nexts' (Some b) after = kept_on after
-  kept_on_some v rows' nexts' None after = tt
+-- the state of a longer word follows, if its bound is told
+pub state_on : {L N : Type 0} (g : Ghosts L N) {d : LaidOutState} {w : List ℕ} {rows : Rows} {nexts : List ℕ}
+    → IsKeptFor g.GREATEST d w rows nexts → (v : List ℕ) (s : State L N) (told : Option ℕ)
+    → OnSome told (IsKeptInLanes g.GREATEST d.shop v d.layout (rows_in g d.layout s.lanes) s.next.items)
+    → OnSome told (IsStateOf g d v s)
+state_on g of v s (Some b) after = record { kept = kept_on of after }
+state_on g of v s None after = tt
 
 -- jobs with the same bounds behind them are listed alike
 lists_with : {is : Candidate → Type 0} {limit : ℕ} (shop other : Shop) (w : List ℕ) {js : List ℕ}

@@ -1,10 +1,12 @@
 -- A candidate of a word is dispatched: what that asks for, what is told of its bound, and what is kept.
 use Rattle.std.{proofs.Common.{◌≡◌, ℕ, List, [], ◌∷◌, ◌++◌, max, min, refl, subst}, specs.Prelude.{◌^◌, Option, OnSome}}
+use Rattle.std.{proofs.Common.{ap, arith, length, sym}, specs.Prelude.{Bool, true, false, IsTrue}}
 use Rattle.shop_model.specs.{Limits.IsWithinLimits, Shop.Shop, Word.IsWord}
 use Rattle.shop_bound.specs.Bound.{lb}
-use Rattle.shop_layout.specs.{Lanes.rows_of, Positions.LayoutState}
+use Rattle.shop_layout.specs.{LaidOuts.LaidOutState, Lanes.rows_of, Positions.LayoutState}
 use Rattle.shop_states.specs.{States.TellsBoundBelow, inner.Advances.{CanAdvance, IsAdvancing}}
 use Rattle.shop_states.specs.inner.{Candidates.IsCandidateOf, Ceilings.AreChildCeilings, LaneStates.IsKeptInLanes}
+use Rattle.shop_states.specs.inner.WordStates.{KnowsChild}
 use Rattle.shop_states.proofs.{Candidates.tells_below, OwnSpans.candidate_advancing}
 
 -- the layout that was read is that of the state, and the dispatch is of the candidate's job
@@ -43,3 +45,12 @@ module _ {greatest : ℕ} {l read : LayoutState} (is : read ≡ l) {heads ends n
       → OnSome told (IsKeptInLanes greatest shop (w ++ its ∷ []) read (rows_of read heads' ends') nexts'))
       → OnSome told (IsKeptInLanes greatest shop (w ++ j ∷ []) l (rows_of l heads' ends') nexts')
   candidate_kept {shop} {w} kept fits told heads' ends' nexts' keeps = rw (is, same) at keeps shop w kept fits
+
+-- the ceilings of the child if they are known, or none
+pub its_ceilings : {d : LaidOutState} {w : List ℕ} {j : ℕ} {given kept : List ℕ} (is_known : Bool)
+    → (IsTrue is_known → given ≡ kept) → (is_known ≡ false → given ≡ []) → (IsTrue is_known → KnowsChild d kept w j)
+    → AreChildCeilings d.shop w d.layout j given
+its_ceilings {d} {w} {j} true same none known =
+    subst (λ (cs : List ℕ). AreChildCeilings d.shop w d.layout j cs) (sym (same refl)) (known refl).known
+its_ceilings false same none known = λ rows heads times tails m here on later above.
+    absurd (let long = ap (λ (cs : List ℕ). length cs) (none refl) in omega arith)

@@ -8,7 +8,7 @@ use Rattle.shop_layout.specs.{HeadLimits.latest_end, Lanes.{lanes_on, rows_of}, 
 use Rattle.shop_states.proofs.{CeilingLemmas.IsCeiling, LaneFits.spans_fit, OwnSpans.its_machine}
 use Rattle.shop_states.proofs.{LateHeads.{can_end, can_late, its_word, now_small, second_low}, RaisedHeads.has_blocks}
 use Rattle.shop_states.proofs.LateSpans.{child_ceilings, late_ceiling, settled}
-use Rattle.shop_states.specs.declared.{dispatching.Candidate.Candidate, late_raises.Latest.Latest}
+use Rattle.shop_states.specs.declared.{late_raises.Latest.Latest, states.Candidate.Candidate}
 use Rattle.shop_states.specs.inner.{Advances.IsAdvancing, Ceilings.AreChildCeilings, LaneRaises.{Raise, raise_of}}
 use Rattle.shop_states.specs.inner.{LaneStates.IsKeptInLanes, MachineRaises.{AreEmpty, AreRaisesFit}}
 use Rattle.shop_states.specs.inner.{Raises.{HasBlocks, IsInBlocks}, Watchers.{AreSeen, Watches, no_floor}}

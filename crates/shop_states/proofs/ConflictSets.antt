@@ -4,7 +4,7 @@ use Rattle.shop_lanes.specs.{Marks.positions_among, Spans.AreOwnSpans}
 use Rattle.shop_model.specs.Shop.{Shop}
 use Rattle.shop_bound.specs.Conflicts.{conflict}
 use Rattle.shop_layout.specs.{Lanes.rows_of, Positions.LayoutState}
-use Rattle.shop_states.specs.declared.{candidate_lists.FirstEnd.FirstEnd, dispatching.Candidate.Candidate}
+use Rattle.shop_states.specs.declared.{candidate_lists.FirstEnd.FirstEnd, states.Candidate.Candidate}
 use Rattle.shop_states.specs.inner.Candidates.{AreCandidatesOf, CanList, IsChosenBy, ListsGathered, told_at}
 use Rattle.shop_states.specs.inner.{LaneChoices.{AreNextPlaced, IsAlone, IsJobBelow}, LaneStates.IsKeptInLanes}
 use Rattle.shop_states.specs.inner.{Raises.IsInBlocks, RisingLists.IsGatheredWith}

@@ -1,11 +1,11 @@
--- A state after a dispatch has as much room as before, and so has scratch room.
+-- A state after a dispatch has as much room as before, and so have buffers.
 use Rattle.std.proofs.{Common.{◌≡◌, ◌∙◌, ℕ, List, ap, length, sym, take, drop, ◌++◌}, lemmas.List.length-set}
 use Rattle.std.specs.{Prelude.Vec, declared.alloc.Global.Global}
 use Rattle.shop_lanes.specs.Rows.{Rows}
 use Rattle.shop_model.specs.Shop.{Shop}
 use Rattle.shop_layout.{proofs.Written.written_vec, specs.{LaidOuts.LaidOutState, Positions.LayoutState}}
 use Rattle.shop_states.specs.{declared.beginnings.Beginning.Beginning, inner.{AskedStates.IsKeptFor, LaneRaises.Raise}}
-use Rattle.shop_states.specs.inner.{LaneStates.{GoesOn, HasRoom}, MachineRaises.AreEmpty, Scratches.IsScratchOf}
+use Rattle.shop_states.specs.inner.{LaneStates.{GoesOn, HasRoom}, MachineRaises.AreEmpty, Buffers.AreBuffersOf}
 
 -- so does a vector whose slice was written
 pub long_kept : {A : Type 0} (v : Vec A Global) {given : List A} (after : List A) {n : ℕ} → given ≡ v.items
@@ -35,11 +35,11 @@ module _ {greatest : ℕ} {d : LaidOutState} {w : List ℕ} {rows : Rows} {nexts
       (ap (λ (r : Rows). length r.ends) on.ends ∙ (length-set mid.ends job _ ∙ jobs))
       (ap length (written_vec v given after read long) ∙ (long ∙ ap length read ∙ ap length is))
 
-pub scratch_kept : {shop : Shop} {l : LayoutState} {ready free owns numbers now : ℕ} {beginning : Beginning}
-    {raises after : List Raise} → IsScratchOf shop l ready free beginning raises owns numbers
+pub buffers_kept : {shop : Shop} {l : LayoutState} {ready free owns numbers now : ℕ} {beginning : Beginning}
+    {raises after : List Raise} → AreBuffersOf shop l ready free beginning raises owns numbers
     → length after ≡ length raises → AreEmpty after → now ≡ numbers
-    → IsScratchOf shop l ready free beginning after owns now
-scratch_kept of long empty same = record {
+    → AreBuffersOf shop l ready free beginning after owns now
+buffers_kept of long empty same = record {
   jobs_ready = of.jobs_ready;
   machines_free = of.machines_free;
   begun = of.begun;

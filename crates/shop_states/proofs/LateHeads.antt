@@ -7,7 +7,7 @@ use Rattle.shop_lanes.specs.Rows.{Rows}
 use Rattle.shop_model.specs.{Shop.{Shop, IsOperation, machine_of}, Word.{IsWord, place_next, placing}}
 use Rattle.shop_layout.specs.{HeadLimits.latest_end, Lanes.rows_of, Positions.{LayoutState, first_position, place}}
 use Rattle.shop_layout.proofs.LaidPlaces.{place_of}
-use Rattle.shop_states.specs.declared.{dispatching.Candidate.Candidate, late_raises.Latest.Latest}
+use Rattle.shop_states.specs.declared.{late_raises.Latest.Latest, states.Candidate.Candidate}
 use Rattle.shop_states.specs.inner.{LaneHeads.AreHeadsAt, LaneStates.IsKeptInLanes, Watchers.floor_on}
 use Rattle.shop_states.specs.inner.Raises.{AreInRouteOrder, IsInBlocks, IsOnMachine, IsRaised, at_in, steps_of}
 use Rattle.shop_states.specs.inner.Siblings.{AreLatest, AreSiblings, CanEnd, CanRaiseBehind, IsAmong, IsLateAt}

@@ -6,7 +6,7 @@ use Rattle.shop_model.{specs.{Shop.{Shop, machine_of}, Word.{Placing, place_next
 use Rattle.shop_bound.specs.Bound.{lb}
 use Rattle.shop_layout.specs.{HeadLimits.latest_end, Lanes.{lanes_on, rows_of}, Positions.LayoutState}
 use Rattle.shop_layout.proofs.LaneLimits.{blocks_within}
-use Rattle.shop_states.specs.{inner.{LaneHeads.AreHeadsAt, Watchers.floor_on}, declared.dispatching.Candidate.Candidate}
+use Rattle.shop_states.specs.{inner.{LaneHeads.AreHeadsAt, Watchers.floor_on}, declared.states.Candidate.Candidate}
 use Rattle.shop_states.specs.{inner.{Raises.IsInBlocks, Ceilings.AreChildCeilings}, declared.late_raises.Latest.Latest}
 use Rattle.shop_states.specs.inner.{LaneRaises.Raise, Advances.IsAdvancing, LaneStates.{AreHeadsInLanes, IsKeptInLanes}}
 use Rattle.shop_states.specs.inner.Siblings.{AreLatest, AreSiblings, IsAmong, IsLateAt, RaisesBehind, end_by}

@@ -1,7 +1,7 @@
 -- The latest end of some candidates and that of the others, candidate by candidate.
 use Rattle.std.proofs.Common.{◌≡◌, ℕ, ◌+◌, ◌≤◌, ◌<◌, ◌⊎◌, inl, inr, List, length, sym, ◌∙◌, ap, arith}
 use Rattle.std.proofs.lemmas.Bool.{cases_eq}
-use Rattle.shop_states.specs.declared.{dispatching.Candidate.Candidate, late_raises.Latest.Latest}
+use Rattle.shop_states.specs.declared.{late_raises.Latest.Latest, states.Candidate.Candidate}
 use Rattle.shop_states.specs.inner.Siblings.{IsAmong, job_at}
 
 -- of the first n candidates

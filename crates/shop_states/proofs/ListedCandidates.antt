@@ -2,7 +2,7 @@
 use Rattle.std.proofs.Common.{ℕ, zero, suc, ◌<◌, inl, inr, List, length, get_or, arith}
 use Rattle.shop_model.specs.{Shop.Shop, Word.{IsWord, placing}}
 use Rattle.shop_bound.specs.Conflicts.{conflict, open_jobs}
-use Rattle.shop_states.specs.{States.{ListsBelow, none, listed, closed}, declared.dispatching.Candidate.Candidate}
+use Rattle.shop_states.specs.{States.{ListsBelow, none, listed, closed}, declared.states.Candidate.Candidate}
 use Rattle.shop_states.specs.inner.{RisingLists.IsIn, Siblings.{AreSiblings, job_at}}
 use Rattle.shop_states.proofs.{Candidates.candidate_fits, OwnSpans.on_one}
 

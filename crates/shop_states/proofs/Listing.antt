@@ -4,7 +4,7 @@ use Rattle.std.proofs.{Common.{◌∙◌, ap, subst, append_assoc, arith}, lemma
 use Rattle.std.proofs.{lemmas.List.append-nil, Math.Seq.take-append-add}
 use lib.Dec.{leb}
 use mir.Val.{bool_byte}
-use Rattle.shop_states.specs.declared.dispatching.Candidate.{Candidate}
+use Rattle.shop_states.specs.declared.states.Candidate.{Candidate}
 use Rattle.shop_states.specs.inner.Candidates.{ListsOwn, empty, left_out, taken}
 
 module _ (limit : ℕ) (own : ℕ → ℕ) where

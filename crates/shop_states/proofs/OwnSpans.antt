@@ -11,7 +11,7 @@ use Rattle.shop_bound.specs.{Bound.lb, Conflicts.{conflict, conflict_among, conf
 use Rattle.shop_states.specs.{inner.Advances.{IsAdvancing, foreseen}, States.{ListsBelow, none, listed, closed}}
 use Rattle.shop_states.specs.inner.Candidates.{AreCandidatesOf, IsCandidateOf, IsTold, ListsOwn, own_at, empty}
 use Rattle.shop_states.specs.inner.{Candidates.{left_out, taken, told_at}, LaneHeads.AreHeadsAt, RisingLists.IsIn}
-use Rattle.shop_states.specs.{inner.LaneStates.IsKeptInLanes, declared.dispatching.Candidate.Candidate}
+use Rattle.shop_states.specs.{inner.LaneStates.IsKeptInLanes, declared.states.Candidate.Candidate}
 use Rattle.shop_states.proofs.{Candidates.{advancing, candidate_fits, foreseen_least}, ChildRaises.heads_small}
 use Rattle.shop_states.proofs.{ChildReads.{head_here, is_operation, machine_here}, LaneConflicts.in_filter}
 use Rattle.shop_states.proofs.{LaneFits.{AreSpansFit, spans_fit}, StateSteps.{next_at, next_known}}

@@ -19,6 +19,7 @@ pub mod Fills
 pub mod LaneStates
 pub mod PlacedNexts
 pub mod Siblings
-pub mod Scratches
+pub mod Buffers
+pub mod WordStates
 pub mod StateCopies
 pub mod AskedStates

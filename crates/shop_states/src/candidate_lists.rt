@@ -10,10 +10,9 @@ ghost use Rattle.shop_states.specs.inner.RisingLists.{IsGatheredWith, IsIn};
 ghost use Rattle.shop_layout.specs.Positions.{HoldsMachines};
 
 use crate::dispatches::marks_end;
-use crate::dispatching::Candidate;
 use crate::job_sets::JOBS_PER_NUMBER;
 use crate::lane_choices::{ConflictBlocks, conflict_set, is_alone};
-use crate::states::State;
+use crate::states::{Candidate, State};
 use shop_lanes::{Marks, StateLanes};
 use shop_layout::Grid;
 

@@ -9,10 +9,10 @@ ghost use Rattle.shop_states.specs.inner.{Advances.IsAdvancing, Ceilings.AreChil
 ghost use Rattle.shop_states.specs.inner.{LaneStates.IsKeptInLanes, MachineRaises.AreEmpty};
 ghost use Rattle.shop_states.specs.inner.Siblings.{AreLatest, AreSiblings, CanBoundChildren, CanEnd, end_by, job_at};
 
-use crate::dispatching::Candidate;
 use crate::lane_bounds::LaidLanes;
 use crate::late_raises::{LateMachine, Latest};
 use crate::machine_raises::MachineRaises;
+use crate::states::Candidate;
 use shop_lanes::StateLanes;
 use shop_layout::{Grid, Routes};
 

@@ -1,13 +1,21 @@
-// The state of a word.
+// The state of a word, and its candidates.
 use shop_lanes::StateLanes;
 
-/// The state of a word: the head of each waiting operation, by position, and each job's next operation with its end.
-/// A time *in lanes* is one higher than the time that it means, so that a head of 0 says that nothing waits. The one is
-/// added to heads and ends in `fills.rt`, and to the range of a bound in `machine_raises.rt`; it is taken off bounds
-/// there, and off own spans in `candidate_lists.rt`.
+/// The state of a word: the head of each waiting operation, by position, and each job's next operation with its end;
+/// or mere room for one. Heads and ends *in lanes* are one higher than the times that they mean, so that a head of 0
+/// says that nothing waits; times and tails are as they are. The one is added to heads and ends in `fills.rt`, and to
+/// the range of a bound in `machine_raises.rt`; it is taken off bounds there, and off own spans in `candidate_lists.rt`.
 #[derive(Drop)]
 pub struct State<L: StateLanes> {
     pub(crate) lanes: L,
     /// next[job]: the position of the job's next operation, or the number of positions if none is left
     pub(crate) next: Vec<u32>,
+}
+
+/// A job of a word's conflict set. `own` is a lower bound of the word extended by `job` that considers only the machine
+/// of the job's next operation.
+#[derive(Clone, Copy, Debug)]
+pub struct Candidate {
+    pub job: u16,
+    pub own: u64,
 }

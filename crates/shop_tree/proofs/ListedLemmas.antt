@@ -4,7 +4,7 @@ use Rattle.std.proofs.Common.{◌∙◌, ap, subst, arith, append-nil}
 use Rattle.shop_model.specs.{Shop.Shop, Word.IsWord}
 use Rattle.shop_bound.specs.Bound.{lb}
 use Rattle.shop_states.specs.{States.ListsBelow, States.ListsBelow.{none, listed, closed}}
-use Rattle.shop_states.specs.declared.dispatching.Candidate.{Candidate}
+use Rattle.shop_states.specs.declared.states.Candidate.{Candidate}
 use Rattle.shop_nodes.{specs.{Branching.conflict, declared.halts.Open.Open}, proofs.ChildrenLemmas.child-word}
 use Rattle.shop_tree.{specs.inner.Opens.{AreChildren, IsPlaceAbove}, proofs.AddLemmas.conflict_few}
 use Rattle.shop_tree.proofs.PushLemmas.{IsGathered, gathered_none, gathered_open, gathered_other, all_gathered}

@@ -7,7 +7,7 @@ use Rattle.shop_nodes.specs.Halts.{word_at}
 use Rattle.shop_tree.specs.{declared.held.Held.Held, inner.Held.{IsHeldOf, IsKept, Kept, held, opens_in}}
 use Rattle.shop_tree.specs.inner.Tried.{AreSlotsFrom, HasPutTried, HasStripped}
 use Rattle.shop_tree.proofs.TrialLemmas.{IsTrying, tried_child, turn_kept}
-use Rattle.shop_states.specs.{States.TellsBoundBelow, declared.dispatching.Candidate.Candidate}
+use Rattle.shop_states.specs.{States.TellsBoundBelow, declared.states.Candidate.Candidate}
 use Rattle.shop_model.specs.{Shop.Shop, Word.IsWord}
 use Rattle.shop_bound.specs.Bound.{lb}
 

@@ -20,7 +20,7 @@ use Rattle.shop_bound.specs.{Bound.lb, Conflicts.conflict}
 use Rattle.shop_states.specs.{States.ListsBelow, inner.LaneChoices.{AreConflictBlocks, AreNextPlaced, IsJobBelow}}
 use Rattle.shop_states.specs.inner.{LaneHeads.AreHeadsAt, LaneStates.IsKeptInLanes, RisingLists.{IsGatheredWith, IsIn}}
 use Rattle.shop_states.specs.inner.Raises.{HasBlocks, IsInBlocks, IsOnMachine}
-use Rattle.shop_states.specs.declared.{dispatching.Candidate.Candidate, lane_choices.ConflictBlocks.ConflictBlocks}
+use Rattle.shop_states.specs.declared.{lane_choices.ConflictBlocks.ConflictBlocks, states.Candidate.Candidate}
 use Rattle.shop_states.specs.declared.candidate_lists.FirstEnd.{FirstEnd}
 use Rattle.shop_layout.specs.Positions.{LayoutState, place}
 

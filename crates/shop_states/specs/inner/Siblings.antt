@@ -30,7 +30,7 @@ use Rattle.shop_model.specs.{Shop.{Shop, machine_of}, Word.{IsWord, placing}}
 use Rattle.shop_bound.specs.Bound.{lb}
 use Rattle.shop_layout.specs.{Lanes.lanes_on, Positions.{LayoutState, place}}
 use Rattle.shop_states.specs.inner.Raises.{AreInRouteOrder, IsFollowed, IsInBlocks, IsIndexed, IsPlace, at_in, steps_of}
-use Rattle.shop_states.specs.{declared.late_raises.LateMachine.LateMachine, declared.dispatching.Candidate.Candidate}
+use Rattle.shop_states.specs.{declared.late_raises.LateMachine.LateMachine, declared.states.Candidate.Candidate}
 use Rattle.shop_states.specs.{inner.LaneRaises.{Raise, raise_of}, declared.late_raises.Latest.Latest}
 use Rattle.shop_states.specs.inner.Watchers.{Watches, no_floor}
 use Rattle.shop_states.specs.{inner.LaneStates.IsKeptInLanes, inner.MachineRaises.{AreEmpty, AreListed}}

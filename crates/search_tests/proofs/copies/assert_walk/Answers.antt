@@ -4,7 +4,7 @@ use Rattle.shop_model.specs.Shop.{Shop}
 use Rattle.shop_model.specs.Word.{IsWord}
 use Rattle.shop_bound.specs.Conflicts.{conflict}
 use Rattle.shop_states.specs.States.{ListsBelow}
-use Rattle.shop_states.specs.declared.dispatching.Candidate.{Candidate}
+use Rattle.shop_states.specs.declared.states.Candidate.{Candidate}
 use Rattle.shop_states.proofs.Candidates.{candidate_fits}
 use Rattle.shop_states.proofs.ListedCandidates.{listed_at}
 use Rattle.search_tests.proofs.KnownChildren.{still_known}

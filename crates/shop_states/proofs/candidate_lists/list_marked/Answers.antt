@@ -1,7 +1,7 @@
 use Rattle.std.proofs.Common.{ℕ, ◌≡◌, ◌+◌, List, ◌++◌, ◌∷◌, [], inl, inr, sym, ◌∙◌, length, map, subst, arith}
 use Rattle.std.proofs.lemmas.Grind.{common_steps}
 use Rattle.std.proofs.{Common.{append_assoc, refl}, lemmas.List.{get_or-map, length-append, length-take}}
-use Rattle.shop_states.specs.{declared.dispatching.Candidate.Candidate, inner.{Candidates.told_at, RisingLists.IsIn}}
+use Rattle.shop_states.specs.{declared.states.Candidate.Candidate, inner.{Candidates.told_at, RisingLists.IsIn}}
 use Rattle.shop_states.proofs.Listing.{begun, ended, one_more, regrouped}
 use Rattle.shop_states.proofs.candidate_lists.list_marked.Goals as goal
 

@@ -2,7 +2,7 @@ use Rattle.std.proofs.Common.{◌≡◌, ◌<◌, ◌≤◌, ◌-◌, [], ◌∷
 use Rattle.std.{proofs.Common.{length, refl}, specs.List.insert}
 use Rattle.shop_model.proofs.WordLengths.{word_length}
 use Rattle.shop_bound.specs.Bound.{lb}
-use Rattle.shop_states.specs.declared.dispatching.Candidate.{Candidate}
+use Rattle.shop_states.specs.declared.states.Candidate.{Candidate}
 use Rattle.shop_tree.{specs.inner.Tried.{AreSlotsFrom, HasPutChildren}, proofs.AddLemmas.conflict_few}
 use Rattle.shop_tree.proofs.{StripLemmas.{are_slots, many, tried_kept}, SiblingLemmas.{bounded_stays, branching_stays}}
 use Rattle.shop_tree.proofs.{SiblingLemmas.{kept_then, put_given, settled_bound, settled_child}, TrialLemmas.IsTrying}

@@ -1,10 +1,10 @@
 use Rattle.std.proofs.Common.{arith, ◌≡◌, ℕ, List, refl, subst}
 use Rattle.shop_model.specs.Shop.{Shop}
 use Rattle.shop_layout.specs.{Lanes.rows_of, Positions.LayoutState}
-use Rattle.shop_states.specs.{declared.dispatching.Candidate.Candidate, inner.Candidates.AreCandidatesOf}
+use Rattle.shop_states.specs.{declared.states.Candidate.Candidate, inner.Candidates.AreCandidatesOf}
 use Rattle.shop_states.{specs.inner.LaneStates.IsKeptInLanes, proofs.{AskedStates.listed_there, KeptRoom.long_kept}}
 use Rattle.shop_states.proofs.ReadStates.{kept_read}
-use Rattle.shop_states.proofs.dispatchers.LaidOutDispatchingState.list_candidates.Goals as goal
+use Rattle.shop_states.proofs.dispatchers.Dispatcher.list_candidates.Goals as goal
 
 gathered : (greatest : ℕ) (shop : Shop) (l read : LayoutState) → read ≡ l → (heads ends nexts : List ℕ)
     → (limit : ℕ) (cs : List Candidate) (others : ℕ)
@@ -16,17 +16,20 @@ gathered greatest shop l read is heads ends nexts limit cs others are w kept =
     subst (λ (x : LayoutState). AreCandidatesOf shop w x limit cs others) is (are shop w (kept_read is refl kept))
 
 pub list_candidates-requires-clause-can : goal.list_candidates-requires-clause-can
-list_candidates-requires-clause-can g c = record {
-  shop = c.args.self.now.shop;
-  word = c.requires.state.word;
-  kept = kept_read c.grid.ensures.grid refl c.requires.state.is.kept;
-}
+list_candidates-requires-clause-can g c =
+    let state = rw (← c.self.view_is) at c.requires.state
+    in record {
+      shop = c.self.inside.laid_out.shop;
+      word = state.word;
+      kept = kept_read c.grid.ensures.grid refl state.is.kept.kept;
+    }
 
 pub returns-clause-listed : goal.returns-clause-listed
-returns-clause-listed g c = λ w of. listed_there of (gathered g.L.StateLanes.GREATEST c.args.self.now.shop
-    c.args.self.now.layout c.grid.result.now c.grid.ensures.grid (g.L.StateLanes.heads c.args.state.now.lanes)
+returns-clause-listed g c = rw (← c.self.view_is) (λ w of. listed_there of.kept
+    (gathered g.L.StateLanes.GREATEST c.self.inside.laid_out.shop
+    c.self.inside.laid_out.layout c.grid.result.now c.grid.ensures.grid (g.L.StateLanes.heads c.args.state.now.lanes)
     (g.L.StateLanes.ends c.args.state.now.lanes) c.args.state.now.next.items c.args.limit
-    c.list_candidates.new.candidates.items c.list_candidates.result c.list_candidates.ensures.are w of.kept)
+    c.list_candidates.new.candidates.items c.list_candidates.result c.list_candidates.ensures.are w of.kept.kept))
 
-pub returns-clause-scratch : goal.returns-clause-scratch
-returns-clause-scratch g c = grind (arith, long_kept)
+pub invariant_of-self : goal.invariant_of-self
+invariant_of-self g c = grind (arith, long_kept)

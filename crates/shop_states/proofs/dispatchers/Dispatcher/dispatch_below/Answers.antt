@@ -1,0 +1,103 @@
+use Rattle.std.proofs.{Common.{ℕ, List, ◌∙◌, ap, arith, length, refl}, lemmas.List.length-set}
+use Rattle.shop_layout.{specs.Positions.LayoutState, proofs.Written.written_vec}
+use Rattle.shop_states.proofs.{CandidateDispatches.{candidate_can, candidate_told}, ReadStates.kept_read}
+use Rattle.shop_states.proofs.{AskedStates.{bound_there, kept_on, told_behind}, Trials.{its_job, its_position}}
+use Rattle.shop_states.proofs.KeptRoom.{buffers_kept, room_behind}
+use Rattle.shop_states.proofs.dispatchers.Dispatcher.dispatch_below.Goals as goal
+
+pub of-dispatch-requires : goal.of-dispatch-requires
+of-dispatch-requires g c =
+    let can = rw (← c.self.view_is) at c.requires.can
+    in record {
+      shop = c.self.inside.laid_out.shop;
+      word = can.word;
+      kept = kept_read c.grid-grid.ensures.grid refl can.is.0.kept.kept;
+      fits = can.is.1.fits;
+    }
+
+pub advance_below-requires-clause-can : goal.advance_below-requires-clause-can
+advance_below-requires-clause-can g c =
+    let can = rw (← c.self.view_is) at c.requires.can
+    in rw c.as_slice-next.ensures.value (candidate_can c.grid-grid.ensures.grid c.of-dispatch.ensures.job
+    can.is.0.kept.kept can.is.1 (bound_there can.is.0.kept can.bound_is) c.range_of-range.ensures.least
+    c.self.invariant.machines (λ rows heads times tails m here known later above.
+    absurd (let none = ap (λ (xs : List ℕ). length xs) c.range_of-range.ensures.ceilings in omega arith)))
+
+pub advance_below-requires-clause-at_rest : goal.advance_below-requires-clause-at_rest
+advance_below-requires-clause-at_rest g c = c.self.invariant.at_rest
+
+pub returns-in_err-told-clause-dispatched : goal.returns-in_err-told-clause-dispatched
+returns-in_err-told-clause-dispatched g c = rw (← c.self.view_is) (record {
+  bounded = λ w of bound_is.
+      let told = told_behind of.0.kept c.args.candidate.job c.args.limit c.advance_below.result of.1.fits
+      (candidate_told c.grid-grid.ensures.grid c.of-dispatch.ensures.job of.0.kept.kept of.1
+      (bound_there of.0.kept bound_is) c.range_of-range.ensures.least c.grid-grid.ensures.ready.limits c.args.limit
+      c.range_of-range.ensures.limit c.advance_below.result
+      (rw c.as_slice-next.ensures.value at c.advance_below.ensures.told))
+      in grind arith;
+  state = λ w of. grind arith;
+})
+
+pub set_next-requires-clause-job : goal.set_next-requires-clause-job
+set_next-requires-clause-job g c =
+    let can = rw (← c.self.view_is) at c.requires.can
+    in rw c.as_mut_slice.ensures.value (its_job can.is.0.kept.kept c.args.candidate.job can.is.1.fits)
+
+pub set_next-requires-clause-position : goal.set_next-requires-clause-position
+set_next-requires-clause-position g c =
+    let can = rw (← c.self.view_is) at c.requires.can in let kept = can.is.0.kept.kept
+    in let here = its_position kept c.args.candidate.job can.is.1.fits
+    (rw c.of-dispatch.ensures.job at c.of-dispatch.ensures.is.position_is)
+    in let following = kept.kept.laid.positions.following in let long = kept.kept.heads.positions
+    in let same = ap (λ (l : LayoutState). length l.following) c.grid-grid.ensures.grid in omega arith
+
+pub set_next-requires-clause-keep : goal.set_next-requires-clause-keep
+set_next-requires-clause-keep g c = rw c.as_mut_slice.ensures.value (rw (
+  c.of-dispatch.ensures.job,
+  c.as_slice-next.ensures.value,
+) at c.in_ok-told.ensures.ready.keep)
+
+pub set_next-requires-clause-times : goal.set_next-requires-clause-times
+set_next-requires-clause-times g c =
+    let can = rw (← c.self.view_is) at c.requires.can in let kept = can.is.0.kept.kept
+    in let long = kept.kept.heads.positions in let timed = kept.kept.laid.positions.times
+    in let same = ap (λ (l : LayoutState). length l.times) c.grid-grid.ensures.grid
+    in let kept_long = c.advance_below.ensures.positions in omega arith
+
+pub returns-clause-dispatched : goal.returns-clause-dispatched
+returns-clause-dispatched g c = rw (← c.self.view_is) (record {
+  bounded = λ w of bound_is.
+      let told = told_behind of.0.kept c.args.candidate.job c.args.limit c.advance_below.result of.1.fits
+      (candidate_told c.grid-grid.ensures.grid c.of-dispatch.ensures.job of.0.kept.kept of.1
+      (bound_there of.0.kept bound_is) c.range_of-range.ensures.least c.grid-grid.ensures.ready.limits c.args.limit
+      c.range_of-range.ensures.limit c.advance_below.result
+      (rw c.as_slice-next.ensures.value at c.advance_below.ensures.told))
+      in grind arith;
+  state = λ w of.
+      let ready = rw (c.grid-grid.ensures.grid, c.of-dispatch.ensures.job, c.as_slice-next.ensures.value)
+      at c.in_ok-told.ensures.ready
+      in let on = rw (c.grid-grid.ensures.grid, c.as_mut_slice.ensures.value) at c.set_next.ensures
+      in let long = ap (λ (ns : List ℕ). length ns) c.set_next.ensures.are_next
+      ∙ length-set c.as_mut_slice.result.now _ _
+      in let whole = written_vec c.args.state.now.next c.as_mut_slice.result.now c.set_next.new.next
+      c.as_mut_slice.ensures.value long
+      in record {
+        kept = rw whole (kept_on of.0.kept (ready.kept c.self.inside.laid_out.shop w of.0.kept.kept of.1.fits _ _ on));
+      };
+})
+
+pub returns-clause-slot : goal.returns-clause-slot
+returns-clause-slot g c =
+    let can = rw (← c.self.view_is) at c.requires.can
+    in rw (← c.self.view_is) (record {
+      room = room_behind can.is.0.kept c.args.state.now.next refl c.as_mut_slice.ensures.value
+          c.advance_below.ensures.positions c.advance_below.ensures.ends c.set_next.ensures;
+    })
+
+pub invariant_of-self : goal.invariant_of-self
+invariant_of-self g c =
+    buffers_kept c.self.invariant c.advance_below.ensures.machines c.advance_below.ensures.rest refl
+
+pub invariant_of-self-2 : goal.invariant_of-self-2
+invariant_of-self-2 g c =
+    buffers_kept c.self.invariant c.advance_below.ensures.machines c.advance_below.ensures.rest refl

@@ -1,0 +1,29 @@
+use Rattle.std.proofs.Common.{refl}
+use Rattle.shop_states.proofs.{AskedStates.kept_on, ReadStates.kept_read}
+use Rattle.shop_states.proofs.dispatchers.Dispatcher.dispatch_settled.Goals as goal
+
+pub of-dispatch-requires : goal.of-dispatch-requires
+of-dispatch-requires g c =
+    let has = rw (← c.self.view_is) at c.requires
+    in record {
+      shop = c.self.inside.laid_out.shop;
+      word = has.word;
+      kept = kept_read c.grid-grid.ensures.grid refl has.is.0.kept.kept;
+      fits = has.is.1.fits;
+    }
+
+pub advance_unbounded-requires-clause-can : goal.advance_unbounded-requires-clause-can
+advance_unbounded-requires-clause-can g c =
+    let has = rw (← c.self.view_is) at c.requires
+    in record {
+      shop = c.self.inside.laid_out.shop;
+      word = has.word;
+      kept = kept_read c.grid-grid.ensures.grid refl has.is.0.kept.kept;
+      fits = rw c.of-dispatch.ensures.job has.is.1.fits;
+    }
+
+pub returns-clause-state : goal.returns-clause-state
+returns-clause-state g c = rw (← c.self.view_is) (λ w of. record {
+  kept = kept_on of.0.kept (rw (c.grid-grid.ensures.grid, c.of-dispatch.ensures.job)
+      at c.advance_unbounded.ensures.state c.self.inside.laid_out.shop w of.0.kept.kept of.1.fits);
+})
