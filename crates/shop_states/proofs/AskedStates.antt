@@ -3,11 +3,11 @@ use Rattle.std.proofs.Common.{arith, ◌≡◌, ◌≤◌, ◌∙◌, ℕ, inl, 
 use Rattle.std.specs.Prelude.{Option, Some, None, OnSome}
 use Rattle.shop_lanes.specs.{Rows.Rows, declared.state_lanes.StateLanes.Ghosts}
 use Rattle.shop_model.specs.{Limits.IsWithinLimits, Shop.Shop, Word.IsWord}
-use Rattle.shop_bound.specs.{Bound.lb, Conflicts.conflict, Renumbered.AreAlike}
+use Rattle.shop_bound.specs.{Bound.lb, Conflicts.{conflict, SoleCandidateKeepsBound}, Renumbered.AreAlike}
 use Rattle.shop_layout.specs.LaidOuts.{LaidOutState}
 use Rattle.shop_states.specs.{States.{ListsBelow, TellsBoundBelow, none, listed, closed}, inner.AskedStates.IsKeptFor}
 use Rattle.shop_states.specs.{declared.states.Candidate.Candidate, inner.LaneStates.IsKeptInLanes}
-use Rattle.shop_states.specs.{declared.states.State.State, inner.LaidLanes.rows_in, inner.WordStates.IsStateOf}
+use Rattle.shop_states.specs.{declared.states.State.State, inner.LaidLanes.rows_in, inner.WordStates.{IsStateOf, state}}
 use Rattle.shop_states.{specs.inner.RisingLists.IsIn, proofs.Candidates.candidate_fits}
 
 -- a word that is kept in the layout
@@ -52,12 +52,26 @@ module _ {greatest : ℕ} {d : LaidOutState} {w : List ℕ} {rows : Rows} {nexts
       → IsKeptInLanes greatest d.shop v d.layout rows' nexts' → IsKeptFor greatest d v rows' nexts'
   kept_on after = kept_for of.alike after of.limits
 
+-- what is known of the state of a word
+module _ {L N : Type 0} {g : Ghosts L N} {d : LaidOutState} {w : List ℕ} {s : State L N} where
+  pub kept_of : IsStateOf g d w s → IsKeptFor g.GREATEST d w (rows_in g d.layout s.lanes) s.next.items
+  kept_of (state is) = is
+
+  pub word_of : IsStateOf g d w s → IsWord d.asked w
+  word_of is = (kept_of is).word
+
+  pub limits_of : IsStateOf g d w s → IsWithinLimits d.asked
+  limits_of is = (kept_of is).limits
+
+  pub sole_of : IsStateOf g d w s → SoleCandidateKeepsBound d.asked w
+  sole_of is = (kept_of is).sole
+
 -- the state of a longer word follows, if its bound is told
 pub state_on : {L N : Type 0} (g : Ghosts L N) {d : LaidOutState} {w : List ℕ} {rows : Rows} {nexts : List ℕ}
     → IsKeptFor g.GREATEST d w rows nexts → (v : List ℕ) (s : State L N) (told : Option ℕ)
     → OnSome told (IsKeptInLanes g.GREATEST d.shop v d.layout (rows_in g d.layout s.lanes) s.next.items)
     → OnSome told (IsStateOf g d v s)
-state_on g of v s (Some b) after = record { kept = kept_on of after }
+state_on g of v s (Some b) after = state (kept_on of after)
 state_on g of v s None after = tt
 
 -- jobs with the same bounds behind them are listed alike

@@ -1,11 +1,13 @@
 -- A state after a dispatch has as much room as before, and so have buffers.
 use Rattle.std.proofs.{Common.{◌≡◌, ◌∙◌, ℕ, List, ap, length, sym, take, drop, ◌++◌}, lemmas.List.length-set}
 use Rattle.std.specs.{Prelude.Vec, declared.alloc.Global.Global}
-use Rattle.shop_lanes.specs.Rows.{Rows}
+use Rattle.shop_lanes.specs.{Rows.Rows, declared.state_lanes.StateLanes.Ghosts}
 use Rattle.shop_model.specs.Shop.{Shop}
 use Rattle.shop_layout.{proofs.Written.written_vec, specs.{LaidOuts.LaidOutState, Positions.LayoutState}}
 use Rattle.shop_states.specs.{declared.beginnings.Beginning.Beginning, inner.{AskedStates.IsKeptFor, LaneRaises.Raise}}
-use Rattle.shop_states.specs.inner.{LaneStates.{GoesOn, HasRoom}, MachineRaises.AreEmpty, Buffers.AreBuffersOf}
+use Rattle.shop_states.specs.inner.{Buffers.AreBuffersOf, LaneStates.{GoesOn, HasRoom}, MachineRaises.AreEmpty}
+use Rattle.shop_states.specs.{declared.states.State.State, inner.WordStates.{IsSlot, IsStateOf}}
+use Rattle.shop_states.proofs.AskedStates.{kept_of}
 
 -- so does a vector whose slice was written
 pub long_kept : {A : Type 0} (v : Vec A Global) {given : List A} (after : List A) {n : ℕ} → given ≡ v.items
@@ -48,3 +50,16 @@ buffers_kept of long empty same = record {
   holds = of.holds;
   ceilings = same ∙ of.ceilings;
 }
+
+-- the state of a word is room for one
+pub slot_of : {L N : Type 0} {g : Ghosts L N} {d : LaidOutState} {w : List ℕ} {s : State L N} → IsStateOf g d w s
+    → IsSlot g d s
+slot_of is =
+    let of = kept_of is
+    in record {
+      room = record {
+        positions = of.kept.kept.heads.positions;
+        jobs_with_ends = of.kept.ends.jobs;
+        jobs_with_nexts = of.kept.are_next.jobs;
+      };
+    }

@@ -1,27 +1,30 @@
 -- An entry that is taken off the stack: the states below it, and a turn with it.
 use Rattle.std.proofs.Common.{◌≡◌, ◌≤◌, ◌<◌, ◌∙◌, List, [], ◌∷◌, ◌++◌, ap, arith, subst, sym}
 use Rattle.std.proofs.lemmas.List.Elements.{All-from_recursion, recursion_from_All}
-use Rattle.shop_states.specs.declared.dispatching.Dispatching.{Ghosts}
+use Rattle.shop_lanes.specs.declared.state_lanes.StateLanes.{Ghosts}
 use Rattle.shop_nodes.specs.declared.halts.Waiting.{Waiting}
 use Rattle.shop_tree.specs.{declared.{held.Held.Held, walkers.Walker.Walker}, inner.Held.{IsHeld, waiting_in}}
-use Rattle.shop_tree.specs.inner.StateWalkers.{stage_of, HasStates, KeepsStates}
+use Rattle.shop_tree.specs.inner.StateWalkers.{stage_of, AreHeld, HasStates}
 use Rattle.shop_tree.specs.inner.Walkers.{on_top, stack_walk, turns_left, IsInOrder, IsTurn, Stage}
 use Rattle.shop_tree.proofs.{ListLemmas.all_front, StateLemmas.waiting_pushed}
+use Rattle.shop_states.specs.inner.WordStates.{IsStateOf}
+use Rattle.shop_states.specs.declared.states.State.{State}
 
 -- the walk of a stack has come this far
-pub record HasCome {D S C : Type 0} {g : Ghosts D S C} (first now : Walker D S C g) : Type 0 where
+pub record HasCome {L N : Type 0} {g : Ghosts L N} (first now : Walker L N g) : Type 0 where
   pub walk : stack_walk (stage_of now) ≡ stack_walk (stage_of first)
   pub in_order : IsInOrder (stage_of now)
   pub spent : now.budget ≤ first.budget
   pub shop : now.instance.now ≡ first.instance.now
   pub states : HasStates now
 
-module _ {D S C : Type 0} {g : Ghosts D S C} (w : Walker D S C g) (rest : List (Held S)) (h : Held S)
+module _ {L N : Type 0} {g : Ghosts L N} (w : Walker L N g) (rest : List (Held (State L N)))
+    (h : Held (State L N))
     (is : w.stack.items ≡ rest ++ h ∷ []) where
-  pub states_below : HasStates w → KeepsStates g w.path.items rest w.states
-  states_below old = let own = IsHeld (g.IsStateOf w.states.dispatcher) w.path.items
-      in let all = recursion_from_All own (rest ++ h ∷ []) (rw is at old.held)
-      in record { held = All-from_recursion own rest (all_front own rest (h ∷ []) all); states = old.states }
+  pub states_below : HasStates w → AreHeld (IsStateOf g w.states.dispatcher.laid_out) w.path.items rest
+  states_below old = let own = IsHeld (IsStateOf g w.states.dispatcher.laid_out) w.path.items
+      in let all = recursion_from_All own (rest ++ h ∷ []) (rw is at old)
+      in All-from_recursion own rest (all_front own rest (h ∷ []) all)
 
   module _ {x : Waiting} (top : h.waiting ≡ x) where
     abbrev below : Stage
@@ -31,7 +34,7 @@ module _ {D S C : Type 0} {g : Ghosts D S C} (w : Walker D S C g) (rest : List (
     as_before = ap (λ ws. record (stage_of w) { stack = ws })
         (waiting_pushed rest w.stack.items h is ∙ ap (λ y. waiting_in rest ++ y ∷ []) top)
 
-    pub comes_on : {first : Walker D S C g} (now : Walker D S C g) → HasCome first w → IsTurn below x (stage_of now)
+    pub comes_on : {first : Walker L N g} (now : Walker L N g) → HasCome first w → IsTurn below x (stage_of now)
         → HasStates now → HasCome first now
     comes_on now old turn states = record {
       walk = turn.walk ∙ (ap stack_walk (sym as_before) ∙ old.walk);

@@ -6,13 +6,15 @@ use Rattle.std.proofs.lemmas.List.{get_or-map, length-map, map-set, set-append_r
 use Rattle.shop_model.specs.Shop.{Shop}
 use Rattle.shop_bound.specs.Bound.{lb}
 use Rattle.shop_states.specs.States.{ListsBelow, Settles, ListsBelow.{none, listed, closed}}
-use Rattle.shop_states.specs.declared.dispatching.{Candidate.Candidate, Dispatching.Ghosts}
+use Rattle.shop_lanes.specs.declared.state_lanes.StateLanes.{Ghosts}
+use Rattle.shop_states.specs.declared.states.Candidate.{Candidate}
 use Rattle.shop_nodes.specs.Halts.{open_child, word_at}
 use Rattle.shop_nodes.specs.declared.halts.{Open.Open, Waiting.{Waiting, TheVariants.{Child, Rest}}}
 use Rattle.shop_tree.specs.{declared.walk_states.{WalkStates.WalkStates, Branching.Branching}, inner.Opens.AreChildren}
 use Rattle.shop_tree.specs.{inner.Held.{IsHeldOf, IsKept, Kept, held, opens_in}, declared.held.Held.Held}
 use Rattle.shop_tree.specs.inner.{Slots.{AreBounded, IsBranchingOf, IsStateIn, KeepSlots, Lists}, Tried.HasGiven}
 use Rattle.shop_tree.{specs.inner.Tried.HasPutChildren, proofs.{StripLemmas.{at_kid, many}, TrialLemmas.IsChildBelow}}
+use Rattle.shop_states.specs.inner.WordStates.{KnowsChild}
 
 -- the bound of a settled child
 pub settled_bound : (shop : Shop) (word : List ℕ) (bound top : ℕ) (cs : List Candidate)
@@ -78,13 +80,13 @@ put_given {S} is shop limit word old mid new n from e put (inr (child, (state, a
     }
 
 -- slots that are kept in two steps
-pub kept_then : {D S C : Type 0} {g : Ghosts D S C} {r s t : WalkStates D S C} → KeepSlots g s t
-    → s.dispatcher ≡ r.dispatcher → KeepSlots g r t
-kept_then kept same = record { states = kept.states; dispatcher = kept.dispatcher ∙ same }
+pub kept_then : {L N : Type 0} {g : Ghosts L N} {r s t : WalkStates L N} → KeepSlots g s t
+    → s.dispatcher.laid_out ≡ r.dispatcher.laid_out → KeepSlots g r t
+kept_then kept same = record { states = kept.states; laid_out = kept.laid_out ∙ same }
 
 -- what is known of the current word, once a trial left its state
-module _ {D S C : Type 0} {g : Ghosts D S C} {s t : WalkStates D S C} {b : Branching}
-    (same : t.dispatcher ≡ s.dispatcher) where
+module _ {L N : Type 0} {g : Ghosts L N} {s t : WalkStates L N} {b : Branching}
+    (same : t.dispatcher.laid_out ≡ s.dispatcher.laid_out) where
   pub branching_stays : t.current.value ≡ s.current.value → IsBranchingOf g s b → IsBranchingOf g t b
   branching_stays current at = record {
     state = rw (same, current) at.state;
@@ -92,22 +94,21 @@ module _ {D S C : Type 0} {g : Ghosts D S C} {s t : WalkStates D S C} {b : Branc
     listed = rw same at.listed;
   }
 
-  pub bounded_stays : {top : ℕ} → ((w : List ℕ) (j : ℕ) → g.KnowsChild s.dispatcher s.scratch w j
-      → g.KnowsChild s.dispatcher t.scratch w j) → AreBounded g s b top → AreBounded g t b top
+  pub bounded_stays : {top : ℕ} → t.dispatcher.ceilings ≡ s.dispatcher.ceilings → AreBounded g s b top
+      → AreBounded g t b top
   bounded_stays {top} kept at = record {
     settled = rw same at.settled;
-    known = λ k c within. subst (λ x. g.KnowsChild x t.scratch b.word.now (get_or b.candidates.now k c).job) (sym same)
-        (kept b.word.now (get_or b.candidates.now k c).job (at.known k c within));
+    known = λ k c within. rw (same, kept) (at.known k c within);
   }
 
 -- children that were bounded together
-pub bounded_together : {D S C : Type 0} {g : Ghosts D S C} {s : WalkStates D S C} {b : Branching}
-    (t : WalkStates D S C) → IsBranchingOf g s b → (answer : Option ℕ)
+pub bounded_together : {L N : Type 0} {g : Ghosts L N} {s : WalkStates L N} {b : Branching}
+    (t : WalkStates L N) → IsBranchingOf g s b → (answer : Option ℕ)
     → IfSome answer (λ top. (w : List ℕ) (limit others : ℕ) → IsStateIn g s w
-    → b.bound ≡ lb (g.shop s.dispatcher) w → Lists g s w limit b.candidates.now others
-    → Settles (g.shop s.dispatcher) w b.bound top b.candidates.now
-    × All (λ c. g.KnowsChild s.dispatcher t.scratch w c.job) b.candidates.now)
-    → t.dispatcher ≡ s.dispatcher → IfSome answer (AreBounded g t b)
+    → b.bound ≡ lb s.dispatcher.laid_out.asked w → Lists g s w limit b.candidates.now others
+    → Settles s.dispatcher.laid_out.asked w b.bound top b.candidates.now
+    × All (λ c. KnowsChild s.dispatcher.laid_out t.dispatcher.ceilings w c.job) b.candidates.now)
+    → t.dispatcher.laid_out ≡ s.dispatcher.laid_out → IfSome answer (AreBounded g t b)
 bounded_together t at None bounded same = tt
 bounded_together {b = b} t at (Some top) bounded same =
     let of = bounded b.word.now b.limit b.closed at.state at.bound at.listed

@@ -1,34 +1,34 @@
 // Expands a walk's current word: follows sole candidates, then branches.
 ghost use Rattle.std.specs.Prelude.{◌≡◌, ◌≤◌, ◌<◌, ◌+◌, length, [], ◌∷◌, ◌++◌, OnOk, IfOk};
 ghost use Rattle.shop_model.specs.{Limits.IsWithinLimits, Word.IsWord};
-ghost use Rattle.shop_tree.specs.inner.{Opens.AreChildren, Slots.{HoldSlots, IsStateIn}};
+ghost use Rattle.shop_states.specs.inner.WordStates.{IsStateOf};
+ghost use Rattle.shop_tree.specs.inner.{Opens.AreChildren, Slots.IsStateIn};
 ghost use Rattle.shop_tree.specs.inner.StateWalkers.{stage_of, AreHeld, HasGoneOn, HasStates, IsListedAt, StandsAs};
 ghost use Rattle.shop_tree.specs.inner.{StateWalkers.StandsAt, Walkers.{gone_on, HasBranched, HasExpanded, IsInOrder}};
 
 use crate::held::{put_rest, set_rest_below};
 use crate::walk_states::Branching;
 use crate::walkers::Walker;
+use shop_lanes::StateLanes;
 use shop_model::{SharedWord, Word};
-use shop_states::Dispatching;
 use std::alloc::{AllocError as NoMemory, Global};
 
 /// How many states a word's children may take from other words. Once no state is left, children that are walked later
 /// have none.
 const MOST_WANTED: usize = 3;
 
-impl<'a, D: Dispatching<S>, S: Drop> Walker<'a, D, S> {
+impl<'l, 'a, L: StateLanes> Walker<'l, 'a, L> {
     /// Appends `job` to the current word and spends one unit of the budget.
     #[inline(always)]
     fn take_job(&mut self, job: u16)
         requires some { 0 < self.old.budget }
         requires short { length self.old.path.items < self.old.operations }
-        requires held { AreHeld (D.IsStateOf self.old.states.dispatcher)
+        requires held { AreHeld (IsStateOf L.StateLanes self.old.states.dispatcher.laid_out)
             (self.old.path.items ++ job ∷ []) self.old.stack.items }
-        requires slots { HoldSlots D.Dispatching self.old.states }
-        requires state { IsStateIn D.Dispatching self.old.states (self.old.path.items ++ job ∷ []) }
+        requires state { IsStateIn L.StateLanes self.old.states (self.old.path.items ++ job ∷ []) }
         ensures stage { stage_of self.new ≡ gone_on (stage_of self.old) job }
         ensures states { HasStates self.new }
-        ensures state { IsStateIn D.Dispatching self.new.states self.new.path.items }
+        ensures state { IsStateIn L.StateLanes self.new.states self.new.path.items }
     {
         self.budget -= 1;
         self.path.push(job).unwrap();

@@ -5,15 +5,11 @@ ghost use Rattle.shop_tree.specs.{Searches.Searches, inner.StateWalkers.HasState
 
 use crate::walkers::Walker;
 use shop_lanes::{Lanes16, Lanes32, Lanes64, StateLanes};
-use shop_layout::{LaidOut, LaneLayout, Layout, LayoutFor};
+use shop_layout::{LaneLayout, Layout, LayoutFor};
 use shop_model::Instance;
 use shop_nodes::{Piece, Sheet};
-use shop_states::State;
 use std::alloc::{AllocError as NoMemory, Global};
 use std::marker::Model;
-
-/// A walk over states in lanes of the type `L`.
-type WalkerIn<'l, 'a, L> = Walker<'a, LaidOut<'l, 'a, L>, State<L>>;
 
 // `LaneWalker` calls these for each of its lanes, and not the walk's own functions: so what a walk needs of its states,
 // letting go of them included, is proved once for any lanes, not once for each.
@@ -25,7 +21,7 @@ fn walker_in<'l, 'a, L: StateLanes>(
     instance: &'a Instance,
     layout: LayoutFor<'l, 'a, L>,
     most: usize,
-) -> Result<WalkerIn<'l, 'a, L>, NoMemory>
+) -> Result<Walker<'l, 'a, L>, NoMemory>
     requires { layout.asked ≡ instance.now }
     ensures instance { IfOk result (λ w. w.instance.now ≡ instance.now) }
     ensures states { IfOk result HasStates }
@@ -36,7 +32,7 @@ fn walker_in<'l, 'a, L: StateLanes>(
 /// Searches `piece` like `Walker::search`.
 #[inline(always)]
 fn search_in<'l, 'a, L: StateLanes>(
-    walker: &mut WalkerIn<'l, 'a, L>,
+    walker: &mut Walker<'l, 'a, L>,
     alloc: Global,
     piece: &'a Piece,
     best: u64,
@@ -53,16 +49,16 @@ fn search_in<'l, 'a, L: StateLanes>(
 }
 
 /// Lets go of a walk.
-fn let_go<L: StateLanes>(_walker: WalkerIn<'_, '_, L>) {}
+fn let_go<L: StateLanes>(_walker: Walker<'_, '_, L>) {}
 
 /// A walk in lanes of 16, 32 or 64 bits; in those of 16 bits for two, three, four or any number of blocks a machine.
 enum LaneWalker<'l, 'a> {
-    In16By2(WalkerIn<'l, 'a, Lanes16<2>>),
-    In16By3(WalkerIn<'l, 'a, Lanes16<3>>),
-    In16By4(WalkerIn<'l, 'a, Lanes16<4>>),
-    In16(WalkerIn<'l, 'a, Lanes16<0>>),
-    In32(WalkerIn<'l, 'a, Lanes32>),
-    In64(WalkerIn<'l, 'a, Lanes64>),
+    In16By2(Walker<'l, 'a, Lanes16<2>>),
+    In16By3(Walker<'l, 'a, Lanes16<3>>),
+    In16By4(Walker<'l, 'a, Lanes16<4>>),
+    In16(Walker<'l, 'a, Lanes16<0>>),
+    In32(Walker<'l, 'a, Lanes32>),
+    In64(Walker<'l, 'a, Lanes64>),
 }
 
 impl Drop for LaneWalker<'_, '_> {

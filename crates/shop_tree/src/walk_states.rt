@@ -1,14 +1,16 @@
 // The states that a walk keeps: that of its current word, one in which it tries children, and spare ones.
 ghost use Rattle.std.specs.Prelude.{◌≡◌, ℕ, ◌≤◌, List, [], ◌∷◌, ◌++◌, length, vec_capacity, IfOk, OnOk};
 ghost use Rattle.shop_model.specs.Word.{IsWord};
-ghost use Rattle.shop_states.specs.States.{HasSoleCandidate, IsOfSomeWord};
+ghost use Rattle.shop_states.specs.{States.{HasSoleCandidate, IsOfSomeWord}, inner.WordStates.{IsSlot, IsStateOf}};
 ghost use Rattle.shop_nodes.specs.Branching.{conflict};
 ghost use Rattle.shop_tree.specs.inner.Held.{IsHeldOf};
 ghost use Rattle.shop_tree.specs.inner.Slots.{CanTake, HasTaken, HaveStayed, HoldSlots, IsStateIn, KeepSlots, Lists};
 
 mod trials;
 
-use shop_states::{Candidate, Dispatching};
+use shop_lanes::StateLanes;
+use shop_layout::LaidOut;
+use shop_states::{Candidate, Dispatcher, State};
 use std::alloc::{AllocError as NoMemory, Global};
 use std::mem;
 
@@ -30,29 +32,28 @@ pub(crate) struct Branching<'w> {
 
 /// The states of a walk: that of its current word, one in which it tries children, and spare ones for waiting children.
 #[derive(Drop)]
-pub(crate) struct WalkStates<D: Dispatching<S>, S: Drop> {
-    pub(crate) dispatcher: D,
-    scratch: D::Scratch,
-    pub(crate) current: Box<S>,
-    trial: Box<S>,
-    spare: Vec<Box<S>>,
+pub(crate) struct WalkStates<'l, 'a, L: StateLanes> {
+    pub(crate) dispatcher: Dispatcher<'l, 'a, L>,
+    pub(crate) current: Box<State<L>>,
+    trial: Box<State<L>>,
+    spare: Vec<Box<State<L>>>,
     /// how many more states the walk may allocate
     unmade: usize,
 }
 
-impl<D: Dispatching<S>, S: Drop> WalkStates<D, S> {
+impl<'l, 'a, L: StateLanes> WalkStates<'l, 'a, L> {
     /// Makes the current state and the trial's. Allows at most `most` further states, for waiting children, which are
     /// allocated when they are needed. Fails with `NoMemory` if memory runs out.
     pub(crate) fn new(
         alloc: Global,
-        dispatcher: D,
+        laid_out: LaidOut<'l, 'a, L>,
         most: usize,
-    ) -> Result<WalkStates<D, S>, NoMemory>
-        ensures sound { IfOk result (HoldSlots D.Dispatching) }
-        ensures dispatcher { IfOk result (λ s. s.dispatcher ≡ dispatcher) }
+    ) -> Result<WalkStates<'l, 'a, L>, NoMemory>
+        ensures sound { IfOk result (HoldSlots L.StateLanes) }
+        ensures laid_out { IfOk result (λ s. s.dispatcher.laid_out ≡ laid_out.entry) }
     {
+        let dispatcher = Dispatcher::new(alloc, laid_out)?;
         Ok(WalkStates {
-            scratch: dispatcher.scratch(alloc)?,
             current: Box::new(alloc, dispatcher.slot(alloc)?)?,
             trial: Box::new(alloc, dispatcher.slot(alloc)?)?,
             dispatcher,
@@ -63,39 +64,38 @@ impl<D: Dispatching<S>, S: Drop> WalkStates<D, S> {
 
     /// Fills the current state from the word `path`.
     pub(crate) fn fill(&mut self, path: &[u16])
-        requires sound { HoldSlots D.Dispatching self.old }
-        requires word { IsWord (D.shop self.old.dispatcher) path.now }
-        ensures sound { KeepSlots D.Dispatching self.old self.new }
-        ensures state { IsStateIn D.Dispatching self.new path.now }
+        requires sound { HoldSlots L.StateLanes self.old }
+        requires word { IsWord self.old.dispatcher.laid_out.asked path.now }
+        ensures sound { KeepSlots L.StateLanes self.old self.new }
+        ensures state { IsStateIn L.StateLanes self.new path.now }
     {
-        self.dispatcher
-            .fill(&mut self.scratch, path, &mut self.current);
+        self.dispatcher.fill(path, &mut self.current);
     }
 
     /// Replaces `candidates` by the current word's candidates with `own` below `limit`. Returns how many are left out.
     #[inline(always)]
     pub(crate) fn list_candidates(&mut self, limit: u64, candidates: &mut Vec<Candidate>) -> usize
-        requires sound { HoldSlots D.Dispatching self.old }
-        requires state { IsOfSomeWord (IsStateIn D.Dispatching self.old) }
-        requires room { length (D.shop self.old.dispatcher).jobs ≤ vec_capacity candidates.old }
-        ensures sound { KeepSlots D.Dispatching self.old self.new }
-        ensures listed { (w : List ℕ) → IsStateIn D.Dispatching self.old w
-            → Lists D.Dispatching self.old w limit candidates.new.items result }
+        requires sound { HoldSlots L.StateLanes self.old }
+        requires state { IsOfSomeWord (IsStateIn L.StateLanes self.old) }
+        requires room { length self.old.dispatcher.laid_out.asked.jobs ≤ vec_capacity candidates.old }
+        ensures sound { KeepSlots L.StateLanes self.old self.new }
+        ensures listed { (w : List ℕ) → IsStateIn L.StateLanes self.old w
+            → Lists L.StateLanes self.old w limit candidates.new.items result }
         ensures room { vec_capacity candidates.old ≤ vec_capacity candidates.new }
         ensures current { self.new.current.value ≡ self.old.current.value }
     {
         self.dispatcher
-            .list_candidates(&mut self.scratch, &self.current, limit, candidates)
+            .list_candidates(&self.current, limit, candidates)
     }
 
     /// Dispatches, in the current state, the next operation of `job`, the only job in the conflict set.
     pub(crate) fn strike(&mut self, job: u16)
-        requires sound { HoldSlots D.Dispatching self.old }
-        requires sole { HasSoleCandidate (D.shop self.old.dispatcher) (IsStateIn D.Dispatching self.old) job }
-        ensures sound { KeepSlots D.Dispatching self.old self.new }
-        ensures state { (w : List ℕ) → IsStateIn D.Dispatching self.old w
-            → conflict (D.shop self.old.dispatcher) w ≡ job ∷ []
-            → IsStateIn D.Dispatching self.new (w ++ job ∷ []) }
+        requires sound { HoldSlots L.StateLanes self.old }
+        requires sole { HasSoleCandidate self.old.dispatcher.laid_out.asked (IsStateIn L.StateLanes self.old) job }
+        ensures sound { KeepSlots L.StateLanes self.old self.new }
+        ensures state { (w : List ℕ) → IsStateIn L.StateLanes self.old w
+            → conflict self.old.dispatcher.laid_out.asked w ≡ job ∷ []
+            → IsStateIn L.StateLanes self.new (w ++ job ∷ []) }
     {
         self.dispatcher.strike(&mut self.current, job);
     }
@@ -109,14 +109,14 @@ impl<D: Dispatching<S>, S: Drop> WalkStates<D, S> {
         bound: u64,
         limit: u64,
     ) -> Option<u64>
-        requires sound { HoldSlots D.Dispatching self.old }
-        requires can { CanTake D.Dispatching self.old candidate bound }
-        ensures sound { KeepSlots D.Dispatching self.old self.new }
-        ensures taken { HasTaken D.Dispatching self.old candidate bound limit result self.new.current.value }
+        requires sound { HoldSlots L.StateLanes self.old }
+        requires can { CanTake L.StateLanes self.old candidate bound }
+        ensures sound { KeepSlots L.StateLanes self.old self.new }
+        ensures taken { HasTaken L.StateLanes self.old candidate bound limit result self.new.current.value }
     {
-        let (scratch, state) = (&mut self.scratch, &mut self.current);
+        let state = &mut self.current;
         self.dispatcher
-            .dispatch_below(scratch, state, candidate, bound, limit)
+            .dispatch_below(state, candidate, bound, limit)
     }
 
     /// Returns how many states are spare or can still be allocated.
@@ -125,10 +125,10 @@ impl<D: Dispatching<S>, S: Drop> WalkStates<D, S> {
     }
 
     /// Keeps `state`, if there is one, as a spare state. Fails with `NoMemory` if memory runs out.
-    pub(crate) fn give_back(&mut self, state: Option<Box<S>>) -> Result<(), NoMemory>
-        requires sound { HoldSlots D.Dispatching self.old }
-        requires slot { IsHeldOf (λ _ s. D.IsSlot self.old.dispatcher s) [] state }
-        ensures sound { KeepSlots D.Dispatching self.old self.new }
+    pub(crate) fn give_back(&mut self, state: Option<Box<State<L>>>) -> Result<(), NoMemory>
+        requires sound { HoldSlots L.StateLanes self.old }
+        requires slot { IsHeldOf (λ _ s. IsSlot L.StateLanes self.old.dispatcher.laid_out s) [] state }
+        ensures sound { KeepSlots L.StateLanes self.old self.new }
         ensures stayed { OnOk result (HaveStayed self.old self.new) }
     {
         let Some(state) = state else {
@@ -140,12 +140,12 @@ impl<D: Dispatching<S>, S: Drop> WalkStates<D, S> {
 
     /// Makes `state` the current state, and keeps the former one as a spare. If `state` is `None`, fills the current
     /// state from `word`. Fails with `NoMemory` if memory runs out.
-    pub(crate) fn go_on_in(&mut self, state: Option<Box<S>>, word: &[u16]) -> Result<(), NoMemory>
-        requires sound { HoldSlots D.Dispatching self.old }
-        requires word { IsWord (D.shop self.old.dispatcher) word.now }
-        requires state { IsHeldOf (D.IsStateOf self.old.dispatcher) word.now state }
-        ensures sound { KeepSlots D.Dispatching self.old self.new }
-        ensures state { OnOk result (IsStateIn D.Dispatching self.new word.now) }
+    pub(crate) fn go_on_in(&mut self, state: Option<Box<State<L>>>, word: &[u16]) -> Result<(), NoMemory>
+        requires sound { HoldSlots L.StateLanes self.old }
+        requires word { IsWord self.old.dispatcher.laid_out.asked word.now }
+        requires state { IsHeldOf (IsStateOf L.StateLanes self.old.dispatcher.laid_out) word.now state }
+        ensures sound { KeepSlots L.StateLanes self.old self.new }
+        ensures state { OnOk result (IsStateIn L.StateLanes self.new word.now) }
     {
         let Some(state) = state else {
             self.fill(word);
@@ -159,10 +159,10 @@ impl<D: Dispatching<S>, S: Drop> WalkStates<D, S> {
     /// Returns a spare state, else a new one, else `None` if the walk may allocate no more. Fails with `NoMemory` if
     /// memory runs out.
     #[inline(always)]
-    fn spare_state(&mut self, alloc: Global) -> Result<Option<Box<S>>, NoMemory>
-        requires sound { HoldSlots D.Dispatching self.old }
-        ensures sound { KeepSlots D.Dispatching self.old self.new }
-        ensures slot { IfOk result (IsHeldOf (λ _ s. D.IsSlot self.old.dispatcher s) []) }
+    fn spare_state(&mut self, alloc: Global) -> Result<Option<Box<State<L>>>, NoMemory>
+        requires sound { HoldSlots L.StateLanes self.old }
+        ensures sound { KeepSlots L.StateLanes self.old self.new }
+        ensures slot { IfOk result (IsHeldOf (λ _ s. IsSlot L.StateLanes self.old.dispatcher.laid_out s) []) }
         ensures stayed { HaveStayed self.old self.new }
     {
         if let Some(state) = self.spare.pop() {
@@ -173,10 +173,10 @@ impl<D: Dispatching<S>, S: Drop> WalkStates<D, S> {
 
     /// Allocates a state; returns `None` if the walk may allocate no more. Fails with `NoMemory` if memory runs out.
     #[inline(never)]
-    fn new_state(&mut self, alloc: Global) -> Result<Option<Box<S>>, NoMemory>
-        requires sound { HoldSlots D.Dispatching self.old }
-        ensures sound { KeepSlots D.Dispatching self.old self.new }
-        ensures slot { IfOk result (IsHeldOf (λ _ s. D.IsSlot self.old.dispatcher s) []) }
+    fn new_state(&mut self, alloc: Global) -> Result<Option<Box<State<L>>>, NoMemory>
+        requires sound { HoldSlots L.StateLanes self.old }
+        ensures sound { KeepSlots L.StateLanes self.old self.new }
+        ensures slot { IfOk result (IsHeldOf (λ _ s. IsSlot L.StateLanes self.old.dispatcher.laid_out s) []) }
         ensures stayed { HaveStayed self.old self.new }
     {
         if self.unmade == 0 {
@@ -188,12 +188,12 @@ impl<D: Dispatching<S>, S: Drop> WalkStates<D, S> {
 
     /// Takes out the trial's state, and puts a spare or new one in its place. Returns `None` if neither can be had.
     /// Fails with `NoMemory` if memory runs out.
-    pub(crate) fn take_trial(&mut self, alloc: Global) -> Result<Option<Box<S>>, NoMemory>
-        requires sound { HoldSlots D.Dispatching self.old }
-        ensures sound { KeepSlots D.Dispatching self.old self.new }
+    pub(crate) fn take_trial(&mut self, alloc: Global) -> Result<Option<Box<State<L>>>, NoMemory>
+        requires sound { HoldSlots L.StateLanes self.old }
+        ensures sound { KeepSlots L.StateLanes self.old self.new }
         ensures taken { IfOk result (IsHeldOf (λ _ s. s ≡ self.old.trial.value) []) }
         ensures current { self.new.current.value ≡ self.old.current.value }
-        ensures scratch { self.new.scratch ≡ self.old.scratch }
+        ensures dispatcher { self.new.dispatcher ≡ self.old.dispatcher }
     {
         let Some(spare) = self.spare_state(alloc)? else {
             return Ok(None);

@@ -2,13 +2,16 @@
 ghost use Rattle.std.specs.Prelude.{◌≡◌, ◌≤◌, ◌<◌, ◌^◌, length, vec_capacity, [], OnOk, IfOk};
 ghost use Rattle.shop_model.specs.Shop.{operation_count};
 ghost use Rattle.shop_nodes.specs.Nodes.{IsNode, AreNodes};
-ghost use Rattle.shop_tree.specs.Searches.{Searches};
+ghost use Rattle.shop_states.specs.inner.WordStates.{IsStateOf};
+ghost use Rattle.shop_tree.specs.{Searches.Searches, inner.Slots.HoldSlots};
 
 use crate::held::{Held, copy_waiting};
 use crate::walk_states::WalkStates;
 use shop_model::{Instance, Word};
+use shop_lanes::StateLanes;
+use shop_layout::LaidOut;
 use shop_nodes::{Halt, Left, Node, Open, Piece, Sheet, Waiting};
-use shop_states::{Candidate, Dispatching};
+use shop_states::{Candidate, State};
 use std::alloc::{AllocError as NoMemory, Global};
 use std::sync::ArcSlice;
 
@@ -21,7 +24,7 @@ const TOGETHER: usize = 36;
 /// A walk: the word found last, the best makespan, and how many more nodes it may take (`budget`); its states, path to
 /// the current word, stack of waiting children, and room for candidates.
 #[derive(Drop)]
-pub(crate) struct Walker<'a, D: Dispatching<S>, S: Drop> {
+pub(crate) struct Walker<'l, 'a, L: StateLanes> {
     pub(crate) instance: &'a Instance,
     pub(crate) operations: usize,
     /// `TOGETHER` times the number of machines, to compare with candidates times operations left on all machines
@@ -29,35 +32,36 @@ pub(crate) struct Walker<'a, D: Dispatching<S>, S: Drop> {
     pub(crate) found: Option<Word>,
     pub(crate) best: u64,
     pub(crate) budget: u64,
-    pub(crate) states: WalkStates<D, S>,
+    pub(crate) states: WalkStates<'l, 'a, L>,
     pub(crate) path: Vec<u16>,
-    pub(crate) stack: Vec<Held<S>>,
+    pub(crate) stack: Vec<Held<State<L>>>,
     pub(crate) candidates: Vec<Candidate>,
     /// entries of the stack below this index have no states any more
     pub(crate) stripped: usize,
     pub ghost counted: { operations ≡ operation_count instance.now },
-    pub ghost same_shop: { D.shop states.dispatcher ≡ instance.now },
+    pub ghost same_shop: { states.dispatcher.laid_out.asked ≡ instance.now },
+    pub ghost slots: { HoldSlots L.StateLanes states },
     pub ghost room: { length instance.now.jobs ≤ vec_capacity candidates },
     pub ghost path_room: { operation_count instance.now ≤ vec_capacity path },
 }
 
-impl<'a, D: Dispatching<S>, S: Drop> Walker<'a, D, S> {
+impl<'l, 'a, L: StateLanes> Walker<'l, 'a, L> {
     ghost use Rattle.shop_nodes.specs.declared.halts.Waiting.TheVariants.{Rest};
     ghost use Rattle.shop_nodes.specs.Halts.{open_child, halted_words, AreHalted, stack_words, word_at};
     ghost use Rattle.shop_tree.specs.inner.{Walkers.IsTurn, StateWalkers.{stage_of, HasStates}, Held.IsHeldOf};
     ghost use Rattle.shop_tree.specs.inner.Walkers.{on_top, stack_walk, node_walk, IsInOrder, HasWalked, HasWalkedUpTo};
 
-    /// Makes a walk for pieces of the dispatcher's instance, with at most `most` states for waiting children. Fails
+    /// Makes a walk for pieces of the instance, laid out, with at most `most` states for waiting children. Fails
     /// with `NoMemory` if memory runs out.
     // out of line: a caller with one inlined body for each of six kinds of lanes would take six times the stack memory
     #[inline(never)]
     pub(crate) fn new(
         alloc: Global,
         instance: &'a Instance,
-        dispatcher: D,
+        laid_out: LaidOut<'l, 'a, L>,
         most: usize,
-    ) -> Result<Walker<'a, D, S>, NoMemory>
-        requires shop { D.shop dispatcher ≡ instance.now }
+    ) -> Result<Walker<'l, 'a, L>, NoMemory>
+        requires shop { laid_out.asked ≡ instance.now }
         ensures instance { IfOk result (λ w. w.instance.now ≡ instance.now) }
         ensures states { IfOk result HasStates }
     {
@@ -69,7 +73,7 @@ impl<'a, D: Dispatching<S>, S: Drop> Walker<'a, D, S> {
             found: None,
             best: 0,
             budget: 0,
-            states: WalkStates::new(alloc, dispatcher, most)?,
+            states: WalkStates::new(alloc, laid_out, most)?,
             path: Vec::with_capacity(alloc, instance.operations())?,
             stack: Vec::new(alloc),
             candidates: Vec::with_capacity(alloc, instance.jobs())?,
@@ -83,11 +87,11 @@ impl<'a, D: Dispatching<S>, S: Drop> Walker<'a, D, S> {
         &mut self,
         alloc: Global,
         child: Open,
-        state: Option<Box<S>>,
+        state: Option<Box<State<L>>>,
     ) -> Result<(), NoMemory>
         requires some { 0 < self.old.budget }
         requires on { IsInOrder (on_top (stage_of self.old) (open_child child)) }
-        requires state { IsHeldOf (D.IsStateOf self.old.states.dispatcher)
+        requires state { IsHeldOf (IsStateOf L.StateLanes self.old.states.dispatcher.laid_out)
             (word_at self.old.path.items child) state }
         requires states { HasStates self.old }
         ensures turn { OnOk result (IsTurn (stage_of self.old) (open_child child) (stage_of self.new)) }

@@ -8,7 +8,7 @@
 --     bound_of x                      the bound of an open child that waits, and 0 of closed ones
 --     with_held_rest stack depth n    the stack with n closed children of a word of `depth` entries on top, if any
 --     HasSetRestBelow i depth n m ..  n closed children at place i, below some kids, become m
---     AreStates slot is_scratch ..    what the states of a walk hold is room for states, and what a dispatch needs
+--     AreSlots slot current ..        the states of a walk are room for states
 use Rattle.std.specs.Prelude.{◌≡◌, ℕ, zero, suc, [], ◌∷◌, ◌++◌, Option, Some, None, List, length, map, take, All}
 use Rattle.std.specs.Global.{Box}
 use Rattle.shop_nodes.specs.declared.halts.{Open.Open, Waiting.{Waiting, TheVariants.{Child, Rest}}}
@@ -56,9 +56,7 @@ module _ {S : Type 0} (is : List ℕ → S → Type 0) where
   abbrev pub IsHeld : List ℕ → Held S → Type 0
   IsHeld word h = IsHeldAs word h.waiting h.state
 
-pub record AreStates {S C : Type 0} (slot : S → Type 0) (is_scratch : C → Type 0) (scratch : C)
-    (current trial : S) (spare : List (Box S)) : Type 0 where
-  pub scratch_is : is_scratch scratch
+pub record AreSlots {S : Type 0} (slot : S → Type 0) (current trial : S) (spare : List (Box S)) : Type 0 where
   pub current_is : slot current
   pub trial_is : slot trial
   pub spare_are : All (λ b. slot b.value) spare

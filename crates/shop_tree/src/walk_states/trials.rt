@@ -1,19 +1,20 @@
 // Trials of a word's children: each in a copy of the state of the word, or in this state itself. Where children are
 // bounded together first, settled ones go on the stack without a trial.
 ghost use Rattle.std.specs.Prelude.{◌≡◌, ℕ, ◌≤◌, false, IsTrue, List, [], ◌∷◌, ◌++◌, All, IfOk, IfSome, OnOk, length};
-ghost use Rattle.shop_states.specs.States.{IsOfSomeWord};
+ghost use Rattle.shop_states.specs.{States.IsOfSomeWord, inner.WordStates.{IsCandidate, IsSlot, IsStateOf}};
 ghost use Rattle.shop_tree.specs.inner.Slots.{AreBounded, CanTake, CanTakeKnown, HasPutAll, HasTaken};
 ghost use Rattle.shop_tree.specs.inner.Slots.{HoldSlots, IsBranchingOf, IsStateIn, KeepSlots};
 ghost use Rattle.shop_tree.specs.inner.Tried.{AreSlotsFrom, HasGiven, HasPutTried};
 
 use super::{Branching, WalkStates};
 use crate::held::{Held, bare_top, put, strip_top};
+use shop_lanes::StateLanes;
 use shop_nodes::Open;
-use shop_states::{Candidate, Dispatching};
+use shop_states::{Candidate, State};
 use std::alloc::{AllocError as NoMemory, Global};
 use std::mem;
 
-impl<D: Dispatching<S>, S: Drop> WalkStates<D, S> {
+impl<'l, 'a, L: StateLanes> WalkStates<'l, 'a, L> {
     /// Dispatches `candidate` in the trial's state, and returns the child's bound if it is below `limit`. That state is
     /// a copy of the current one or, for the last trial, the current state itself, which the walk no longer needs.
     /// `bound` is the bound of the current word.
@@ -24,10 +25,10 @@ impl<D: Dispatching<S>, S: Drop> WalkStates<D, S> {
         bound: u64,
         limit: u64,
     ) -> Option<u64>
-        requires sound { HoldSlots D.Dispatching self.old }
-        requires can { CanTake D.Dispatching self.old candidate bound }
-        ensures sound { KeepSlots D.Dispatching self.old self.new }
-        ensures taken { HasTaken D.Dispatching self.old candidate bound limit result self.new.trial.value }
+        requires sound { HoldSlots L.StateLanes self.old }
+        requires can { CanTake L.StateLanes self.old candidate bound }
+        ensures sound { KeepSlots L.StateLanes self.old self.new }
+        ensures taken { HasTaken L.StateLanes self.old candidate bound limit result self.new.trial.value }
         ensures current { is_last ≡ false → self.new.current.value ≡ self.old.current.value }
     {
         if is_last {
@@ -35,57 +36,57 @@ impl<D: Dispatching<S>, S: Drop> WalkStates<D, S> {
             mem::swap(&mut self.current, &mut self.trial);
             return child;
         }
-        let (scratch, trial) = (&mut self.scratch, &mut self.trial);
+        let trial = &mut self.trial;
         self.dispatcher
-            .dispatch_below_in_copy(scratch, &self.current, trial, candidate, bound, limit)
+            .dispatch_in_copy(&self.current, trial, candidate, false, bound, limit)
     }
 
-    /// Bounds the children of the current word, that of `branching`, as `Dispatching::bound_children` does, if they are
+    /// Bounds the children of the current word, that of `branching`, as `Dispatcher::bound_children` does, if they are
     /// best bounded together. Uses up the trial's state.
     #[inline(always)]
     fn bound_children(&mut self, branching: &Branching<'_>) -> Option<u64>
-        requires sound { HoldSlots D.Dispatching self.old }
-        requires branching { IsBranchingOf D.Dispatching self.old branching.now }
-        ensures sound { KeepSlots D.Dispatching self.old self.new }
-        ensures branching { IsBranchingOf D.Dispatching self.new branching.now }
-        ensures bounded { IfSome result (AreBounded D.Dispatching self.new branching.now) }
+        requires sound { HoldSlots L.StateLanes self.old }
+        requires branching { IsBranchingOf L.StateLanes self.old branching.now }
+        ensures sound { KeepSlots L.StateLanes self.old self.new }
+        ensures branching { IsBranchingOf L.StateLanes self.new branching.now }
+        ensures bounded { IfSome result (AreBounded L.StateLanes self.new branching.now) }
     {
         if !branching.is_together {
             return None;
         }
         let bound = branching.bound;
         let candidates = branching.candidates;
-        let (scratch, room) = (&mut self.scratch, &mut self.trial);
+        let room = &mut self.trial;
         self.dispatcher
-            .bound_children(scratch, &self.current, room, candidates, bound)
+            .bound_children(&self.current, room, candidates, bound)
     }
 
     /// Dispatches `candidate` in a copy of the current state, the trial's, after `bound_children`. Returns the child's
     /// bound if it is below `limit`. `bound` is the bound of the current word.
+    #[inline(never)]
     pub(crate) fn try_child(&mut self, candidate: Candidate, bound: u64, limit: u64) -> Option<u64>
-        requires sound { HoldSlots D.Dispatching self.old }
-        requires can { CanTakeKnown D.Dispatching self.old candidate bound }
-        ensures sound { KeepSlots D.Dispatching self.old self.new }
-        ensures taken { HasTaken D.Dispatching self.old candidate bound limit result self.new.trial.value }
-        ensures kept { (w : List ℕ) (j : ℕ) → D.KnowsChild self.old.dispatcher self.old.scratch w j
-            → D.KnowsChild self.old.dispatcher self.new.scratch w j }
+        requires sound { HoldSlots L.StateLanes self.old }
+        requires can { CanTakeKnown L.StateLanes self.old candidate bound }
+        ensures sound { KeepSlots L.StateLanes self.old self.new }
+        ensures taken { HasTaken L.StateLanes self.old candidate bound limit result self.new.trial.value }
+        ensures dispatcher { self.new.dispatcher ≡ self.old.dispatcher }
         ensures current { self.new.current.value ≡ self.old.current.value }
     {
-        let (scratch, trial) = (&mut self.scratch, &mut self.trial);
+        let trial = &mut self.trial;
         self.dispatcher
-            .dispatch_child_in_copy(scratch, &self.current, trial, candidate, bound, limit)
+            .dispatch_in_copy(&self.current, trial, candidate, true, bound, limit)
     }
 
     /// Dispatches the candidate of `branching` with this `job`, whose child's bound is known already, in the current
     /// state itself. Returns whether the current state is the child's now: false if no candidate has this job.
     pub(crate) fn dispatch_settled(&mut self, job: u16, branching: &Branching<'_>) -> bool
-        requires sound { HoldSlots D.Dispatching self.old }
-        requires can { All (λ c. IsOfSomeWord (λ w. IsStateIn D.Dispatching self.old w
-            × D.IsCandidate self.old.dispatcher w c)) branching.now.candidates.now }
-        ensures sound { KeepSlots D.Dispatching self.old self.new }
-        ensures state { IsTrue result → (w : List ℕ) → IsStateIn D.Dispatching self.old w
-            → All (D.IsCandidate self.old.dispatcher w) branching.now.candidates.now
-            → IsStateIn D.Dispatching self.new (w ++ job ∷ []) }
+        requires sound { HoldSlots L.StateLanes self.old }
+        requires can { All (λ c. IsOfSomeWord (λ w. IsStateIn L.StateLanes self.old w
+            × IsCandidate self.old.dispatcher.laid_out w c)) branching.now.candidates.now }
+        ensures sound { KeepSlots L.StateLanes self.old self.new }
+        ensures state { IsTrue result → (w : List ℕ) → IsStateIn L.StateLanes self.old w
+            → All (IsCandidate self.old.dispatcher.laid_out w) branching.now.candidates.now
+            → IsStateIn L.StateLanes self.new (w ++ job ∷ []) }
     {
         let candidates = branching.candidates;
         for index in 0..candidates.len() {
@@ -107,17 +108,17 @@ impl<D: Dispatching<S>, S: Drop> WalkStates<D, S> {
     pub(crate) fn put_tried(
         &mut self,
         alloc: Global,
-        stack: &mut Vec<Held<S>>,
+        stack: &mut Vec<Held<State<L>>>,
         from: usize,
         child: Open,
     ) -> Result<(), NoMemory>
-        requires sound { HoldSlots D.Dispatching self.old }
-        requires slots { AreSlotsFrom (D.IsSlot self.old.dispatcher) from stack.old.items }
+        requires sound { HoldSlots L.StateLanes self.old }
+        requires slots { AreSlotsFrom (IsSlot L.StateLanes self.old.dispatcher.laid_out) from stack.old.items }
         requires from { from ≤ length stack.old.items }
-        ensures sound { KeepSlots D.Dispatching self.old self.new }
+        ensures sound { KeepSlots L.StateLanes self.old self.new }
         ensures put { OnOk result (HasPutTried from child self.old.trial.value stack.old.items stack.new.items) }
         ensures current { OnOk result (self.new.current.value ≡ self.old.current.value) }
-        ensures scratch { OnOk result (self.new.scratch ≡ self.old.scratch) }
+        ensures dispatcher { OnOk result (self.new.dispatcher ≡ self.old.dispatcher) }
     {
         if self.free() == 0 {
             let state = strip_top(stack, from, child.bound);
@@ -135,14 +136,14 @@ impl<D: Dispatching<S>, S: Drop> WalkStates<D, S> {
     pub(crate) fn try_candidates(
         &mut self,
         alloc: Global,
-        stack: &mut Vec<Held<S>>,
+        stack: &mut Vec<Held<State<L>>>,
         branching: &Branching<'_>,
     ) -> Result<usize, NoMemory>
-        requires sound { HoldSlots D.Dispatching self.old }
-        requires branching { IsBranchingOf D.Dispatching self.old branching.now }
-        ensures sound { KeepSlots D.Dispatching self.old self.new }
+        requires sound { HoldSlots L.StateLanes self.old }
+        requires branching { IsBranchingOf L.StateLanes self.old branching.now }
+        ensures sound { KeepSlots L.StateLanes self.old self.new }
         ensures children { IfOk result
-            (HasPutAll D.Dispatching self.old branching.now stack.old.items stack.new.items) }
+            (HasPutAll L.StateLanes self.old branching.now stack.old.items stack.new.items) }
     {
         if let Some(top) = self.bound_children(branching) {
             // `settle_candidates` isn't inlined, and reads its record from memory. It gets a copy, so that the record
@@ -176,14 +177,14 @@ impl<D: Dispatching<S>, S: Drop> WalkStates<D, S> {
     fn give_current(
         &mut self,
         alloc: Global,
-        stack: &mut Vec<Held<S>>,
+        stack: &mut Vec<Held<State<L>>>,
         from: usize,
         branching: &Branching<'_>,
     ) -> Result<(), NoMemory>
-        requires sound { HoldSlots D.Dispatching self.old }
-        requires branching { IsBranchingOf D.Dispatching self.old branching.now }
-        ensures sound { KeepSlots D.Dispatching self.old self.new }
-        ensures given { OnOk result (HasGiven (D.IsStateOf self.old.dispatcher)
+        requires sound { HoldSlots L.StateLanes self.old }
+        requires branching { IsBranchingOf L.StateLanes self.old branching.now }
+        ensures sound { KeepSlots L.StateLanes self.old self.new }
+        ensures given { OnOk result (HasGiven (IsStateOf L.StateLanes self.old.dispatcher.laid_out)
             branching.now.word.now from stack.old.items stack.new.items) }
     {
         if self.free() == 0 {
@@ -213,16 +214,16 @@ impl<D: Dispatching<S>, S: Drop> WalkStates<D, S> {
     pub(crate) fn settle_candidates(
         &mut self,
         alloc: Global,
-        stack: &mut Vec<Held<S>>,
+        stack: &mut Vec<Held<State<L>>>,
         branching: &Branching<'_>,
         top: u64,
     ) -> Result<usize, NoMemory>
-        requires sound { HoldSlots D.Dispatching self.old }
-        requires branching { IsBranchingOf D.Dispatching self.old branching.now }
-        requires bounded { AreBounded D.Dispatching self.old branching.now top }
-        ensures sound { KeepSlots D.Dispatching self.old self.new }
+        requires sound { HoldSlots L.StateLanes self.old }
+        requires branching { IsBranchingOf L.StateLanes self.old branching.now }
+        requires bounded { AreBounded L.StateLanes self.old branching.now top }
+        ensures sound { KeepSlots L.StateLanes self.old self.new }
         ensures children { IfOk result
-            (HasPutAll D.Dispatching self.old branching.now stack.old.items stack.new.items) }
+            (HasPutAll L.StateLanes self.old branching.now stack.old.items stack.new.items) }
     {
         let bound = branching.bound;
         let limit = branching.limit;

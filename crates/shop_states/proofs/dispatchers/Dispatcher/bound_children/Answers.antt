@@ -3,9 +3,10 @@ use Rattle.std.proofs.lemmas.List.{get_or_default}
 use Rattle.shop_bound.specs.Bound.{lb}
 use Rattle.shop_layout.{specs.{Lanes.rows_of, Positions.LayoutState}, proofs.Written.written_vec}
 use Rattle.shop_states.specs.{declared.states.Candidate.Candidate, inner.Advances.IsAdvancing}
-use Rattle.shop_states.{specs.inner.Ceilings.AreChildCeilings, proofs.KeptRoom.{buffers_kept, long_kept}}
+use Rattle.shop_states.{specs.inner.Ceilings.AreChildCeilings, proofs.KeptRoom.{buffers_kept, long_kept, slot_of}}
 use Rattle.shop_states.proofs.{AskedStates.{bound_behind, bound_there, listed_here}, OwnSpans.candidate_advancing}
 use Rattle.shop_states.proofs.{ListedCandidates.{are_siblings, listed_at}, ReadStates.{candidate_read, kept_copied}}
+use Rattle.shop_states.proofs.AskedStates.{kept_of}
 use Rattle.shop_states.proofs.dispatchers.Dispatcher.bound_children.Goals as goal
 
 pub bound_children-requires-clause-can : goal.bound_children-requires-clause-can
@@ -15,9 +16,9 @@ bound_children-requires-clause-can g c =
       shop = c.self.inside.laid_out.shop;
       word = can.word;
       kept = kept_copied c.grid-grid.ensures.grid c.copy_from.ensures.heads c.copy_from.ensures.ends
-          c.as_slice-next.ensures.value can.is_word.kept.kept;
-      siblings = are_siblings can.is_word.kept.kept.kept.word (listed_here can.is_word.kept can.listed);
-      bound_is = bound_there can.is_word.kept can.bound_is;
+          c.as_slice-next.ensures.value (kept_of can.is_word).kept;
+      siblings = are_siblings (kept_of can.is_word).kept.kept.word (listed_here (kept_of can.is_word) can.listed);
+      bound_is = bound_there (kept_of can.is_word) can.bound_is;
       machines_are = c.self.invariant.machines;
     }
 
@@ -29,9 +30,9 @@ returns-clause-bounded g c = rw (← c.self.view_is) (λ w limit others of bound
     in let same : (k : ℕ) (d : Candidate) → k < length cs → (get_or cs k none).job ≡ (get_or cs k d).job =
     λ k d here. ap (λ (x : Candidate). x.job) (get_or_default cs k none d here)
     in let copied = kept_copied c.grid-grid.ensures.grid c.copy_from.ensures.heads c.copy_from.ensures.ends
-    c.as_slice-next.ensures.value of.kept.kept
-    in let siblings = are_siblings of.kept.kept.kept.word (listed_here of.kept lists)
-    in let bound_there_is = bound_there of.kept bound_is
+    c.as_slice-next.ensures.value (kept_of of).kept
+    in let siblings = are_siblings (kept_of of).kept.kept.word (listed_here (kept_of of) lists)
+    in let bound_there_is = bound_there (kept_of of) bound_is
     in let whole = written_vec c.self.inside.ceilings c.as_mut_slice-ceilings.result.now
     c.bound_children.new.ceilings c.as_mut_slice-ceilings.ensures.value c.bound_children.ensures.long
     in (
@@ -44,7 +45,7 @@ returns-clause-bounded g c = rw (← c.self.view_is) (λ w limit others of bound
           in let its = subst (λ (j : ℕ). IsAdvancing g.L.StateLanes.GREATEST shop w c.grid-grid.result.now
           (rows_of c.grid-grid.result.now (g.L.StateLanes.heads c.copy_from.new.self) (g.L.StateLanes.ends
           c.copy_from.new.self)) c.as_slice-next.result.now j (max c.args.bound own.own)) (sym (same k d here)) advancing
-          in sym (bound_behind of.kept own.job candidate.fits)
+          in sym (bound_behind (kept_of of) own.job candidate.fits)
           ∙ subst (λ (j : ℕ). lb shop (w ++ j ∷ []) ≡ max c.args.bound own.own) (same k d here)
           (c.bound_children.ensures.settled shop w copied siblings bound_there_is k (max c.args.bound own.own) here its
           enough),
@@ -64,3 +65,14 @@ invariant_of-self g c = grind (arith, buffers_kept, long_kept)
 pub bound_children-requires-clause-room : goal.bound_children-requires-clause-room
 bound_children-requires-clause-room g c = ap length c.as_mut_slice-ceilings.ensures.value
     ∙ (c.self.invariant.ceilings ∙ sym c.self.invariant.machines)
+
+pub copy_from-requires-clause-positions : goal.copy_from-requires-clause-positions
+copy_from-requires-clause-positions g c =
+    c.requires.room.room.positions ∙ sym (slot_of c.requires.can.is_word).room.positions
+
+pub copy_from-requires-clause-jobs : goal.copy_from-requires-clause-jobs
+copy_from-requires-clause-jobs g c =
+    c.requires.room.room.jobs_with_ends ∙ sym (slot_of c.requires.can.is_word).room.jobs_with_ends
+
+pub returns-clause-room : goal.returns-clause-room
+returns-clause-room g c = grind arith

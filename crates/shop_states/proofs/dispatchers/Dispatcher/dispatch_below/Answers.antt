@@ -2,7 +2,9 @@ use Rattle.std.proofs.{Common.{ℕ, List, ◌∙◌, ap, arith, length, refl}, l
 use Rattle.shop_layout.{specs.Positions.LayoutState, proofs.Written.written_vec}
 use Rattle.shop_states.proofs.{CandidateDispatches.{candidate_can, candidate_told}, ReadStates.kept_read}
 use Rattle.shop_states.proofs.{AskedStates.{bound_there, kept_on, told_behind}, Trials.{its_job, its_position}}
-use Rattle.shop_states.proofs.KeptRoom.{buffers_kept, room_behind}
+use Rattle.shop_states.proofs.KeptRoom.{buffers_kept, room_behind, room_kept}
+use Rattle.shop_states.proofs.AskedStates.{kept_of}
+use Rattle.shop_states.specs.inner.WordStates.{state}
 use Rattle.shop_states.proofs.dispatchers.Dispatcher.dispatch_below.Goals as goal
 
 pub of-dispatch-requires : goal.of-dispatch-requires
@@ -11,7 +13,7 @@ of-dispatch-requires g c =
     in record {
       shop = c.self.inside.laid_out.shop;
       word = can.word;
-      kept = kept_read c.grid-grid.ensures.grid refl can.is.0.kept.kept;
+      kept = kept_read c.grid-grid.ensures.grid refl (kept_of can.is.0).kept;
       fits = can.is.1.fits;
     }
 
@@ -19,7 +21,7 @@ pub advance_below-requires-clause-can : goal.advance_below-requires-clause-can
 advance_below-requires-clause-can g c =
     let can = rw (← c.self.view_is) at c.requires.can
     in rw c.as_slice-next.ensures.value (candidate_can c.grid-grid.ensures.grid c.of-dispatch.ensures.job
-    can.is.0.kept.kept can.is.1 (bound_there can.is.0.kept can.bound_is) c.range_of-range.ensures.least
+    (kept_of can.is.0).kept can.is.1 (bound_there (kept_of can.is.0) can.bound_is) c.range_of-range.ensures.least
     c.self.invariant.machines (λ rows heads times tails m here known later above.
     absurd (let none = ap (λ (xs : List ℕ). length xs) c.range_of-range.ensures.ceilings in omega arith)))
 
@@ -29,9 +31,9 @@ advance_below-requires-clause-at_rest g c = c.self.invariant.at_rest
 pub returns-in_err-told-clause-dispatched : goal.returns-in_err-told-clause-dispatched
 returns-in_err-told-clause-dispatched g c = rw (← c.self.view_is) (record {
   bounded = λ w of bound_is.
-      let told = told_behind of.0.kept c.args.candidate.job c.args.limit c.advance_below.result of.1.fits
-      (candidate_told c.grid-grid.ensures.grid c.of-dispatch.ensures.job of.0.kept.kept of.1
-      (bound_there of.0.kept bound_is) c.range_of-range.ensures.least c.grid-grid.ensures.ready.limits c.args.limit
+      let told = told_behind (kept_of of.0) c.args.candidate.job c.args.limit c.advance_below.result of.1.fits
+      (candidate_told c.grid-grid.ensures.grid c.of-dispatch.ensures.job (kept_of of.0).kept of.1
+      (bound_there (kept_of of.0) bound_is) c.range_of-range.ensures.least c.grid-grid.ensures.ready.limits c.args.limit
       c.range_of-range.ensures.limit c.advance_below.result
       (rw c.as_slice-next.ensures.value at c.advance_below.ensures.told))
       in grind arith;
@@ -41,11 +43,11 @@ returns-in_err-told-clause-dispatched g c = rw (← c.self.view_is) (record {
 pub set_next-requires-clause-job : goal.set_next-requires-clause-job
 set_next-requires-clause-job g c =
     let can = rw (← c.self.view_is) at c.requires.can
-    in rw c.as_mut_slice.ensures.value (its_job can.is.0.kept.kept c.args.candidate.job can.is.1.fits)
+    in rw c.as_mut_slice.ensures.value (its_job (kept_of can.is.0).kept c.args.candidate.job can.is.1.fits)
 
 pub set_next-requires-clause-position : goal.set_next-requires-clause-position
 set_next-requires-clause-position g c =
-    let can = rw (← c.self.view_is) at c.requires.can in let kept = can.is.0.kept.kept
+    let can = rw (← c.self.view_is) at c.requires.can in let kept = (kept_of can.is.0).kept
     in let here = its_position kept c.args.candidate.job can.is.1.fits
     (rw c.of-dispatch.ensures.job at c.of-dispatch.ensures.is.position_is)
     in let following = kept.kept.laid.positions.following in let long = kept.kept.heads.positions
@@ -59,7 +61,7 @@ set_next-requires-clause-keep g c = rw c.as_mut_slice.ensures.value (rw (
 
 pub set_next-requires-clause-times : goal.set_next-requires-clause-times
 set_next-requires-clause-times g c =
-    let can = rw (← c.self.view_is) at c.requires.can in let kept = can.is.0.kept.kept
+    let can = rw (← c.self.view_is) at c.requires.can in let kept = (kept_of can.is.0).kept
     in let long = kept.kept.heads.positions in let timed = kept.kept.laid.positions.times
     in let same = ap (λ (l : LayoutState). length l.times) c.grid-grid.ensures.grid
     in let kept_long = c.advance_below.ensures.positions in omega arith
@@ -67,9 +69,9 @@ set_next-requires-clause-times g c =
 pub returns-clause-dispatched : goal.returns-clause-dispatched
 returns-clause-dispatched g c = rw (← c.self.view_is) (record {
   bounded = λ w of bound_is.
-      let told = told_behind of.0.kept c.args.candidate.job c.args.limit c.advance_below.result of.1.fits
-      (candidate_told c.grid-grid.ensures.grid c.of-dispatch.ensures.job of.0.kept.kept of.1
-      (bound_there of.0.kept bound_is) c.range_of-range.ensures.least c.grid-grid.ensures.ready.limits c.args.limit
+      let told = told_behind (kept_of of.0) c.args.candidate.job c.args.limit c.advance_below.result of.1.fits
+      (candidate_told c.grid-grid.ensures.grid c.of-dispatch.ensures.job (kept_of of.0).kept of.1
+      (bound_there (kept_of of.0) bound_is) c.range_of-range.ensures.least c.grid-grid.ensures.ready.limits c.args.limit
       c.range_of-range.ensures.limit c.advance_below.result
       (rw c.as_slice-next.ensures.value at c.advance_below.ensures.told))
       in grind arith;
@@ -81,16 +83,15 @@ returns-clause-dispatched g c = rw (← c.self.view_is) (record {
       ∙ length-set c.as_mut_slice.result.now _ _
       in let whole = written_vec c.args.state.now.next c.as_mut_slice.result.now c.set_next.new.next
       c.as_mut_slice.ensures.value long
-      in record {
-        kept = rw whole (kept_on of.0.kept (ready.kept c.self.inside.laid_out.shop w of.0.kept.kept of.1.fits _ _ on));
-      };
+      in state (rw whole (kept_on (kept_of of.0)
+      (ready.kept c.self.inside.laid_out.shop w (kept_of of.0).kept of.1.fits _ _ on)));
 })
 
 pub returns-clause-slot : goal.returns-clause-slot
 returns-clause-slot g c =
     let can = rw (← c.self.view_is) at c.requires.can
     in rw (← c.self.view_is) (record {
-      room = room_behind can.is.0.kept c.args.state.now.next refl c.as_mut_slice.ensures.value
+      room = room_behind (kept_of can.is.0) c.args.state.now.next refl c.as_mut_slice.ensures.value
           c.advance_below.ensures.positions c.advance_below.ensures.ends c.set_next.ensures;
     })
 
@@ -101,3 +102,8 @@ invariant_of-self g c =
 pub invariant_of-self-2 : goal.invariant_of-self-2
 invariant_of-self-2 g c =
     buffers_kept c.self.invariant c.advance_below.ensures.machines c.advance_below.ensures.rest refl
+
+pub returns-in_err-told-clause-slot : goal.returns-in_err-told-clause-slot
+returns-in_err-told-clause-slot g c = record {
+  room = room_kept (kept_of c.requires.can.is.0) _ _ _ c.advance_below.ensures.positions c.advance_below.ensures.ends refl;
+}

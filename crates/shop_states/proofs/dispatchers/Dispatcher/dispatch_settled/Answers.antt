@@ -1,5 +1,7 @@
 use Rattle.std.proofs.Common.{refl}
-use Rattle.shop_states.proofs.{AskedStates.kept_on, ReadStates.kept_read}
+use Rattle.shop_states.proofs.{AskedStates.kept_on, KeptRoom.room_kept, ReadStates.kept_read}
+use Rattle.shop_states.proofs.AskedStates.{kept_of}
+use Rattle.shop_states.specs.inner.WordStates.{state}
 use Rattle.shop_states.proofs.dispatchers.Dispatcher.dispatch_settled.Goals as goal
 
 pub of-dispatch-requires : goal.of-dispatch-requires
@@ -8,7 +10,7 @@ of-dispatch-requires g c =
     in record {
       shop = c.self.inside.laid_out.shop;
       word = has.word;
-      kept = kept_read c.grid-grid.ensures.grid refl has.is.0.kept.kept;
+      kept = kept_read c.grid-grid.ensures.grid refl (kept_of has.is.0).kept;
       fits = has.is.1.fits;
     }
 
@@ -18,12 +20,17 @@ advance_unbounded-requires-clause-can g c =
     in record {
       shop = c.self.inside.laid_out.shop;
       word = has.word;
-      kept = kept_read c.grid-grid.ensures.grid refl has.is.0.kept.kept;
+      kept = kept_read c.grid-grid.ensures.grid refl (kept_of has.is.0).kept;
       fits = rw c.of-dispatch.ensures.job has.is.1.fits;
     }
 
 pub returns-clause-state : goal.returns-clause-state
-returns-clause-state g c = rw (← c.self.view_is) (λ w of. record {
-  kept = kept_on of.0.kept (rw (c.grid-grid.ensures.grid, c.of-dispatch.ensures.job)
-      at c.advance_unbounded.ensures.state c.self.inside.laid_out.shop w of.0.kept.kept of.1.fits);
-})
+returns-clause-state g c = rw (← c.self.view_is) (λ w of. state (kept_on (kept_of of.0)
+    (rw (c.grid-grid.ensures.grid, c.of-dispatch.ensures.job)
+    at c.advance_unbounded.ensures.state c.self.inside.laid_out.shop w (kept_of of.0).kept of.1.fits)))
+
+pub returns-clause-slot : goal.returns-clause-slot
+returns-clause-slot g c = record {
+  room = room_kept (kept_of c.requires.is.0) _ _ _ c.advance_unbounded.ensures.room.positions
+      c.advance_unbounded.ensures.room.jobs c.advance_unbounded.ensures.room.nexts;
+}

@@ -4,15 +4,14 @@ use Rattle.shop_tree.proofs.walk_states.WalkStates.dispatch_settled.Goals as goa
 
 pub returns-then-candidate-job-clause-sound : goal.returns-then-candidate-job-clause-sound
 returns-then-candidate-job-clause-sound g c =
-    let old = subst (HoldSlots g.D.Dispatching) (sym c.loop-index.invariant) c.requires.sound
+    let old = subst (HoldSlots g.L.StateLanes) (sym c.loop-index.invariant) c.requires.sound
     in record {
       states = record {
-        scratch_is = old.scratch_is;
         current_is = c.dispatch_settled.ensures.slot;
         trial_is = old.trial_is;
         spare_are = old.spare_are;
       };
-      dispatcher = ap (λ s. s.dispatcher) c.loop-index.invariant;
+      laid_out = ap (λ s. s.dispatcher.laid_out) c.loop-index.invariant;
     }
 
 pub dispatch_settled-requires : goal.dispatch_settled-requires

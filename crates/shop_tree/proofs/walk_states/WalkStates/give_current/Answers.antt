@@ -15,11 +15,11 @@ returns-clause-given g c =
 
 pub returns-in_err-spare-clause-sound : goal.returns-in_err-spare-clause-sound
 returns-in_err-spare-clause-sound g c =
-    kept_then c.spare_state.ensures.sound c.dispatch_settled.ensures.sound.dispatcher
+    kept_then c.spare_state.ensures.sound c.dispatch_settled.ensures.sound.laid_out
 
 pub returns-in_default-2-clause-sound : goal.returns-in_default-2-clause-sound
 returns-in_default-2-clause-sound g c =
-    kept_then c.spare_state.ensures.sound c.dispatch_settled.ensures.sound.dispatcher
+    kept_then c.spare_state.ensures.sound c.dispatch_settled.ensures.sound.laid_out
 
 pub returns-in_default-2-clause-given : goal.returns-in_default-2-clause-given
 returns-in_default-2-clause-given g c = inl refl

@@ -1,5 +1,6 @@
 use Rattle.std.{proofs.Common.{◌≡◌, inl, [], Option, None, refl, subst}, specs.Global.Box}
 use Rattle.shop_tree.{specs.inner.{Held.IsHeldOf, Tried.{HasPutTried, HasStripped}}, proofs.ListLemmas.on_ok}
+use Rattle.shop_states.specs.declared.states.State.{State}
 use Rattle.shop_tree.proofs.walk_states.WalkStates.put_tried.Goals.{then-free-eq0+in_ok-give_back, else-free-eq0}
 use Rattle.shop_tree.proofs.walk_states.WalkStates.put_tried.Goals as goal
 
@@ -11,7 +12,7 @@ returns-clause-put g c =
       | then-free-eq0+in_ok-give_back w ↦ rw w.self-is w.in_ok-give_back.ensures.stayed.trial
       | else-free-eq0 w ↦ rw w.self-is refl
     ]
-    in let room : (stripped : Option (Box g.row.S.Denot)) × HasStripped c.args.from old mid stripped =
+    in let room : (stripped : Option (Box (State g.row.L.Denot g.row.L-Number.Denot))) × HasStripped c.args.from old mid stripped =
     elim c.if-free-eq0.branch [
       | then-free-eq0+in_ok-give_back w ↦ rw w.stack-is (w.strip_top-state.result, w.strip_top-state.ensures)
       | else-free-eq0 w ↦ rw w.stack-is (None, inl (refl, refl))

@@ -1,4 +1,4 @@
-use Rattle.std.proofs.Common.{◌≡◌, ◌<◌, ◌≤◌, ◌-◌, [], ◌∷◌, ◌++◌, None, get_or, sym, ◌∙◌, subst, append-nil, arith}
+use Rattle.std.proofs.Common.{◌≡◌, ◌<◌, ◌≤◌, ◌-◌, [], ◌∷◌, ◌++◌, None, ap, get_or, sym, ◌∙◌, subst, append-nil, arith}
 use Rattle.std.{proofs.Common.{length, refl}, specs.List.insert}
 use Rattle.shop_model.proofs.WordLengths.{word_length}
 use Rattle.shop_bound.specs.Bound.{lb}
@@ -8,6 +8,9 @@ use Rattle.shop_tree.proofs.{StripLemmas.{are_slots, many, tried_kept}, SiblingL
 use Rattle.shop_tree.proofs.{SiblingLemmas.{kept_then, put_given, settled_bound, settled_child}, TrialLemmas.IsTrying}
 use Rattle.shop_tree.proofs.TrialLemmas.{trying_begins, next_own, next_fits, turn_counted, turn_kept, told_high}
 use Rattle.shop_tree.proofs.TrialLemmas.{all_tried}
+use Rattle.shop_states.specs.inner.WordStates.{IsCandidate, IsSlot, IsStateOf}
+use Rattle.shop_states.proofs.KeptRoom.{slot_of}
+use Rattle.shop_states.proofs.AskedStates.{limits_of, word_of}
 use Rattle.shop_tree.proofs.walk_states.WalkStates.settle_candidates.Goals as goal
 
 pub overflow_cast-depth : goal.overflow_cast-depth
@@ -27,22 +30,22 @@ loop-index-init g c = record {
 
 pub overflow_add-closed : goal.overflow_add-closed
 overflow_add-closed g c =
-    let d = c.loop-index.self.dispatcher in let now = c.loop-index.invariant in let a = now.trying.few
-    in let limits = g.met.D.Dispatching.state_is_within_limits d c.args.branching.now.word.now _ now.branching.state
-    in let b = conflict_few (g.D.Dispatching.shop d) c.args.branching.now.word.now in let e = limits.jobs
+    let d = c.loop-index.self.dispatcher.laid_out in let now = c.loop-index.invariant in let a = now.trying.few
+    in let limits = limits_of now.branching.state
+    in let b = conflict_few (d.asked) c.args.branching.now.word.now in let e = limits.jobs
     in let some = c.loop-index-test.true in omega arith
 
 pub overflow_add-closed-in_default : goal.overflow_add-closed-in_default
 overflow_add-closed-in_default g c =
-    let d = c.loop-index.self.dispatcher in let now = c.loop-index.invariant in let a = now.trying.few
-    in let limits = g.met.D.Dispatching.state_is_within_limits d c.args.branching.now.word.now _ now.branching.state
-    in let b = conflict_few (g.D.Dispatching.shop d) c.args.branching.now.word.now in let e = limits.jobs
+    let d = c.loop-index.self.dispatcher.laid_out in let now = c.loop-index.invariant in let a = now.trying.few
+    in let limits = limits_of now.branching.state
+    in let b = conflict_few (d.asked) c.args.branching.now.word.now in let e = limits.jobs
     in let some = c.loop-index-test.true in omega arith
 
 pub loop-index-preserved-in_ok-put : goal.loop-index-preserved-in_ok-put
 loop-index-preserved-in_ok-put g c =
-    let now = c.loop-index.invariant in let d = c.loop-index.self.dispatcher
-    in let is = g.D.Dispatching.IsStateOf d in let shop = g.D.Dispatching.shop d
+    let now = c.loop-index.invariant in let d = c.loop-index.self.dispatcher.laid_out
+    in let is = IsStateOf g.L.StateLanes d in let shop = d.asked
     in let at = c.args.branching.now in let word = at.word.now in let cs = at.candidates.now
     in let i = c.loop-index.index
     in let some : 0 < i = (let a = c.loop-index-test.true in omega arith)
@@ -61,7 +64,7 @@ loop-index-preserved-in_ok-put g c =
           (record { «open» = record { depth = length word; job = job; bound = b }; state = None });
       stack = put.put;
       trying = turn_kept some now.trying c.loop-index.self.current.value
-          (g.met.D.Dispatching.state_is_of_word d word _ now.branching.state) child put (λ more. now.branching.state);
+          (word_of now.branching.state) child put (λ more. now.branching.state);
       branching = now.branching;
       bounded = now.bounded;
       more = now.more;
@@ -71,8 +74,8 @@ loop-index-preserved-in_ok-put g c =
 
 pub loop-index-preserved-else-least-limit : goal.loop-index-preserved-else-least-limit
 loop-index-preserved-else-least-limit g c =
-    let now = c.loop-index.invariant in let d = c.loop-index.self.dispatcher
-    in let shop = g.D.Dispatching.shop d in let at = c.args.branching.now in let word = at.word.now
+    let now = c.loop-index.invariant in let d = c.loop-index.self.dispatcher.laid_out
+    in let shop = d.asked in let at = c.args.branching.now in let word = at.word.now
     in let cs = at.candidates.now in let i = c.loop-index.index
     in let some : 0 < i = (let a = c.loop-index-test.true in omega arith)
     in let none : Candidate = record { job = 0; own = 0 }
@@ -101,30 +104,30 @@ try_child-requires-clause-can g c =
     in let within : i - 1 < length c.args.branching.now.candidates.now = (let a = now.trying.within in omega arith)
     in record {
       word = word;
-      is = (now.branching.state, next_own some now.trying, now.bounded.known (i - 1) none within);
+      is = ((now.branching.state, next_own some now.trying), now.bounded.known (i - 1) none within);
       fits = next_fits some now.trying
-          (g.met.D.Dispatching.state_is_of_word c.loop-index.self.dispatcher word _ now.branching.state);
+          (word_of now.branching.state);
       bound_is = now.branching.bound;
     }
 
 pub loop-index-preserved-in_default : goal.loop-index-preserved-in_default
 loop-index-preserved-in_default g c =
-    let now = c.loop-index.invariant in let d = c.loop-index.self.dispatcher
+    let now = c.loop-index.invariant in let d = c.loop-index.self.dispatcher.laid_out
     in let at = c.args.branching.now in let word = at.word.now in let cs = at.candidates.now
     in let i = c.loop-index.index
     in let some : 0 < i = (let a = c.loop-index-test.true in omega arith)
     in let job = (get_or cs (i - 1) (record { job = 0; own = 0 })).job
-    in let high = told_high at.limit (lb (g.D.Dispatching.shop d) (word ++ job ∷ [])) c.try_child.result
-    c.in_default.is (c.try_child.ensures.taken.told word now.branching.state (next_own some now.trying)
+    in let high = told_high at.limit (lb (d.asked) (word ++ job ∷ [])) c.try_child.result
+    c.in_default.is (c.try_child.ensures.taken.bounded word (now.branching.state, next_own some now.trying)
     now.branching.bound)
-    in let left = c.try_child.new.self.current.value in let same = c.try_child.ensures.sound.dispatcher
-    in let state = subst (λ s. g.D.Dispatching.IsStateOf d word s) (sym c.try_child.ensures.current) now.branching.state
+    in let left = c.try_child.new.self.current.value in let same = c.try_child.ensures.sound.laid_out
+    in let state = subst (λ s. IsStateOf g.L.StateLanes d word s) (sym c.try_child.ensures.current) now.branching.state
     in record {
       kids = now.kids;
       stack = now.stack;
       trying = rw same (turn_counted some now.trying left high (λ more. state));
       branching = branching_stays same c.try_child.ensures.current now.branching;
-      bounded = bounded_stays same c.try_child.ensures.kept now.bounded;
+      bounded = bounded_stays same (ap (λ x. x.ceilings) c.try_child.ensures.dispatcher) now.bounded;
       more = (let a = now.more in omega arith);
       sound = c.try_child.ensures.sound.states;
       same = same ∙ now.same;
@@ -135,12 +138,12 @@ put_tried-requires-clause-sound g c = c.try_child.ensures.sound.states
 
 pub put_tried-requires-clause-slots : goal.put_tried-requires-clause-slots
 put_tried-requires-clause-slots g c =
-    let now = c.loop-index.invariant in let d = c.loop-index.self.dispatcher in let slot = g.D.Dispatching.IsSlot
+    let now = c.loop-index.invariant in let d = c.loop-index.self.dispatcher.laid_out in let slot = IsSlot g.L.StateLanes
     in let a = c.len-from.ensures in let b = c.args.stack.now.ok.0
     in subst (λ x. AreSlotsFrom (slot x) c.len-from.result c.loop-index.stack.items)
-    (sym c.try_child.ensures.sound.dispatcher)
+    (sym c.try_child.ensures.sound.laid_out)
     (are_slots c.args.stack.now.items now.kids c.len-from.result (omega arith) c.loop-index.stack.items now.stack
-    (g.D.Dispatching.IsStateOf d) _ now.trying.states (slot d) (g.met.D.Dispatching.state_is_slot d))
+    (IsStateOf g.L.StateLanes d) _ now.trying.states (slot d) (λ w s. slot_of))
 
 pub put_tried-requires-clause-from : goal.put_tried-requires-clause-from
 put_tried-requires-clause-from g c =
@@ -150,29 +153,29 @@ put_tried-requires-clause-from g c =
 
 pub loop-index-preserved : goal.loop-index-preserved
 loop-index-preserved g c =
-    let now = c.loop-index.invariant in let d = c.loop-index.self.dispatcher
+    let now = c.loop-index.invariant in let d = c.loop-index.self.dispatcher.laid_out
     in let at = c.args.branching.now in let word = at.word.now in let cs = at.candidates.now
     in let i = c.loop-index.index
     in let some : 0 < i = (let a = c.loop-index-test.true in omega arith)
     in let e : c.len-from.result ≡ length c.args.stack.now.items =
     (let a = c.len-from.ensures in let b = c.args.stack.now.ok.0 in omega arith)
     in let left = c.put_tried.new.self.current.value
-    in let same = c.put_tried.ensures.sound.dispatcher ∙ c.try_child.ensures.sound.dispatcher
+    in let same = c.put_tried.ensures.sound.laid_out ∙ c.try_child.ensures.sound.laid_out
     in let current = c.in_ok-put_tried.ensures.current ∙ c.try_child.ensures.current
-    in let state = subst (g.D.Dispatching.IsStateOf d word) (sym current) now.branching.state
+    in let state = subst (IsStateOf g.L.StateLanes d word) (sym current) now.branching.state
     in let kept = tried_kept some now.trying e now.stack c.in_ok-put_tried.ensures.put c.in-Some.is
-    (c.try_child.ensures.taken.told word now.branching.state (next_own some now.trying) now.branching.bound)
-    (c.try_child.ensures.taken.state word now.branching.state (next_own some now.trying))
-    (g.met.D.Dispatching.state_is_of_word d word _ now.branching.state) left (λ more. state)
+    (c.try_child.ensures.taken.bounded word (now.branching.state, next_own some now.trying) now.branching.bound)
+    (c.try_child.ensures.taken.state word (now.branching.state, next_own some now.trying))
+    (word_of now.branching.state) left (λ more. state)
     in record {
       kids = kept.kids;
       stack = kept.stack;
-      trying = subst (λ x. IsTrying (g.D.Dispatching.IsStateOf x) (g.D.Dispatching.IsCandidate x word)
-          (g.D.Dispatching.shop x) at.limit word cs (i - 1) kept.kids c.loop-index.closed left)
+      trying = subst (λ x. IsTrying (IsStateOf g.L.StateLanes x) (IsCandidate x word)
+          (x.asked) at.limit word cs (i - 1) kept.kids c.loop-index.closed left)
           (sym same) kept.trying;
       branching = branching_stays same current now.branching;
-      bounded = bounded_stays same (λ w j known. subst (λ x. g.D.Dispatching.KnowsChild d x w j)
-          (sym c.in_ok-put_tried.ensures.scratch) (c.try_child.ensures.kept w j known)) now.bounded;
+      bounded = bounded_stays same (ap (λ x. x.ceilings)
+          (c.in_ok-put_tried.ensures.dispatcher ∙ c.try_child.ensures.dispatcher)) now.bounded;
       more = now.more;
       sound = c.put_tried.ensures.sound.states;
       same = same ∙ now.same;
@@ -182,15 +185,15 @@ pub returns-clause-children : goal.returns-clause-children
 returns-clause-children g c =
     let at = c.args.branching.now in let word = at.word.now in let old = c.args.stack.now.items
     in let mid = c.loop-index.stack.items in let new = c.give_current.new.stack.items
-    in let now = c.loop-index.invariant in let d = c.loop-index.self.dispatcher
-    in let is = g.D.Dispatching.IsStateOf d
+    in let now = c.loop-index.invariant in let d = c.loop-index.self.dispatcher.laid_out
+    in let is = IsStateOf g.L.StateLanes d
     in let e : c.len-from.result ≡ length old =
     (let a = c.len-from.ensures in let b = c.args.stack.now.ok.0 in omega arith)
     in let put = all_tried c.loop-index.index now.kids c.loop-index.closed c.loop-index.self.current.value old mid
     (let a = c.loop-index-test.false in omega arith) now.stack now.trying
     in record {
-      put = subst (λ x. HasPutChildren (g.D.Dispatching.IsStateOf x) (g.D.Dispatching.shop x) at.limit word old new
-          c.loop-index.closed) now.same (put_given is (g.D.Dispatching.shop d) at.limit word old mid new
+      put = subst (λ x. HasPutChildren (IsStateOf g.L.StateLanes x) (x.asked) at.limit word old new
+          c.loop-index.closed) now.same (put_given is (d.asked) at.limit word old mid new
           c.loop-index.closed c.len-from.result e put c.in_ok-give_current.ensures.given);
       more = now.more;
     }
@@ -202,7 +205,7 @@ put-requires g c = let now = c.loop-index.invariant in let a = c.len-from.ensure
 
 pub returns-in_err-put_tried-clause-sound : goal.returns-in_err-put_tried-clause-sound
 returns-in_err-put_tried-clause-sound g c = kept_then c.put_tried.ensures.sound
-    (c.try_child.ensures.sound.dispatcher ∙ c.loop-index.invariant.same)
+    (c.try_child.ensures.sound.laid_out ∙ c.loop-index.invariant.same)
 
 pub returns-in_err-give_current-clause-sound : goal.returns-in_err-give_current-clause-sound
 returns-in_err-give_current-clause-sound g c = kept_then c.give_current.ensures.sound c.loop-index.invariant.same
@@ -212,4 +215,4 @@ returns-clause-sound g c = kept_then c.give_current.ensures.sound c.loop-index.i
 
 pub returns-in_err-put-clause-sound : goal.returns-in_err-put-clause-sound
 returns-in_err-put-clause-sound g c =
-    record { states = c.loop-index.invariant.sound; dispatcher = c.loop-index.invariant.same }
+    record { states = c.loop-index.invariant.sound; laid_out = c.loop-index.invariant.same }

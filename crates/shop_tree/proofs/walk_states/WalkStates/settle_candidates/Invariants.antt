@@ -1,19 +1,21 @@
 use Rattle.std.proofs.Common.{◌≡◌, ◌≤◌, ◌++◌, List, map}
 use Rattle.shop_tree.specs.{inner.Held.{Kept, held}, inner.Slots.{AreBounded, HoldSlots, IsBranchingOf}}
 use Rattle.shop_tree.proofs.TrialLemmas.{IsTrying}
+use Rattle.shop_states.specs.inner.WordStates.{IsCandidate, IsStateOf}
+use Rattle.shop_states.specs.declared.states.State.{State}
 use Rattle.shop_tree.proofs.walk_states.WalkStates.settle_candidates.Given as goal
 
 abbrev pub invariant-loop-index : goal.invariant-loop-index
 invariant-loop-index g l = record {
-  kids : List (Kept g.row.S.Denot);
+  kids : List (Kept (State g.row.L.Denot g.row.L-Number.Denot));
   stack : l.stack.items ≡ l.fn.stack.items ++ map held kids;
-  trying : IsTrying (g.D.Dispatching.IsStateOf l.self.dispatcher)
-      (g.D.Dispatching.IsCandidate l.self.dispatcher l.branching.word.now)
-      (g.D.Dispatching.shop l.self.dispatcher) l.branching.limit l.branching.word.now
+  trying : IsTrying (IsStateOf g.L.StateLanes l.self.dispatcher.laid_out)
+      (IsCandidate l.self.dispatcher.laid_out l.branching.word.now)
+      l.self.dispatcher.laid_out.asked l.branching.limit l.branching.word.now
       l.branching.candidates.now l.index kids l.closed l.self.current.value;
-  branching : IsBranchingOf g.D.Dispatching l.self l.branching;
-  bounded : AreBounded g.D.Dispatching l.self l.branching l.top;
+  branching : IsBranchingOf g.L.StateLanes l.self l.branching;
+  bounded : AreBounded g.L.StateLanes l.self l.branching l.top;
   more : l.branching.closed ≤ l.closed;
-  sound : HoldSlots g.D.Dispatching l.self;
-  same : l.self.dispatcher ≡ l.fn.self.dispatcher;
+  sound : HoldSlots g.L.StateLanes l.self;
+  same : l.self.dispatcher.laid_out ≡ l.fn.self.dispatcher.laid_out;
 }

@@ -5,6 +5,9 @@ use Rattle.shop_tree.{specs.inner.Tried.{AreSlotsFrom, HasPutChildren}, proofs.S
 use Rattle.shop_tree.proofs.{StripLemmas.tried_kept, AddLemmas.conflict_few, SiblingLemmas.kept_then}
 use Rattle.shop_tree.proofs.TrialLemmas.{IsTrying, next_own, next_fits, turn_counted, told_high, still_wanted}
 use Rattle.shop_tree.proofs.TrialLemmas.{all_tried, trying_begins}
+use Rattle.shop_states.specs.inner.WordStates.{IsCandidate, IsSlot, IsStateOf}
+use Rattle.shop_states.proofs.KeptRoom.{slot_of}
+use Rattle.shop_states.proofs.AskedStates.{limits_of, word_of}
 use Rattle.shop_tree.proofs.walk_states.WalkStates.try_candidates.Goals as goal
 
 pub overflow_cast-depth : goal.overflow_cast-depth
@@ -23,16 +26,16 @@ loop-index-init g c =
       bound = branching.bound;
       more = omega arith;
       sound = c.bound_children.ensures.sound.states;
-      same = c.bound_children.ensures.sound.dispatcher;
+      same = c.bound_children.ensures.sound.laid_out;
     }
 
 pub overflow_add-closed : goal.overflow_add-closed
 overflow_add-closed g c =
-    let d = c.loop-index.self.dispatcher in let now = c.loop-index.invariant in let a = now.trying.few
+    let d = c.loop-index.self.dispatcher.laid_out in let now = c.loop-index.invariant in let a = now.trying.few
     in let some : 0 < c.loop-index.index = (let a = c.loop-index-test.true in omega arith)
     in let word = c.args.branching.now.word.now
-    in let limits = g.met.D.Dispatching.state_is_within_limits d word _ (now.trying.wanted some)
-    in let b = conflict_few (g.D.Dispatching.shop d) word in let e = limits.jobs in omega arith
+    in let limits = limits_of (now.trying.wanted some)
+    in let b = conflict_few (d.asked) word in let e = limits.jobs in omega arith
 
 pub try_candidate-requires-clause-can : goal.try_candidate-requires-clause-can
 try_candidate-requires-clause-can g c =
@@ -43,27 +46,27 @@ try_candidate-requires-clause-can g c =
       word = word;
       is = (state, next_own some now.trying);
       fits = next_fits some now.trying
-          (g.met.D.Dispatching.state_is_of_word c.loop-index.self.dispatcher word _ state);
+          (word_of state);
       bound_is = now.bound;
     }
 
 pub loop-index-preserved-in_default-try_candidate : goal.loop-index-preserved-in_default-try_candidate
 loop-index-preserved-in_default-try_candidate g c =
-    let now = c.loop-index.invariant in let d = c.loop-index.self.dispatcher
+    let now = c.loop-index.invariant in let d = c.loop-index.self.dispatcher.laid_out
     in let at = c.args.branching.now in let word = at.word.now in let cs = at.candidates.now
     in let i = c.loop-index.index
     in let some : 0 < i = (let a = c.loop-index-test.true in omega arith)
     in let job = (get_or cs (i - 1) (record { job = 0; own = 0 })).job
     in let state = now.trying.wanted some
-    in let high = told_high at.limit (lb (g.D.Dispatching.shop d) (word ++ job ∷ [])) c.try_candidate.result
-    c.in_default-try_candidate.is (c.try_candidate.ensures.taken.told word state (next_own some now.trying) now.bound)
-    in let left = c.try_candidate.new.self.current.value in let same = c.try_candidate.ensures.sound.dispatcher
+    in let high = told_high at.limit (lb (d.asked) (word ++ job ∷ [])) c.try_candidate.result
+    c.in_default-try_candidate.is (c.try_candidate.ensures.taken.bounded word (state, next_own some now.trying) now.bound)
+    in let left = c.try_candidate.new.self.current.value in let same = c.try_candidate.ensures.sound.laid_out
     in record {
       kids = now.kids;
       stack = now.stack;
       trying = rw same (turn_counted some now.trying left high
-          (still_wanted (g.D.Dispatching.IsStateOf d word) i c.try_candidate.ensures.current state));
-      bound = now.bound ∙ ap (λ x. lb (g.D.Dispatching.shop x) word) (sym same);
+          (still_wanted (IsStateOf g.L.StateLanes d word) i c.try_candidate.ensures.current state));
+      bound = now.bound ∙ ap (λ x. lb (x.asked) word) (sym same);
       more = (let a = now.more in omega arith);
       sound = c.try_candidate.ensures.sound.states;
       same = same ∙ now.same;
@@ -74,12 +77,12 @@ put_tried-requires-clause-sound g c = c.try_candidate.ensures.sound.states
 
 pub put_tried-requires-clause-slots : goal.put_tried-requires-clause-slots
 put_tried-requires-clause-slots g c =
-    let now = c.loop-index.invariant in let d = c.loop-index.self.dispatcher in let slot = g.D.Dispatching.IsSlot
+    let now = c.loop-index.invariant in let d = c.loop-index.self.dispatcher.laid_out in let slot = IsSlot g.L.StateLanes
     in let a = c.len-from.ensures in let b = c.args.stack.now.ok.0
     in subst (λ x. AreSlotsFrom (slot x) c.len-from.result c.loop-index.stack.items)
-    (sym c.try_candidate.ensures.sound.dispatcher)
+    (sym c.try_candidate.ensures.sound.laid_out)
     (are_slots c.args.stack.now.items now.kids c.len-from.result (omega arith) c.loop-index.stack.items now.stack
-    (g.D.Dispatching.IsStateOf d) _ now.trying.states (slot d) (g.met.D.Dispatching.state_is_slot d))
+    (IsStateOf g.L.StateLanes d) _ now.trying.states (slot d) (λ w s. slot_of))
 
 pub put_tried-requires-clause-from : goal.put_tried-requires-clause-from
 put_tried-requires-clause-from g c =
@@ -89,8 +92,8 @@ put_tried-requires-clause-from g c =
 
 pub loop-index-preserved : goal.loop-index-preserved
 loop-index-preserved g c =
-    let now = c.loop-index.invariant in let d = c.loop-index.self.dispatcher
-    in let is = g.D.Dispatching.IsStateOf d in let at = c.args.branching.now in let word = at.word.now
+    let now = c.loop-index.invariant in let d = c.loop-index.self.dispatcher.laid_out
+    in let is = IsStateOf g.L.StateLanes d in let at = c.args.branching.now in let word = at.word.now
     in let i = c.loop-index.index
     in let some : 0 < i = (let a = c.loop-index-test.true in omega arith)
     in let state = now.trying.wanted some
@@ -98,18 +101,18 @@ loop-index-preserved g c =
     (let a = c.len-from.ensures in let b = c.args.stack.now.ok.0 in omega arith)
     in let left = c.put_tried.new.self.current.value
     in let kept = tried_kept some now.trying e now.stack c.in_ok-put_tried.ensures.put c.in-Some-try_candidate.is
-    (c.try_candidate.ensures.taken.told word state (next_own some now.trying) now.bound)
-    (c.try_candidate.ensures.taken.state word state (next_own some now.trying))
-    (g.met.D.Dispatching.state_is_of_word d word _ state) left
+    (c.try_candidate.ensures.taken.bounded word (state, next_own some now.trying) now.bound)
+    (c.try_candidate.ensures.taken.state word (state, next_own some now.trying))
+    (word_of state) left
     (still_wanted (is word) i (λ f. c.in_ok-put_tried.ensures.current ∙ c.try_candidate.ensures.current f) state)
-    in let same = c.put_tried.ensures.sound.dispatcher ∙ c.try_candidate.ensures.sound.dispatcher
+    in let same = c.put_tried.ensures.sound.laid_out ∙ c.try_candidate.ensures.sound.laid_out
     in record {
       kids = kept.kids;
       stack = kept.stack;
-      trying = subst (λ x. IsTrying (g.D.Dispatching.IsStateOf x) (g.D.Dispatching.IsCandidate x word)
-          (g.D.Dispatching.shop x) at.limit word at.candidates.now (i - 1) kept.kids
+      trying = subst (λ x. IsTrying (IsStateOf g.L.StateLanes x) (IsCandidate x word)
+          (x.asked) at.limit word at.candidates.now (i - 1) kept.kids
           c.loop-index.closed left) (sym same) kept.trying;
-      bound = now.bound ∙ ap (λ x. lb (g.D.Dispatching.shop x) word) (sym same);
+      bound = now.bound ∙ ap (λ x. lb (x.asked) word) (sym same);
       more = now.more;
       sound = c.put_tried.ensures.sound.states;
       same = same ∙ now.same;
@@ -120,7 +123,7 @@ returns-clause-children g c =
     let at = c.args.branching.now in let word = at.word.now in let old = c.args.stack.now.items
     in let new = c.loop-index.stack.items in let now = c.loop-index.invariant
     in record {
-      put = subst (λ x. HasPutChildren (g.D.Dispatching.IsStateOf x) (g.D.Dispatching.shop x) at.limit word old new
+      put = subst (λ x. HasPutChildren (IsStateOf g.L.StateLanes x) (x.asked) at.limit word old new
           c.loop-index.closed) now.same (all_tried c.loop-index.index now.kids c.loop-index.closed
           c.loop-index.self.current.value old new (let a = c.loop-index-test.false in omega arith) now.stack
           now.trying);
@@ -129,4 +132,4 @@ returns-clause-children g c =
 
 pub returns-in_err-put_tried-clause-sound : goal.returns-in_err-put_tried-clause-sound
 returns-in_err-put_tried-clause-sound g c = kept_then c.put_tried.ensures.sound
-    (c.try_candidate.ensures.sound.dispatcher ∙ c.loop-index.invariant.same)
+    (c.try_candidate.ensures.sound.laid_out ∙ c.loop-index.invariant.same)

@@ -8,6 +8,8 @@ use Rattle.shop_tree.{specs.inner.Walkers.gone_on, proofs.ExpandLemmas.{HasGone,
 use Rattle.shop_tree.proofs.{HeldLemmas.{rest_waits, states_rest}, ListedLemmas.{alone_closed, alone_fits, alone_kept}}
 use Rattle.shop_tree.proofs.{ListedLemmas.{alone_own, few_closed, one_listed, sole_listed}, StateLemmas.held_on}
 use Rattle.shop_tree.proofs.{StateSteps.reached, TrialLemmas.{told_high, told_low, told_state}}
+use Rattle.shop_states.specs.inner.WordStates.{IsStateOf}
+use Rattle.shop_states.proofs.AskedStates.{limits_of, word_of, sole_of}
 use Rattle.shop_tree.proofs.walkers.Walker.go_on.Goals as goal
 
 pub strike-requires-clause-sole : goal.strike-requires-clause-sole
@@ -20,11 +22,11 @@ strike-requires-clause-sole g c = record {
 
 pub take_job-requires-clause-held : goal.take_job-requires-clause-held
 take_job-requires-clause-held g c =
-    let self = c.args.self.now in let e = c.strike.new.self.dispatcher
-    in held_on (g.D.Dispatching.IsStateOf e) self.instance.now self.best self.path.items
+    let self = c.args.self.now in let e = c.strike.new.self.dispatcher.laid_out
+    in held_on (IsStateOf g.L.StateLanes e) self.instance.now self.best self.path.items
     c.index-candidate.result.now.job self.stack.items c.requires.listed.at.in_order
-    (subst (λ x. AreHeld (g.D.Dispatching.IsStateOf x) self.path.items self.stack.items)
-    (sym c.strike.ensures.sound.dispatcher) c.requires.listed.at.states.held)
+    (subst (λ x. AreHeld (IsStateOf g.L.StateLanes x) self.path.items self.stack.items)
+    (sym c.strike.ensures.sound.laid_out) c.requires.listed.at.states)
 
 pub take_job-requires-clause-state : goal.take_job-requires-clause-state
 take_job-requires-clause-state g c = c.strike.ensures.state c.args.self.now.path.items c.requires.listed.at.state
@@ -33,14 +35,14 @@ take_job-requires-clause-state g c = c.strike.ensures.state c.args.self.now.path
 
 pub returns-then-closed-eq0 : goal.returns-then-closed-eq0
 returns-then-closed-eq0 g c =
-    let self = c.args.self.now in let d = self.states.dispatcher in let shop = self.instance.now
+    let self = c.args.self.now in let d = self.states.dispatcher.laid_out in let shop = self.instance.now
     in let word = self.path.items in let job = c.index-candidate.result.now.job in let at = c.requires.listed.at
     in let alone = sole_listed self.candidates.items c.index-candidate.result.now _ c.requires.one
     c.index-candidate.ensures c.if-closed-eq0.true c.requires.listed.candidates
     in let short : length word < operation_count shop =
     (let a = c.requires.listed.short in let b = self.counted in omega arith)
     in let keeps : SoleCandidateKeepsBound shop word = subst (λ (x : Shop). SoleCandidateKeepsBound x word)
-    self.same_shop (g.met.D.Dispatching.sole_keeps_bound d word self.states.current.value at.state)
+    self.same_shop (sole_of at.state)
     in let gone = follows_one (stage_of self) job short
     (ap (λ (x : Shop). conflict x word) (sym self.same_shop) ∙ alone) keeps c.requires.some (let a = at.bound in let b =
     at.below in omega arith) at.in_order
@@ -51,7 +53,7 @@ returns-then-closed-eq0 g c =
 
 pub dispatch_below-requires-clause-can : goal.dispatch_below-requires-clause-can
 dispatch_below-requires-clause-can g c =
-    let self = c.args.self.now in let d = self.states.dispatcher in let word = self.path.items
+    let self = c.args.self.now in let d = self.states.dispatcher.laid_out in let word = self.path.items
     in let cand = c.index-candidate.result.now
     in let one = one_listed self.candidates.items cand _ c.requires.one c.index-candidate.ensures
     in let at = c.requires.listed.at
@@ -62,84 +64,83 @@ dispatch_below-requires-clause-can g c =
         alone_own one c.requires.listed.candidates,
       );
       fits = alone_fits one c.requires.listed.candidates
-          (g.met.D.Dispatching.state_is_of_word d word self.states.current.value at.state);
+          (word_of at.state);
       bound_is = at.bound ∙ ap (λ (x : Shop). lb x word) (sym self.same_shop);
     }
 
 pub overflow_add-closed : goal.overflow_add-closed
 overflow_add-closed g c =
     let self = c.args.self.now in let few = few_closed c.requires.listed.candidates
-    in let limits = (g.met.D.Dispatching.state_is_within_limits self.states.dispatcher self.path.items _
-    c.requires.listed.at.state).jobs
+    in let limits = (limits_of c.requires.listed.at.state).jobs
     in omega arith
 
 pub close-requires-clause-word : goal.close-requires-clause-word
 close-requires-clause-word g c = let self = c.args.self.now in subst (λ x. IsWord x self.path.items) self.same_shop
-    (g.met.D.Dispatching.state_is_of_word self.states.dispatcher self.path.items _ c.requires.listed.at.state)
+    (word_of c.requires.listed.at.state)
 
 pub close-requires-clause-limits : goal.close-requires-clause-limits
 close-requires-clause-limits g c = let self = c.args.self.now in subst IsWithinLimits self.same_shop
-    (g.met.D.Dispatching.state_is_within_limits self.states.dispatcher self.path.items _ c.requires.listed.at.state)
+    (limits_of c.requires.listed.at.state)
 
 pub close-requires-clause-closed : goal.close-requires-clause-closed
 close-requires-clause-closed g c =
-    let self = c.args.self.now in let shop = g.D.Dispatching.shop self.states.dispatcher
+    let self = c.args.self.now in let shop = self.states.dispatcher.laid_out.asked
     in let word = self.path.items in let cand = c.index-candidate.result.now in let at = c.requires.listed.at
     in let one = one_listed self.candidates.items cand _ c.requires.one c.index-candidate.ensures
     in let bound = at.bound ∙ ap (λ (x : Shop). lb x word) (sym self.same_shop)
     in let high = told_high self.best (lb shop (word ++ cand.job ∷ [])) c.dispatch_below.result c.in_default.is
-    (c.dispatch_below.ensures.taken.told word at.state (alone_own one c.requires.listed.candidates) bound)
+    (c.dispatch_below.ensures.taken.bounded word (at.state, alone_own one c.requires.listed.candidates) bound)
     in subst (λ (x : Shop). AreChildren x self.best word [] (c.args.closed + 1)) self.same_shop
     (alone_closed one c.requires.listed.candidates high)
 
 pub close-requires-clause-states : goal.close-requires-clause-states
 close-requires-clause-states g c = let self = c.args.self.now
-    in let held = subst (λ x. AreHeld (g.D.Dispatching.IsStateOf x) self.path.items self.stack.items)
-    (sym c.dispatch_below.ensures.sound.dispatcher) c.requires.listed.at.states.held
-    in record { held = held; states = c.dispatch_below.ensures.sound.states }
+    in let held = subst (λ x. AreHeld (IsStateOf g.L.StateLanes x) self.path.items self.stack.items)
+    (sym c.dispatch_below.ensures.sound.laid_out) c.requires.listed.at.states
+    in held
 
 pub put_rest-requires : goal.put_rest-requires
 put_rest-requires g c =
-    let self = c.args.self.now in let d = self.states.dispatcher in let word = self.path.items
+    let self = c.args.self.now in let d = self.states.dispatcher.laid_out in let word = self.path.items
     in let state = c.requires.listed.at.state
-    in let limits = g.met.D.Dispatching.state_is_within_limits d word self.states.current.value state
-    in let most = word_length (g.D.Dispatching.shop d) word limits
-    (g.met.D.Dispatching.state_is_of_word d word self.states.current.value state)
+    in let limits = limits_of state
+    in let most = word_length (d.asked) word limits
+    (word_of state)
     in let few = few_closed c.requires.listed.candidates
     in let jobs = limits.jobs in let b = c.len.ensures in let e = self.path.ok.0
     in record { depth = omega arith; count = omega arith }
 
 pub take_job-requires-2-clause-held : goal.take_job-requires-2-clause-held
 take_job-requires-2-clause-held g c =
-    let self = c.args.self.now in let is = g.D.Dispatching.IsStateOf self.states.dispatcher
+    let self = c.args.self.now in let is = IsStateOf g.L.StateLanes self.states.dispatcher.laid_out
     in let next = self.path.items ++ c.index-candidate.result.now.job ∷ [] in let at = c.requires.listed.at
     in let longer = held_on is self.instance.now self.best self.path.items c.index-candidate.result.now.job
-    self.stack.items at.in_order at.states.held
-    in subst (λ x. AreHeld (g.D.Dispatching.IsStateOf x) next c.put_rest.new.stack.items)
-    (sym c.dispatch_below.ensures.sound.dispatcher) (subst (λ hs. AreHeld is next hs) (sym c.in_ok-put_rest.ensures)
+    self.stack.items at.in_order at.states
+    in subst (λ x. AreHeld (IsStateOf g.L.StateLanes x) next c.put_rest.new.stack.items)
+    (sym c.dispatch_below.ensures.sound.laid_out) (subst (λ hs. AreHeld is next hs) (sym c.in_ok-put_rest.ensures)
     (states_rest self.stack.items is next c.len.result c.args.closed longer))
 
 pub take_job-requires-2-clause-state : goal.take_job-requires-2-clause-state
 take_job-requires-2-clause-state g c =
     let self = c.args.self.now in let word = self.path.items in let cand = c.index-candidate.result.now
     in let one = one_listed self.candidates.items cand _ c.requires.one c.index-candidate.ensures
-    in let is = g.D.Dispatching.IsStateOf in let after = c.dispatch_below.new.self.current.value
-    in subst (λ x. is x (word ++ cand.job ∷ []) after) (sym c.dispatch_below.ensures.sound.dispatcher)
-    (told_state (is self.states.dispatcher (word ++ cand.job ∷ []) after) c.in-Some.bound c.dispatch_below.result
-    c.in-Some.is (c.dispatch_below.ensures.taken.state word c.requires.listed.at.state
-    (alone_own one c.requires.listed.candidates)))
+    in let is = IsStateOf g.L.StateLanes in let after = c.dispatch_below.new.self.current.value
+    in subst (λ x. is x (word ++ cand.job ∷ []) after) (sym c.dispatch_below.ensures.sound.laid_out)
+    (told_state (is self.states.dispatcher.laid_out (word ++ cand.job ∷ []) after) c.in-Some.bound c.dispatch_below.result
+    c.in-Some.is (c.dispatch_below.ensures.taken.state word
+    (c.requires.listed.at.state, alone_own one c.requires.listed.candidates)))
 
 pub returns : goal.returns
 returns g c =
-    let self = c.args.self.now in let d = self.states.dispatcher in let shop = g.D.Dispatching.shop d
+    let self = c.args.self.now in let d = self.states.dispatcher.laid_out in let shop = d.asked
     in let word = self.path.items in let cand = c.index-candidate.result.now
     in let one = one_listed self.candidates.items cand _ c.requires.one c.index-candidate.ensures
     in let at = c.requires.listed.at
     in let bound = at.bound ∙ ap (λ (x : Shop). lb x word) (sym self.same_shop)
     in let own = alone_own one c.requires.listed.candidates
-    in let is_word = g.met.D.Dispatching.state_is_of_word d word self.states.current.value at.state
+    in let is_word = (word_of at.state)
     in let low = told_low self.best (lb shop (word ++ cand.job ∷ [])) c.in-Some.bound c.dispatch_below.result
-    c.in-Some.is (c.dispatch_below.ensures.taken.told word at.state own bound)
+    c.in-Some.is (c.dispatch_below.ensures.taken.bounded word (at.state, own) bound)
     in let o : Open = record { depth = length word; job = cand.job; bound = c.in-Some.bound }
     in let kids : AreChildren self.instance.now self.best word (o ∷ []) c.args.closed =
     subst (λ (x : Shop). AreChildren x self.best word (o ∷ []) c.args.closed) self.same_shop

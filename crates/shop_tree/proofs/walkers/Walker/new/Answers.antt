@@ -3,4 +3,4 @@ use Rattle.shop_tree.proofs.walkers.Walker.new.Goals as goal
 
 pub returns-clause-states : goal.returns-clause-states
 returns-clause-states g c =
-    record { held = rw c.new-2.ensures.items (All-nil _); states = c.in_ok-new.ensures.sound }
+    rw c.new-2.ensures.items (All-nil _)

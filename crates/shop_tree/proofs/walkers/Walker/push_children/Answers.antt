@@ -6,32 +6,32 @@ use Rattle.shop_tree.specs.inner.{Slots.{IsStateIn, Lists}, StateWalkers.stage_o
 use Rattle.shop_bound.specs.Bound.{lb}
 use Rattle.shop_tree.proofs.{ListLemmas.on_ok, AddLemmas.few_open, ExpandLemmas.branched, ListedLemmas.few_closed}
 use Rattle.shop_tree.proofs.{HeldLemmas.{rest_long, waiting_put}, StateSteps.held_branched}
+use Rattle.shop_states.specs.declared.states.State.{State}
+use Rattle.shop_states.proofs.AskedStates.{limits_of, word_of}
 use Rattle.shop_tree.proofs.walkers.Walker.push_children.Goals as goal
 
 pub put_rest-requires : goal.put_rest-requires
 put_rest-requires g c =
-    let self = c.args.self.now in let d = self.states.dispatcher in let word = self.path.items
-    in let limits = g.met.D.Dispatching.state_is_within_limits d word self.states.current.value
-    c.requires.listed.at.state
-    in let most = word_length (g.D.Dispatching.shop d) word limits
-    (g.met.D.Dispatching.state_is_of_word d word self.states.current.value c.requires.listed.at.state)
+    let self = c.args.self.now in let d = self.states.dispatcher.laid_out in let word = self.path.items
+    in let limits = limits_of c.requires.listed.at.state
+    in let most = word_length (d.asked) word limits
+    (word_of c.requires.listed.at.state)
     in let few = few_closed c.requires.listed.candidates
     in let jobs = limits.jobs in let b = c.len-depth.ensures in let e = self.path.ok.0
     in record { depth = omega arith; count = omega arith }
 
 pub set_rest_below-requires : goal.set_rest_below-requires
 set_rest_below-requires g c =
-    let self = c.args.self.now in let d = self.states.dispatcher in let word = self.path.items
+    let self = c.args.self.now in let d = self.states.dispatcher.laid_out in let word = self.path.items
     in let old = self.stack.items in let put = c.in_ok-all.ensures.children.put
-    in let a = ap (λ (hs : List (Held g.row.S.Denot)). length hs) put.stack
+    in let a = ap (λ (hs : List (Held (State g.row.L.Denot g.row.L-Number.Denot))). length hs) put.stack
     in let b = length-append c.put_rest.new.stack.items (map held put.kids)
-    in let e = ap (λ (hs : List (Held g.row.S.Denot)). length hs) c.in_ok-put_rest.ensures
+    in let e = ap (λ (hs : List (Held (State g.row.L.Denot g.row.L-Number.Denot))). length hs) c.in_ok-put_rest.ensures
     in let f = rest_long old c.len-depth.result c.args.closed
     in let h = c.len-below.ensures in let i = self.stack.ok.0
-    in let limits = g.met.D.Dispatching.state_is_within_limits d word self.states.current.value
-    c.requires.listed.at.state
-    in let most = word_length (g.D.Dispatching.shop d) word limits
-    (g.met.D.Dispatching.state_is_of_word d word self.states.current.value c.requires.listed.at.state)
+    in let limits = limits_of c.requires.listed.at.state
+    in let most = word_length (d.asked) word limits
+    (word_of c.requires.listed.at.state)
     in let few = few_open put.children
     in let jobs = limits.jobs in let k = c.len-depth.ensures in let n = self.path.ok.0
     in record {
@@ -43,19 +43,19 @@ set_rest_below-requires g c =
 
 pub returns-clause-branched : goal.returns-clause-branched
 returns-clause-branched g c =
-    let self = c.args.self.now in let d = self.states.dispatcher in let word = self.path.items
+    let self = c.args.self.now in let d = self.states.dispatcher.laid_out in let word = self.path.items
     in let best = self.best in let put = c.in_ok-all.ensures.children.put in let opens = opens_in put.kids
     in let n = c.in_ok-all.all
     in let kids = rw (self.same_shop, c.as_slice.ensures.value) at put.children
     in let is : IsWord self.instance.now word = subst (λ x. IsWord x word) self.same_shop
-    (g.met.D.Dispatching.state_is_of_word d word self.states.current.value c.requires.listed.at.state)
+    (word_of c.requires.listed.at.state)
     in let short : length word < operation_count self.instance.now = (let a = c.requires.listed.short
     in let b = self.counted in omega arith)
     in let depth : c.len-depth.result ≡ length word = (let a = c.len-depth.ensures in let b = self.path.ok.0
     in omega arith)
     in let place : c.len-below.result ≡ length self.stack.items = (let a = c.len-below.ensures
     in let b = self.stack.ok.0 in omega arith)
-    in let before = put.stack ∙ ap (λ (hs : List (Held g.row.S.Denot)). hs ++ map held put.kids)
+    in let before = put.stack ∙ ap (λ (hs : List (Held (State g.row.L.Denot g.row.L-Number.Denot))). hs ++ map held put.kids)
     c.in_ok-put_rest.ensures
     in let stack = c.set_rest_below.new.stack.items
     in on_ok _ (HasBranched (stage_of self) (record (stage_of self) { stack = waiting_in stack }))
@@ -69,13 +69,13 @@ returns-clause-states g c = grind (arith, on_ok, held_branched)
 
 pub try_candidates-requires-clause-branching : goal.try_candidates-requires-clause-branching
 try_candidates-requires-clause-branching g c =
-    let self = c.args.self.now in let at = c.requires.listed.at in let s = self.states in let is = g.D.Dispatching
+    let self = c.args.self.now in let at = c.requires.listed.at in let s = self.states in let g' = g.L.StateLanes
     in let word = sym c.as_slice.ensures.value
     in record {
-      state = subst (IsStateIn is s) word at.state;
+      state = subst (IsStateIn g' s) word at.state;
       bound = at.bound ∙ (ap (λ x. lb x self.path.items) (sym self.same_shop)
-          ∙ ap (lb (is.shop s.dispatcher)) word);
-      listed = subst (λ v. Lists is s v self.best c.as_slice-2.result.now c.args.closed) word
-          (subst (λ cs. Lists is s self.path.items self.best cs c.args.closed) (sym c.as_slice-2.ensures.value)
+          ∙ ap (lb s.dispatcher.laid_out.asked) word);
+      listed = subst (λ v. Lists g' s v self.best c.as_slice-2.result.now c.args.closed) word
+          (subst (λ cs. Lists g' s self.path.items self.best cs c.args.closed) (sym c.as_slice-2.ensures.value)
           c.requires.listed.candidates);
     }

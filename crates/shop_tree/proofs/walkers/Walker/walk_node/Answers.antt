@@ -26,7 +26,7 @@ expand-requires g c = record {
     bound = c.requires.node.1 ∙ ap (lb c.args.self.now.instance.now) (sym c.in_ok-write_to.ensures.list);
     below = (let a = c.if-node-self.false in omega arith);
     in_order = rw c.requires.empty (record { each = tt; rising = tt });
-    states = record { held = rw c.requires.empty (All-nil _); states = c.fill.ensures.sound.states };
-    state = subst (IsStateIn g.D.Dispatching c.fill.new.self) c.as_slice.ensures.value c.fill.ensures.state;
+    states = rw c.requires.empty (All-nil _);
+    state = subst (IsStateIn g.L.StateLanes c.fill.new.self) c.as_slice.ensures.value c.fill.ensures.state;
   };
 }

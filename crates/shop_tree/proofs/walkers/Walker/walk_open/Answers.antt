@@ -4,6 +4,7 @@ use Rattle.shop_tree.specs.inner.{Held.waiting_in, Slots.IsStateIn, StateWalkers
 use Rattle.shop_tree.proofs.{OpenLemmas.popped, ListLemmas.on_ok, StateLemmas.held_below, WalkerLemmas.turn_cut}
 use Rattle.shop_tree.proofs.WalkerLemmas.{turn_expanded, went_in_order}
 use Rattle.shop_nodes.specs.{Halts.{open_child, word_at}}
+use Rattle.shop_states.specs.inner.WordStates.{IsStateOf}
 use Rattle.shop_tree.proofs.walkers.Walker.walk_open.Goals as goal
 
 pub returns-then-child-self-clause-turn : goal.returns-then-child-self-clause-turn
@@ -32,7 +33,7 @@ go_on_in-requires-clause-word g c =
 
 pub expand-requires : goal.expand-requires
 expand-requires g c =
-    let self = c.args.self.now in let o = c.args.child in let d = self.states.dispatcher
+    let self = c.args.self.now in let o = c.args.child in let d = self.states.dispatcher.laid_out
     in let word = self.path.items in let hs = self.stack.items
     in let own = (popped (waiting_in hs) (open_child o) c.requires.on).own
     in let went : c.push.new.self.items ≡ word_at word o =
@@ -42,12 +43,9 @@ expand-requires g c =
         bound = rw went own.bound;
         below = (let a = c.if-child-self.false in omega arith);
         in_order = rw went (went_in_order (stage_of self) o c.requires.on);
-        states = record {
-          held = rw (c.go_on_in.ensures.sound.dispatcher, went) (held_below (g.D.Dispatching.IsStateOf d)
-              self.instance.now self.best word hs o c.requires.on c.requires.states.held);
-          states = c.go_on_in.ensures.sound.states;
-        };
-        state = subst (IsStateIn g.D.Dispatching c.go_on_in.new.self) c.as_slice.ensures.value
+        states = rw (c.go_on_in.ensures.sound.laid_out, went) (held_below (IsStateOf g.L.StateLanes d)
+            self.instance.now self.best word hs o c.requires.on c.requires.states);
+        state = subst (IsStateIn g.L.StateLanes c.go_on_in.new.self) c.as_slice.ensures.value
             c.in_ok-go_on_in.ensures.state;
       };
     }
