@@ -1,4 +1,5 @@
-use Rattle.std.proofs.Common.{rules, ap, subst, sym}
+use Rattle.std.proofs.Common.{ap, subst, sym}
+use Rattle.shop_states.specs.declared.states.Candidate.{Candidate}
 use Rattle.shop_tree.specs.inner.Slots.{HoldSlots}
 use Rattle.shop_tree.proofs.walk_states.WalkStates.dispatch_settled.Goals as goal
 
@@ -20,4 +21,8 @@ dispatch_settled-requires g c =
     in record { word = at.word; is = rw (c.deref_mut.ensures.value, c.loop-index.invariant) at.is }
 
 pub returns-then-candidate-job-clause-state : goal.returns-then-candidate-job-clause-state
-returns-then-candidate-job-clause-state g c = search rules
+returns-then-candidate-job-clause-state g c = λ is w state all.
+    let none : Candidate = record { job = 0; own = 0 }
+    in let own = all c.loop-index.index none c.loop-index-test.true
+    in rw c.if-candidate-job.true at (c.dispatch_settled.ensures.state w
+    (rw (c.deref_mut.ensures.value, c.loop-index.invariant) (state, own)))

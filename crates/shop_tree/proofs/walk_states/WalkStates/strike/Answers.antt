@@ -13,3 +13,6 @@ returns-clause-sound g c =
       };
       laid_out = refl;
     }
+
+pub returns-clause-state : goal.returns-clause-state
+returns-clause-state g c = rw c.deref_mut.ensures.value at c.strike.ensures

@@ -1,6 +1,25 @@
+use Rattle.std.proofs.Common.{refl}
 use Rattle.shop_tree.proofs.walk_states.WalkStates.try_child.Goals as goal
 
 pub dispatch_in_copy-requires-clause-can : goal.dispatch_in_copy-requires-clause-can
 dispatch_in_copy-requires-clause-can g c =
-    let can = c.requires.can in let is = rw c.deref.ensures can.is
-    in record { word = can.word; is = (is.0, λ known. is.1); fits = can.fits; bound_is = can.bound_is }
+    let can = c.requires.can
+    in record {
+      word = can.word;
+      is = rw c.deref.ensures (can.is.0, λ known. can.is.1);
+      fits = can.fits;
+      bound_is = can.bound_is;
+    }
+
+pub returns-clause-sound : goal.returns-clause-sound
+returns-clause-sound g c = rw c.dispatch_in_copy.ensures.same (record {
+  states = record {
+    current_is = c.requires.sound.current_is;
+    trial_is = c.dispatch_in_copy.ensures.slot;
+    spare_are = c.requires.sound.spare_are;
+  };
+  laid_out = refl;
+})
+
+pub returns-clause-taken : goal.returns-clause-taken
+returns-clause-taken g c = rw c.deref.ensures at c.dispatch_in_copy.ensures.dispatched
