@@ -1,36 +1,41 @@
 // A dispatch in a copy of a state, by one call and by two, and without a bound: the bounds are equal, and the states
 // behave alike. So too where the children of a word were bounded together.
 ghost use Rattle.std.specs.Prelude.{◌≡◌, ℕ, ◌++◌, ◌∷◌, [], All, IfSome, List, OnSome};
-ghost use Rattle.shop_bound.specs.Bound.{lb};
-ghost use Rattle.shop_bound.specs.Conflicts.{conflict};
-ghost use Rattle.shop_states.specs.States.{CanDispatch, HasListed, ListsBelow};
-ghost use Rattle.shop_states.specs.States.{TellsBoundBelow};
+ghost use Rattle.shop_model.specs.Word.{IsWord};
+ghost use Rattle.shop_bound.specs.{Bound.lb, Conflicts.conflict};
+ghost use Rattle.shop_states.specs.States.{ListsBelow, TellsBoundBelow};
+ghost use Rattle.shop_states.specs.inner.WordStates.{IsCandidate, IsSlot, IsStateOf, IsStateWith, KnowsChild};
 
 use crate::in_lanes::{Tried, assert_in_lanes};
 use crate::long_machines::{LATEST, SHAPES, made};
 use crate::numbers::Numbers;
 use shop_bound::lower_bound;
+use shop_lanes::StateLanes;
 use shop_model::{Instance, Job, Op, Word};
-use shop_states::{Candidate, Dispatching};
+use shop_states::{Candidate, Dispatcher, State};
 use std::alloc::{AllocGlobal, Global};
 use std::mem;
 use std::process::Abort;
 
-/// Room for a state and for copies of it.
+/// Room for the state of a word, and for the states of its children.
 #[derive(Drop)]
-struct Rooms<S: Drop> {
-    state: S,
-    copied: S,
-    direct: S,
-    settled: S,
+struct Rooms<L: StateLanes> {
+    state: State<L>,
+    copied: State<L>,
+    direct: State<L>,
+    settled: State<L>,
 }
 
 /// Makes rooms for states of `dispatcher`.
-fn rooms_of<D: Dispatching<S>, S: Drop>(rt: &impl Abort, alloc: Global, dispatcher: &D) -> Rooms<S>
-    ensures state { D.IsSlot dispatcher.now result.state }
-    ensures copied { D.IsSlot dispatcher.now result.copied }
-    ensures direct { D.IsSlot dispatcher.now result.direct }
-    ensures settled { D.IsSlot dispatcher.now result.settled }
+fn rooms_of<L: StateLanes>(
+    rt: &impl Abort,
+    alloc: Global,
+    dispatcher: &Dispatcher<'_, '_, L>,
+) -> Rooms<L>
+    ensures state { IsSlot L.StateLanes dispatcher.now.laid_out result.state }
+    ensures copied { IsSlot L.StateLanes dispatcher.now.laid_out result.copied }
+    ensures direct { IsSlot L.StateLanes dispatcher.now.laid_out result.direct }
+    ensures settled { IsSlot L.StateLanes dispatcher.now.laid_out result.settled }
 {
     Rooms {
         state: dispatcher.slot(alloc).expect(rt, "memory"),
@@ -50,91 +55,45 @@ struct Trial {
     together: Option<u64>,
 }
 
-/// Dispatches a candidate in a copy of the state by one call: that after `bound_children`, if children were bounded
-/// together.
-fn dispatch_in_copy<D: Dispatching<S>, S: Drop>(
-    dispatcher: &D,
-    scratch: &mut D::Scratch,
-    state: &S,
-    direct: &mut S,
-    trial: Trial,
-) -> Option<u64>
-    requires scratch { D.IsScratch dispatcher.now scratch.old }
-    requires direct { D.IsSlot dispatcher.now direct.old }
-    requires can { CanDispatch (D.shop dispatcher.now)
-        (λ w. D.IsStateOf dispatcher.now w state.now
-        × D.IsCandidate dispatcher.now w trial.candidate
-        × IfSome trial.together
-        (λ top. D.KnowsChild dispatcher.now scratch.old w trial.candidate.job))
-        trial.candidate.job trial.bound }
-    ensures told { (w : List ℕ) → D.IsStateOf dispatcher.now w state.now
-        → D.IsCandidate dispatcher.now w trial.candidate
-        → trial.bound ≡ lb (D.shop dispatcher.now) w
-        → TellsBoundBelow trial.limit
-        (lb (D.shop dispatcher.now) (w ++ trial.candidate.job ∷ [])) result }
-    ensures state { (w : List ℕ) → D.IsStateOf dispatcher.now w state.now
-        → D.IsCandidate dispatcher.now w trial.candidate
-        → OnSome result (D.IsStateOf dispatcher.now (w ++ trial.candidate.job ∷ []) direct.new) }
-    ensures direct { D.IsSlot dispatcher.now direct.new }
-    ensures scratch { D.IsScratch dispatcher.now scratch.new }
-{
-    let (candidate, bound, limit) = (trial.candidate, trial.bound, trial.limit);
-    match trial.together {
-        Some(_) => dispatcher.dispatch_child_in_copy(
-            scratch, state, direct, candidate, bound, limit,
-        ),
-        None => dispatcher.dispatch_below_in_copy(scratch, state, direct, candidate, bound, limit),
-    }
-}
-
-/// Dispatches a candidate in a copy of the state by two calls, and in another copy by one, and asserts that both tell
-/// the same bound. Dispatches it in a third copy without a bound.
-fn dispatch_twice<D: Dispatching<S>, S: Drop>(
+/// Dispatches a candidate of the word `path`, whose state `rooms` has, in a copy of this state by two calls, and in
+/// another copy by one, and asserts that both tell the same bound. Dispatches it in a third copy without a bound.
+fn dispatch_twice<L: StateLanes>(
     rt: &impl Abort,
-    dispatcher: &D,
-    scratch: &mut D::Scratch,
-    rooms: &mut Rooms<S>,
+    dispatcher: &mut Dispatcher<'_, '_, L>,
+    rooms: &mut Rooms<L>,
+    path: &[u16],
     trial: Trial,
 ) -> Option<u64>
-    requires scratch { D.IsScratch dispatcher.now scratch.old }
-    requires copied { D.IsSlot dispatcher.now rooms.old.copied }
-    requires direct { D.IsSlot dispatcher.now rooms.old.direct }
-    requires settled { D.IsSlot dispatcher.now rooms.old.settled }
-    requires can { CanDispatch (D.shop dispatcher.now)
-        (λ w. D.IsStateOf dispatcher.now w rooms.old.state
-        × D.IsCandidate dispatcher.now w trial.candidate
-        × IfSome trial.together
-        (λ top. D.KnowsChild dispatcher.now scratch.old w trial.candidate.job))
-        trial.candidate.job trial.bound }
-    ensures told { (w : List ℕ) → D.IsStateOf dispatcher.now w rooms.old.state
-        → D.IsCandidate dispatcher.now w trial.candidate
-        → trial.bound ≡ lb (D.shop dispatcher.now) w
-        → TellsBoundBelow trial.limit
-        (lb (D.shop dispatcher.now) (w ++ trial.candidate.job ∷ [])) result }
-    ensures state { (w : List ℕ) → D.IsStateOf dispatcher.now w rooms.old.state
-        → D.IsCandidate dispatcher.now w trial.candidate
-        → OnSome result
-        (D.IsStateOf dispatcher.now (w ++ trial.candidate.job ∷ []) rooms.new.copied) }
-    ensures same { (w : List ℕ) → D.IsStateOf dispatcher.now w rooms.old.state
-        → D.IsCandidate dispatcher.now w trial.candidate
-        → OnSome result
-        (D.IsStateOf dispatcher.now (w ++ trial.candidate.job ∷ []) rooms.new.direct) }
-    ensures alike { (w : List ℕ) → D.IsStateOf dispatcher.now w rooms.old.state
-        → D.IsCandidate dispatcher.now w trial.candidate
-        → D.IsStateOf dispatcher.now (w ++ trial.candidate.job ∷ []) rooms.new.settled }
+    requires copied { IsSlot L.StateLanes dispatcher.old.laid_out rooms.old.copied }
+    requires direct { IsSlot L.StateLanes dispatcher.old.laid_out rooms.old.direct }
+    requires settled { IsSlot L.StateLanes dispatcher.old.laid_out rooms.old.settled }
+    requires word { IsWord dispatcher.old.laid_out.asked path.now }
+    requires state { IsStateWith L.StateLanes dispatcher.old.laid_out trial.candidate rooms.old.state path.now }
+    requires known { IfSome trial.together
+        (λ top. KnowsChild dispatcher.old.laid_out dispatcher.old.ceilings path.now trial.candidate.job) }
+    requires fits { IsWord dispatcher.old.laid_out.asked (path.now ++ trial.candidate.job ∷ []) }
+    requires bound { trial.bound ≡ lb dispatcher.old.laid_out.asked path.now }
+    ensures told { TellsBoundBelow trial.limit
+        (lb dispatcher.old.laid_out.asked (path.now ++ trial.candidate.job ∷ [])) result }
+    ensures state { OnSome result
+        (IsStateOf L.StateLanes dispatcher.old.laid_out (path.now ++ trial.candidate.job ∷ []) rooms.new.copied) }
+    ensures same { OnSome result
+        (IsStateOf L.StateLanes dispatcher.old.laid_out (path.now ++ trial.candidate.job ∷ []) rooms.new.direct) }
+    ensures alike { IsStateOf L.StateLanes dispatcher.old.laid_out (path.now ++ trial.candidate.job ∷ [])
+        rooms.new.settled }
+    ensures copied { IsSlot L.StateLanes dispatcher.old.laid_out rooms.new.copied }
+    ensures direct { IsSlot L.StateLanes dispatcher.old.laid_out rooms.new.direct }
     ensures first { rooms.new.state ≡ rooms.old.state }
-    ensures copied { D.IsSlot dispatcher.now rooms.new.copied }
-    ensures direct { D.IsSlot dispatcher.now rooms.new.direct }
-    ensures settled { D.IsSlot dispatcher.now rooms.new.settled }
-    ensures scratch { D.IsScratch dispatcher.now scratch.new }
+    ensures dispatcher { dispatcher.new ≡ dispatcher.old }
 {
     let (candidate, bound, limit) = (trial.candidate, trial.bound, trial.limit);
-    dispatcher.copy(&rooms.state, &mut rooms.settled);
+    dispatcher.fill(path, &mut rooms.settled);
     dispatcher.dispatch_settled(&mut rooms.settled, candidate);
-    dispatcher.copy(&rooms.state, &mut rooms.copied);
-    let told = dispatcher.dispatch_below(scratch, &mut rooms.copied, candidate, bound, limit);
+    dispatcher.fill(path, &mut rooms.copied);
+    let told = dispatcher.dispatch_below(&mut rooms.copied, candidate, bound, limit);
     let (state, direct) = (&rooms.state, &mut rooms.direct);
-    let again = dispatch_in_copy(dispatcher, scratch, state, direct, trial);
+    let is_known = trial.together.is_some();
+    let again = dispatcher.dispatch_in_copy(state, direct, candidate, is_known, bound, limit);
     assert_eq!(rt; told, again);
     again
 }
@@ -146,36 +105,34 @@ pub enum Manner {
     Together,
 }
 
-/// Bounds the children of the word together, if they are to be dispatched so. Uses up the first copy.
-fn bound_together<D: Dispatching<S>, S: Drop>(
-    dispatcher: &D,
-    scratch: &mut D::Scratch,
-    rooms: &mut Rooms<S>,
+/// Bounds the children of the word `path` together, if they are to be dispatched so. Uses up the first copy.
+fn bound_together<L: StateLanes>(
+    dispatcher: &mut Dispatcher<'_, '_, L>,
+    rooms: &mut Rooms<L>,
+    path: &[u16],
     candidates: &[Candidate],
     bound: u64,
     manner: Manner,
 ) -> Option<u64>
-    requires scratch { D.IsScratch dispatcher.now scratch.old }
-    requires copied { D.IsSlot dispatcher.now rooms.old.copied }
-    requires can { HasListed (D.shop dispatcher.now)
-        (λ w. D.IsStateOf dispatcher.now w rooms.old.state)
-        (D.IsCandidate dispatcher.now) candidates.now bound }
-    ensures known { IfSome result (λ top. (w : List ℕ) (limit others : ℕ)
-        → D.IsStateOf dispatcher.now w rooms.old.state → bound ≡ lb (D.shop dispatcher.now) w
-        → ListsBelow (D.shop dispatcher.now) w limit (D.IsCandidate dispatcher.now w)
-        (conflict (D.shop dispatcher.now) w) candidates.now others
-        → All (λ c. D.KnowsChild dispatcher.now scratch.new w c.job) candidates.now) }
+    requires copied { IsSlot L.StateLanes dispatcher.old.laid_out rooms.old.copied }
+    requires state { IsStateOf L.StateLanes dispatcher.old.laid_out path.now rooms.old.state }
+    requires listed { (others : ℕ) × ListsBelow dispatcher.old.laid_out.asked path.now 18446744073709551615
+        (IsCandidate dispatcher.old.laid_out path.now)
+        (conflict dispatcher.old.laid_out.asked path.now) candidates.now others }
+    requires bound { bound ≡ lb dispatcher.old.laid_out.asked path.now }
+    ensures known { IfSome result (λ top.
+        All (λ c. KnowsChild dispatcher.old.laid_out dispatcher.new.ceilings path.now c.job) candidates.now) }
     ensures state { rooms.new.state ≡ rooms.old.state }
-    ensures copied { D.IsSlot dispatcher.now rooms.new.copied }
+    ensures copied { IsSlot L.StateLanes dispatcher.old.laid_out rooms.new.copied }
     ensures direct { rooms.new.direct ≡ rooms.old.direct }
     ensures unused { rooms.new.settled ≡ rooms.old.settled }
-    ensures scratch { D.IsScratch dispatcher.now scratch.new }
+    ensures laid_out { dispatcher.new.laid_out ≡ dispatcher.old.laid_out }
 {
     match manner {
         Manner::Alone => None,
         Manner::Together => {
             let (state, copied) = (&rooms.state, &mut rooms.copied);
-            dispatcher.bound_children(scratch, state, copied, candidates, bound)
+            dispatcher.bound_children(state, copied, candidates, bound)
         }
     }
 }
@@ -191,25 +148,25 @@ fn assert_same(rt: &impl Abort, candidates: &[Candidate], others: &[Candidate]) 
 
 /// Walks a random word of `instance`. Asserts that each dispatch in a copy tells the same bound by one call and by two,
 /// and leaves states with the same candidates, as does one without a bound.
-pub fn assert_walk<D: Dispatching<S>, S: Drop>(
+pub fn assert_walk<L: StateLanes>(
     rt: &impl Abort,
     alloc: Global,
     numbers: &mut Numbers,
-    dispatcher: &D,
+    dispatcher: &mut Dispatcher<'_, '_, L>,
     instance: &Instance,
     manner: Manner,
 )
-    requires { D.shop dispatcher.now ≡ instance.now }
+    requires { dispatcher.old.laid_out.asked ≡ instance.now }
 {
-    let mut scratch = dispatcher.scratch(alloc).expect(rt, "memory");
     let mut rooms = rooms_of(rt, alloc, dispatcher);
     let mut candidates = Vec::with_capacity(alloc, instance.jobs()).expect(rt, "memory");
     let mut others = Vec::with_capacity(alloc, instance.jobs()).expect(rt, "memory");
+    let mut path = Vec::new(alloc);
     let word = Word::of_jobs(Vec::new(alloc));
     let mut bound = lower_bound(alloc, instance, &word).expect(rt, "memory");
-    dispatcher.fill(&mut scratch, &[], &mut rooms.state);
+    dispatcher.fill(&[], &mut rooms.state);
     for _ in 0..instance.operations() {
-        dispatcher.list_candidates(&mut scratch, &rooms.state, u64::MAX, &mut candidates);
+        dispatcher.list_candidates(&rooms.state, u64::MAX, &mut candidates);
         let count = candidates.len();
         if count == 0 {
             return;
@@ -219,8 +176,8 @@ pub fn assert_walk<D: Dispatching<S>, S: Drop>(
         let limit = bound.saturating_add(numbers.up_to(99));
         let together = bound_together(
             dispatcher,
-            &mut scratch,
             &mut rooms,
+            path.as_slice(),
             &candidates,
             bound,
             manner,
@@ -231,14 +188,15 @@ pub fn assert_walk<D: Dispatching<S>, S: Drop>(
             limit,
             together,
         };
-        let told = dispatch_twice(rt, dispatcher, &mut scratch, &mut rooms, trial);
+        let told = dispatch_twice(rt, dispatcher, &mut rooms, path.as_slice(), trial);
         let Some(below) = told else {
             continue;
         };
-        dispatcher.list_candidates(&mut scratch, &rooms.copied, u64::MAX, &mut candidates);
-        dispatcher.list_candidates(&mut scratch, &rooms.direct, u64::MAX, &mut others);
+        path.push(candidate.job).expect(rt, "memory");
+        dispatcher.list_candidates(&rooms.copied, u64::MAX, &mut candidates);
+        dispatcher.list_candidates(&rooms.direct, u64::MAX, &mut others);
         assert_same(rt, &candidates, &others);
-        dispatcher.list_candidates(&mut scratch, &rooms.settled, u64::MAX, &mut others);
+        dispatcher.list_candidates(&rooms.settled, u64::MAX, &mut others);
         assert_same(rt, &candidates, &others);
         mem::swap(&mut rooms.state, &mut rooms.direct);
         bound = below;

@@ -2,13 +2,15 @@
 // their candidates are the conflict sets of the words. Jobs are finished early or late, are released late, and come
 // back to machines.
 ghost use Rattle.std.specs.Prelude.{◌≡◌};
+ghost use Rattle.shop_states.specs.inner.WordStates.{IsSlot};
 
 use crate::in_lanes::{Tried, assert_in_lanes};
 use crate::long_machines::{LATEST, SHAPES, made};
 use crate::numbers::Numbers;
+use shop_lanes::StateLanes;
 use shop_model::{Instance, Word, fits, is_full};
 use shop_nodes::conflict;
-use shop_states::Dispatching;
+use shop_states::{Dispatcher, State};
 use std::alloc::{AllocGlobal, Global};
 use std::process::Abort;
 
@@ -24,19 +26,17 @@ fn word_along(rt: &impl Abort, alloc: Global, path: &[u16]) -> Word
 }
 
 /// Returns whether `path` is a word. Fills `state` from it then, and asserts that the state lists its conflict set.
-fn assert_fill<D: Dispatching<S>, S: Drop>(
+fn assert_fill<L: StateLanes>(
     rt: &(impl Abort + AllocGlobal),
-    dispatcher: &D,
+    dispatcher: &mut Dispatcher<'_, '_, L>,
     instance: &Instance,
-    scratch: &mut D::Scratch,
-    state: &mut S,
+    state: &mut State<L>,
     path: &[u16],
 ) -> bool
-    requires shop { D.shop dispatcher.now ≡ instance.now }
-    requires scratch { D.IsScratch dispatcher.now scratch.old }
-    requires state { D.IsSlot dispatcher.now state.old }
-    ensures scratch { D.IsScratch dispatcher.now scratch.new }
-    ensures state { D.IsSlot dispatcher.now state.new }
+    requires shop { dispatcher.old.laid_out.asked ≡ instance.now }
+    requires state { IsSlot L.StateLanes dispatcher.old.laid_out state.old }
+    ensures state { IsSlot L.StateLanes dispatcher.old.laid_out state.new }
+    ensures same { dispatcher.new ≡ dispatcher.old }
 {
     let alloc = rt.alloc();
     let word = word_along(rt, alloc, path);
@@ -44,8 +44,8 @@ fn assert_fill<D: Dispatching<S>, S: Drop>(
         return false;
     }
     let mut candidates = Vec::with_capacity(alloc, instance.jobs()).expect(rt, "memory");
-    dispatcher.fill(scratch, path, state);
-    dispatcher.list_candidates(scratch, state, u64::MAX, &mut candidates);
+    dispatcher.fill(path, state);
+    dispatcher.list_candidates(state, u64::MAX, &mut candidates);
     if is_full(instance, &word) {
         assert!(rt; candidates.is_empty());
         return true;
@@ -59,19 +59,17 @@ fn assert_fill<D: Dispatching<S>, S: Drop>(
 }
 
 /// Fills a state from each beginning of a random word.
-fn assert_fills_along<D: Dispatching<S>, S: Drop>(
+fn assert_fills_along<L: StateLanes>(
     rt: &(impl Abort + AllocGlobal),
     numbers: &mut Numbers,
-    dispatcher: &D,
+    dispatcher: &mut Dispatcher<'_, '_, L>,
     instance: &Instance,
-    scratch: &mut D::Scratch,
-    state: &mut S,
+    state: &mut State<L>,
 )
-    requires shop { D.shop dispatcher.now ≡ instance.now }
-    requires scratch { D.IsScratch dispatcher.now scratch.old }
-    requires state { D.IsSlot dispatcher.now state.old }
-    ensures scratch { D.IsScratch dispatcher.now scratch.new }
-    ensures state { D.IsSlot dispatcher.now state.new }
+    requires shop { dispatcher.old.laid_out.asked ≡ instance.now }
+    requires state { IsSlot L.StateLanes dispatcher.old.laid_out state.old }
+    ensures state { IsSlot L.StateLanes dispatcher.old.laid_out state.new }
+    ensures same { dispatcher.new ≡ dispatcher.old }
 {
     let mut path = Vec::new(rt.alloc());
     instance.keeps_limits();
@@ -79,7 +77,7 @@ fn assert_fills_along<D: Dispatching<S>, S: Drop>(
     for _ in 0..instance.operations() {
         let job = numbers.up_to(last) as u16;
         path.push(job).expect(rt, "memory");
-        let is_word = assert_fill(rt, dispatcher, instance, scratch, state, path.as_slice());
+        let is_word = assert_fill(rt, dispatcher, instance, state, path.as_slice());
         if !is_word {
             path.pop();
         }
@@ -87,19 +85,18 @@ fn assert_fills_along<D: Dispatching<S>, S: Drop>(
 }
 
 /// Fills a state from each beginning of two random words.
-pub fn assert_fills<D: Dispatching<S>, S: Drop>(
+pub fn assert_fills<L: StateLanes>(
     rt: &(impl Abort + AllocGlobal),
     numbers: &mut Numbers,
-    dispatcher: &D,
+    dispatcher: &mut Dispatcher<'_, '_, L>,
     instance: &Instance,
 )
-    requires { D.shop dispatcher.now ≡ instance.now }
+    requires { dispatcher.old.laid_out.asked ≡ instance.now }
 {
     let alloc = rt.alloc();
-    let mut scratch = dispatcher.scratch(alloc).expect(rt, "memory");
     let mut state = dispatcher.slot(alloc).expect(rt, "memory");
-    assert_fills_along(rt, numbers, dispatcher, instance, &mut scratch, &mut state);
-    assert_fills_along(rt, numbers, dispatcher, instance, &mut scratch, &mut state);
+    assert_fills_along(rt, numbers, dispatcher, instance, &mut state);
+    assert_fills_along(rt, numbers, dispatcher, instance, &mut state);
 }
 
 #[test]

@@ -8,7 +8,7 @@ use crate::shuffled_layouts::shuffled;
 use shop_lanes::StateLanes;
 use shop_layout::{LaneLayout, LayoutFor};
 use shop_model::Instance;
-use shop_states::Dispatching;
+use shop_states::Dispatcher;
 use std::alloc::AllocGlobal;
 use std::process::Abort;
 
@@ -19,24 +19,8 @@ pub enum Tried {
     Fills,
 }
 
-/// Walks along a random word, or fills states.
-fn assert_tried<D: Dispatching<S>, S: Drop>(
-    rt: &(impl Abort + AllocGlobal),
-    numbers: &mut Numbers,
-    dispatcher: &D,
-    instance: &Instance,
-    tried: Tried,
-)
-    requires { D.shop dispatcher.now ≡ instance.now }
-{
-    match tried {
-        Tried::Walk(manner) => assert_walk(rt, rt.alloc(), numbers, dispatcher, instance, manner),
-        Tried::Fills => assert_fills(rt, numbers, dispatcher, instance),
-    }
-}
-
-/// Does what `assert_tried` does. It is called for each width of lanes, so that what a walk or a fill needs of its
-/// states is proved once, for any lanes.
+/// Walks along a random word, or fills states. It is called for each width of lanes, so that what a walk or a fill needs
+/// of its states is proved once, for any lanes.
 fn assert_over<L: StateLanes>(
     rt: &(impl Abort + AllocGlobal),
     numbers: &mut Numbers,
@@ -46,11 +30,15 @@ fn assert_over<L: StateLanes>(
 )
     requires { layout.asked ≡ instance.now }
 {
-    let laid_out = layout.laid_out();
-    assert_tried(rt, numbers, &laid_out, instance, tried)
+    let alloc = rt.alloc();
+    let mut dispatcher = Dispatcher::new(alloc, layout.laid_out()).expect(rt, "memory");
+    match tried {
+        Tried::Walk(manner) => assert_walk(rt, alloc, numbers, &mut dispatcher, instance, manner),
+        Tried::Fills => assert_fills(rt, numbers, &mut dispatcher, instance),
+    }
 }
 
-/// Does what `assert_tried` does, in the lanes of the instance's layout, where its machines stand in a random order.
+/// Does what `assert_over` does, in the lanes of the instance's layout, where its machines stand in a random order.
 pub fn assert_in_lanes(
     rt: &(impl Abort + AllocGlobal),
     numbers: &mut Numbers,

@@ -7,7 +7,7 @@ use Rattle.shop_bound.specs.{Bound.lb, Conflicts.{conflict, SoleCandidateKeepsBo
 use Rattle.shop_layout.specs.LaidOuts.{LaidOutState}
 use Rattle.shop_states.specs.{States.{ListsBelow, TellsBoundBelow, none, listed, closed}, inner.AskedStates.IsKeptFor}
 use Rattle.shop_states.specs.{declared.states.Candidate.Candidate, inner.LaneStates.IsKeptInLanes}
-use Rattle.shop_states.specs.{declared.states.State.State, inner.LaidLanes.rows_in, inner.WordStates.{IsStateOf, state}}
+use Rattle.shop_states.specs.{declared.states.State.State, inner.LaidLanes.rows_in, inner.WordStates.{IsStateOf, of_word}}
 use Rattle.shop_states.{specs.inner.RisingLists.IsIn, proofs.Candidates.candidate_fits}
 
 -- a word that is kept in the layout
@@ -55,7 +55,7 @@ module _ {greatest : ℕ} {d : LaidOutState} {w : List ℕ} {rows : Rows} {nexts
 -- what is known of the state of a word
 module _ {L N : Type 0} {g : Ghosts L N} {d : LaidOutState} {w : List ℕ} {s : State L N} where
   pub kept_of : IsStateOf g d w s → IsKeptFor g.GREATEST d w (rows_in g d.layout s.lanes) s.next.items
-  kept_of (state is) = is
+  kept_of (of_word is) = is
 
   pub word_of : IsStateOf g d w s → IsWord d.asked w
   word_of is = (kept_of is).word
@@ -71,7 +71,7 @@ pub state_on : {L N : Type 0} (g : Ghosts L N) {d : LaidOutState} {w : List ℕ}
     → IsKeptFor g.GREATEST d w rows nexts → (v : List ℕ) (s : State L N) (told : Option ℕ)
     → OnSome told (IsKeptInLanes g.GREATEST d.shop v d.layout (rows_in g d.layout s.lanes) s.next.items)
     → OnSome told (IsStateOf g d v s)
-state_on g of v s (Some b) after = state (kept_on of after)
+state_on g of v s (Some b) after = of_word (kept_on of after)
 state_on g of v s None after = tt
 
 -- jobs with the same bounds behind them are listed alike

@@ -1,7 +1,9 @@
+use Rattle.std.proofs.Common.{◌≡◌}
+use Rattle.shop_states.specs.inner.WordStates.{IsSlot}
 use Rattle.search_tests.proofs.fills.assert_fills_along.Given as goal
 
 abbrev pub invariant-loop : goal.invariant-loop
 invariant-loop g l = record {
-  scratch : g.D.Dispatching.IsScratch l.dispatcher l.scratch;
-  state : g.D.Dispatching.IsSlot l.dispatcher l.state;
+  state : IsSlot g.L.StateLanes l.dispatcher.laid_out l.state;
+  same : l.dispatcher ≡ l.fn.dispatcher;
 }

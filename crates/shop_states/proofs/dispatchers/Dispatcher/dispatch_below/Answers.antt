@@ -4,7 +4,7 @@ use Rattle.shop_states.proofs.{CandidateDispatches.{candidate_can, candidate_tol
 use Rattle.shop_states.proofs.{AskedStates.{bound_there, kept_on, told_behind}, Trials.{its_job, its_position}}
 use Rattle.shop_states.proofs.KeptRoom.{buffers_kept, room_behind, room_kept}
 use Rattle.shop_states.proofs.AskedStates.{kept_of}
-use Rattle.shop_states.specs.inner.WordStates.{state}
+use Rattle.shop_states.specs.inner.WordStates.{of_word}
 use Rattle.shop_states.proofs.dispatchers.Dispatcher.dispatch_below.Goals as goal
 
 pub of-dispatch-requires : goal.of-dispatch-requires
@@ -83,7 +83,7 @@ returns-clause-dispatched g c = rw (← c.self.view_is) (record {
       ∙ length-set c.as_mut_slice.result.now _ _
       in let whole = written_vec c.args.state.now.next c.as_mut_slice.result.now c.set_next.new.next
       c.as_mut_slice.ensures.value long
-      in state (rw whole (kept_on (kept_of of.0)
+      in of_word (rw whole (kept_on (kept_of of.0)
       (ready.kept c.self.inside.laid_out.shop w (kept_of of.0).kept of.1.fits _ _ on)));
 })
 

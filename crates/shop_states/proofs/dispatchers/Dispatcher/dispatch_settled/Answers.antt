@@ -1,7 +1,7 @@
 use Rattle.std.proofs.Common.{refl}
 use Rattle.shop_states.proofs.{AskedStates.kept_on, KeptRoom.room_kept, ReadStates.kept_read}
 use Rattle.shop_states.proofs.AskedStates.{kept_of}
-use Rattle.shop_states.specs.inner.WordStates.{state}
+use Rattle.shop_states.specs.inner.WordStates.{of_word}
 use Rattle.shop_states.proofs.dispatchers.Dispatcher.dispatch_settled.Goals as goal
 
 pub of-dispatch-requires : goal.of-dispatch-requires
@@ -25,7 +25,7 @@ advance_unbounded-requires-clause-can g c =
     }
 
 pub returns-clause-state : goal.returns-clause-state
-returns-clause-state g c = rw (← c.self.view_is) (λ w of. state (kept_on (kept_of of.0)
+returns-clause-state g c = rw (← c.self.view_is) (λ w of. of_word (kept_on (kept_of of.0)
     (rw (c.grid-grid.ensures.grid, c.of-dispatch.ensures.job)
     at c.advance_unbounded.ensures.state c.self.inside.laid_out.shop w (kept_of of.0).kept of.1.fits)))
 

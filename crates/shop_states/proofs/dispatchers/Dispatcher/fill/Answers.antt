@@ -2,7 +2,7 @@ use Rattle.std.proofs.Common.{arith, ◌∙◌, ap, length, refl, sym}
 use Rattle.shop_layout.proofs.Written.{written_vec}
 use Rattle.shop_bound.proofs.Renumbered.{numbers_alike}
 use Rattle.shop_states.proofs.{AskedStates.kept_for, KeptRoom.long_kept, ReadStates.kept_read}
-use Rattle.shop_states.specs.inner.WordStates.{state}
+use Rattle.shop_states.specs.inner.WordStates.{of_word}
 use Rattle.shop_states.proofs.dispatchers.Dispatcher.fill.Goals as goal
 
 pub returns-clause-state : goal.returns-clause-state
@@ -17,7 +17,7 @@ returns-clause-state g c =
     in let nexts = written_vec c.args.state.now.next c.as_mut_slice-next.result.now c.fill_state.new.next
     c.as_mut_slice-next.ensures.value (kept.are_next.jobs
     ∙ (sym slot.room.jobs_with_nexts ∙ sym (ap length c.as_mut_slice-next.ensures.value)))
-    in rw (← c.self.view_is) (state (kept_for alike (kept_read refl nexts kept) c.grid.ensures.limits))
+    in rw (← c.self.view_is) (of_word (kept_for alike (kept_read refl nexts kept) c.grid.ensures.limits))
 
 pub invariant_of-self : goal.invariant_of-self
 invariant_of-self g c = grind (arith, long_kept)
