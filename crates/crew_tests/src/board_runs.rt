@@ -87,9 +87,9 @@ fn assert_many_rounds<R: Abort + Threads + Sync>(
     assert_by_workers(rt, alloc, &instance, plan, wanted.as_str());
 }
 
-/// Pieces of a node with a budget of two: the search takes 31 rounds in one order and 19 in the other, and none of them
-/// is worth a second worker. With a budget of ten, rounds of 178 pieces and more are, and others aren't. Open nodes of
-/// one instance stand in a row of stacks by bound, those of the other in a map.
+/// Pieces of one node with a budget of two: the search takes 31 rounds in one order and 19 in the other, none of which
+/// is worth a second worker. With a budget of ten, rounds of 178 pieces and more are worth one, and others aren't. Open
+/// nodes by bound of one instance are in a row of stacks, those of the other in a map.
 #[test]
 fn many_rounds_by_any_number_of_workers(rt: HostRuntime) {
     for (budget, order) in [

@@ -1,4 +1,4 @@
-// The third round gathered: entries behind a hit don't count.
+// The third round gathered: entries after a hit don't count.
 ghost use Rattle.shop_runs.specs.Entries.{told};
 ghost use Rattle.shop_runs.specs.Crews.{OneForEach};
 
@@ -23,7 +23,7 @@ fn assert_closes<'r>(rt: &impl Abort, alloc: Global, round: &'r Round<'r>, entri
     );
 }
 
-/// The sheet of each piece, also behind one that ends at the opening bound.
+/// The sheet of each piece, also of those after one that ends at the opening bound.
 fn all_searched<'r>(rt: &impl Abort, alloc: Global, round: &'r Round<'r>) -> Vec<Entry<'r>>
     ensures { OneForEach (told round.now) result.items }
 {
@@ -36,7 +36,7 @@ fn all_searched<'r>(rt: &impl Abort, alloc: Global, round: &'r Round<'r>) -> Vec
     entries
 }
 
-/// Closed by sheets of all pieces, and by what is passed behind the hit.
+/// Closed by sheets of all pieces, and by sheets up to the hit and passed pieces after it.
 struct Closing;
 
 impl<R: Abort> RoundTest<R> for Closing {

@@ -74,8 +74,8 @@ impl<'r> PieceSearch<'r> for Refused<'r> {
     }
 }
 
-/// A searcher that memory is refused where it searches a piece twice in a row. It makes a `PieceSearcher` for each
-/// search and keeps none, so that code for any searcher is proved for this one without the six widths of lanes.
+/// A searcher that is refused memory if it searches a piece twice in a row. It makes a `PieceSearcher` for each search
+/// and keeps none, so that code for any searcher is proved for this one without the six widths of lanes.
 #[derive(Drop)]
 pub struct Once<'r> {
     round: &'r Round<'r>,

@@ -26,7 +26,7 @@ pub fn next_round<'r>(
     Round::cut(alloc, instance, plan, standing).expect(rt, "memory")
 }
 
-/// The standing behind the next round.
+/// The standing after the next round.
 pub fn after_round(
     rt: &impl Abort,
     alloc: Global,

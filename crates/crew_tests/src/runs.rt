@@ -44,10 +44,10 @@ fn answers_by_one_thread(rt: HostRuntime) {
     }
 }
 
-/// The last time of two jobs on two machines, whether six idle jobs of 85 steps stand beside them, and the least
-/// makespan. All times sum up to 7 more than the last one: to 639, the greatest opening makespan for which open nodes
-/// of four operations stand in a row of stacks by bound, and to 640; with 514 operations to 65,536, the greatest one
-/// for which any do, and to 65,537.
+/// The last time of two jobs on two machines, whether the instance also has six idle jobs of 85 steps, and the least
+/// makespan. All times add up to 7 more than the last one. With four operations, a row of stacks by bound is used up to
+/// an opening makespan of 639, tested at 639 and 640; with 514 operations up to 65,536, the most for any instance,
+/// tested at that and 65,537.
 static AT_THE_LONGEST_ROW: [(u64, bool, u64); 4] = [
     (632, false, 635),
     (633, false, 636),
@@ -125,9 +125,9 @@ fn after_one(
     after_round(rt, alloc, instance, plan, standing)
 }
 
-/// The longest time, its unit, a budget, a piece, an order, and how many nodes are open after three rounds, at least:
-/// more than a fourth one takes, or in the last two more than a piece holds. By bound they stand in a row, or with a
-/// unit of 1000 in a map.
+/// The longest time, its unit, a budget, a piece, an order, and the least number of nodes open after three rounds: more
+/// than a fourth round takes, or in the last two cases more than a piece holds. By bound they are in a row of stacks,
+/// or with a unit of 1000 in a map.
 static MANY_OPEN: [(u64, u64, u64, usize, Order, usize); 7] = [
     (40, 1, 9, 1, Order::Bound, 257),
     (3, 1, 9, 1, Order::Bound, 257),

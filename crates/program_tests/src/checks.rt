@@ -1,4 +1,4 @@
-// Lists, verdicts on schedules that stand behind their instances, and refusals.
+// Lists, verdicts on schedules that follow their instances, and refusals.
 use crate::runs::{CROSSING, GAP, RELEASED, TAILLARD, TWO_EXAMPLES, ZEROS, says};
 
 /// The whole report of `CROSSING`, with a makespan that isn't its schedule's.
@@ -6,8 +6,8 @@ pub const CHANGED: &str =
     "instance 1\nsize 2 2\nmakespan 3\nbound 7\nstatus optimal\nopen 0\nrounds 1\nnodes 6\njob 0: 0 3\n\
     job 1: 0 3\nunit 1\nmachine 0 |0001111|\nmachine 1 |11.00..|\n";
 
-/// A command line, an instance text, what stands behind it, and what is said. A report is a schedule text, whatever its
-/// makespan line says; behind an instance text in `orlib` it brings a header of its own.
+/// A command line, an instance text, what follows it, and what is printed. A report is a schedule text, whatever its
+/// makespan line says; after an instance text in `orlib` it brings a header of its own.
 static RUNS: [(&str, &str, &str, &str); 14] = [
     ("list", TWO_EXAMPLES, "", "alpha 2 2\ngap 2 3\n"),
     ("list --format routes", RELEASED, "", "1 3 2\n"),
@@ -78,7 +78,7 @@ fn lists_and_verdicts(rt: HostRuntime) {
     }
 }
 
-/// Schedules behind `CROSSING`, each with when it ends, or which line is refused.
+/// Schedules that follow `CROSSING`, each with its makespan, or the line that is refused.
 static SCHEDULES: [(&str, Result<u64, usize>); 20] = [
     ("job 0: 0 3\njob 1: 0 3\n", Ok(7)),
     (

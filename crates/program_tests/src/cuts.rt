@@ -21,8 +21,8 @@ fn orlib_cut_at_each_byte(rt: HostRuntime) {
     }
 }
 
-/// The first header is whole with the first byte of its name, the 42nd: until then line 2 stands as a size line. Each
-/// line of numbers begins with a space, which is a line by itself where it ends the text.
+/// The first header is complete with its 42nd byte, the first byte of the name: a shorter text has no header, so line 2
+/// is read as a size line. Each line of numbers begins with a space; a text cut after that space ends in a blank line.
 #[test]
 fn named_instances_cut_at_each_byte(rt: HostRuntime) {
     let text = TWO_EXAMPLES.as_bytes();

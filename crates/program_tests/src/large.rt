@@ -27,7 +27,7 @@ fn one_machine(rt: &impl Abort, alloc: Global, jobs: usize, time: u64) -> String
     format!(in alloc; "{jobs} 1\n{rows}").expect(rt, "memory")
 }
 
-/// Makes the report, up to its chart, on `jobs` jobs of `time` on one machine, which stand one behind the other.
+/// Makes the report, up to its chart, on `jobs` jobs of `time` on one machine, which are served one after the other.
 fn one_behind_the_other(
     rt: &impl Abort,
     alloc: Global,

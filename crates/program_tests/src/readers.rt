@@ -168,8 +168,8 @@ fn long_numbers_and_a_text_too_long(rt: HostRuntime) {
     assert_read(&rt, rt.alloc(), Format::Orlib, blanks.as_slice(), "TooLong");
 }
 
-/// Texts that stand behind some zeros in the place of the only time, and what is then read. The last two values are
-/// above 2^64 by 7 and by 1,000,000,000.
+/// Texts that follow some zeros in the place of the only time, and what is then read. The last two values are above
+/// 2^64 by 7 and by 1,000,000,000.
 static BEHIND_ZEROS: [(&str, &str); 18] = [
     ("7", "[1 1 | 0 0:7]"),
     ("7\t", "[1 1 | 0 0:7]"),

@@ -118,7 +118,7 @@ fn check_of<R: AllocGlobal + Abort>(rt: &R, solve: &str) -> String {
     check
 }
 
-/// Puts the schedule of a report behind an instance text.
+/// Appends the schedule of a report to an instance text.
 fn with_schedule<R: AllocGlobal + Abort>(rt: &R, text: &str, report: &str) -> String {
     let mut schedule = text.to_string(rt.alloc()).expect(rt, "memory");
     for line in report.lines() {
@@ -138,7 +138,8 @@ fn verdict_of<R: AllocGlobal + Abort>(rt: &R, report: &str) -> String {
     format!(in rt.alloc(); "feasible {}\n", makespan.unwrap_or("")).expect(rt, "memory")
 }
 
-/// Asserts that `check` judges the schedule of a report behind its instance feasible, with the makespan of the report.
+/// Asserts that `check`, given a report's schedule after its instance, finds it feasible with the makespan of the
+/// report.
 fn is_judged_feasible<R: Files + Threads + Sync + AllocGlobal + Abort>(
     rt: &R,
     solve: &str,

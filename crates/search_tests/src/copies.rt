@@ -45,8 +45,8 @@ fn rooms_of<L: StateLanes>(
     }
 }
 
-/// A candidate of a word that is dispatched, with the word's bound, and the limit below which the child's is told.
-/// `together` is what `bound_children` answered of the word, or `None` if it wasn't called.
+/// A candidate to dispatch, with the bound of its word, and the limit below which the child's bound is returned.
+/// `together` is what `bound_children` returned for the word, or `None` if it wasn't called.
 #[derive(Clone, Copy)]
 struct Trial {
     candidate: Candidate,
@@ -92,8 +92,10 @@ fn dispatch_twice<L: StateLanes>(
     dispatcher.fill(path, &mut rooms.copied);
     let told = dispatcher.dispatch_below(&mut rooms.copied, candidate, bound, limit);
     let (state, direct) = (&rooms.state, &mut rooms.direct);
-    let is_known = trial.together.is_some();
-    let again = dispatcher.dispatch_in_copy(state, direct, candidate, is_known, bound, limit);
+    let again = match trial.together {
+        Some(_) => dispatcher.dispatch_in_copy::<true>(state, direct, candidate, bound, limit),
+        None => dispatcher.dispatch_in_copy::<false>(state, direct, candidate, bound, limit),
+    };
     assert_eq!(rt; told, again);
     again
 }

@@ -6,7 +6,7 @@ use std::alloc::{AllocError as NoMemory, Global};
 use std::thread;
 use std::thread::Threads;
 
-/// Calls `f` at `job`. Its clause says of one job what that of `start_each` says of all.
+/// Calls `f` at `job`. Its clause is that of `start_each` for a single job.
 fn call<J: Drop, X: Drop, F: Fn(J) -> X>(f: &F, job: J) -> X
     requires { AcceptsJobs F.Fn f.now (job ∷ []) }
     ensures { GivesFor F.Fn f.now (job ∷ []) (result ∷ []) }

@@ -70,7 +70,7 @@ fn schedule_of<T: Source>(
 }
 
 /// Writes the verdict on a schedule for an instance of `source`, and returns whether the schedule is feasible. Reads
-/// the schedule from the second source, `schedule`, once the instance is picked; without one the schedule stands in the
+/// the schedule from the second source, `schedule`, once the instance is picked; without a second source, from the
 /// instance text itself. Writes nothing before the line is made.
 ///
 /// Fails as `check_bytes` does, and with `ReadFailed` or `WriteFailed` if a device fails.

@@ -16,7 +16,7 @@ pub struct DeviceFailed;
 
 /// A source of bytes, such as a file or standard input.
 pub trait Source {
-    /// The bytes that the source has left, where they are known, and how often it has failed and told its end.
+    /// The bytes that the source has left, if they are known, and how often it has failed and returned its end.
     ghost device: { Self → Device };
 
     /// Reads some bytes to the front of `buffer`, and returns how many: none only at the end, or if `buffer` is empty.
@@ -31,7 +31,7 @@ pub trait Source {
 
 /// A sink of bytes, such as a file or standard output.
 pub trait Sink {
-    /// The bytes that the sink holds, where they are known, and how often it has failed.
+    /// The bytes that the sink holds, if they are known, and how often it has failed.
     ghost device: { Self → Device };
 
     /// Writes some bytes from the front of `buffer`, and returns how many: none only if `buffer` is empty. Writes
@@ -53,7 +53,7 @@ pub struct Reading<R: Read + Drop> {
 }
 
 impl<R: Read + Drop> Reading<R> {
-    /// Makes a source over `reader` that hasn't failed yet, nor told its end.
+    /// Makes a source over `reader` that hasn't failed or returned its end yet.
     pub fn new(reader: R) -> Reading<R>
         ensures { result ≡ record { reader = reader; failures = 0; ends = 0 } }
     {

@@ -7,8 +7,8 @@ ghost use Rattle.shop_engine.specs.{Scaling.ScalingKeepsTheLeast, Floors.BoundsR
 ghost use Rattle.shop_engine.specs.AnswerLaws.{ReportsTellTheAnswer, MoreRoundsLowerNoBound, MetBoundsAreLeast};
 ghost use Rattle.shop_engine.specs.AnswerLaws.{OptimalWhereBoundIsMakespan};
 
-/// Where the bytes of a source are known and their text is refused, the engines answer that refusal: the one fault of
-/// the text, or that it has no instance of the name; or else that memory ran out or a read failed.
+/// If the bytes of a source are known and their text is refused, the engines answer with that refusal: the text's one
+/// fault, or that it has no instance of the name. Instead they may answer that memory ran out or that a read failed.
 pub fn refused_texts_are_answered()
     ensures list { ListingRefuses }
     ensures check { CheckingRefuses }

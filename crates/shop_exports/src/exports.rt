@@ -28,7 +28,7 @@ pub extern "C" fn shop_exports_list(
     }
 }
 
-/// Judges a schedule, as `check` does; unless `is_apart`, the schedule stands in `text`.
+/// Judges a schedule, as `check` does; unless `is_apart`, `text` also has the schedule.
 #[unsafe(no_mangle)]
 pub extern "C" fn shop_exports_check(
     alloc: Global,

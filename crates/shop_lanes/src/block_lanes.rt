@@ -39,7 +39,7 @@ fn copied<B: Block>(alloc: Global, numbers: &[u64]) -> Result<Vec<B::Number>, No
     Ok(copy)
 }
 
-/// Writes `GREATEST` at all places of `row` behind the first `positions`.
+/// Writes `GREATEST` at all places of `row` after the first `positions`.
 fn end_row<B: Block>(row: &mut [B::Number], positions: usize)
     requires { positions ≤ length row.old }
     ensures { map B.value row.new
@@ -50,7 +50,7 @@ fn end_row<B: Block>(row: &mut [B::Number], positions: usize)
     }
 }
 
-/// Writes head 0 at each of the first `positions` places of `row`, and `GREATEST` at all places behind them.
+/// Writes head 0 at each of the first `positions` places of `row`, and `GREATEST` at all later places.
 fn clear_row<B: Block>(row: &mut [B::Number], positions: usize)
     requires { positions ≤ length row.old }
     ensures { map B.value row.new ≡ replicate positions 0 ++ replicate (length row.old - positions) B.GREATEST }

@@ -36,12 +36,12 @@ pub trait Block: Copy + Drop {
 
     ghost value: { Self.Number → ℕ };
 
-    /// The number as it stands in a lane.
+    /// The number in the width of a lane.
     fn narrowed(number: u64) -> Self::Number
         requires { number ≤ GREATEST }
         ensures { value result ≡ number };
 
-    /// The number that stands in a lane.
+    /// The number of a lane in 64 bits.
     fn widened(number: Self::Number) -> u64
         ensures { result ≡ value number };
 
@@ -110,8 +110,8 @@ pub trait Block: Copy + Drop {
         ensures { numbers result ≡ map (ahead_of GREATEST (first_of (numbers from)))
             (take 8 (drop (8 * block) (map value row.now))) };
 
-    /// Sets bit i of the result if lane i of `block` is marked: if `equal`, where it is `number`; else, where it is
-    /// above 0 and at most `number`.
+    /// Sets bit i of the result if lane i of `block` is marked. If `equal`, the lanes that equal `number` are; else
+    /// those that are above 0 and at most `number`.
     fn bits(block: Self, equal: bool, number: u64) -> u64
         requires eight { length (numbers block) ≡ 8 }
         requires fits { number ≤ GREATEST }

@@ -24,7 +24,7 @@ macro_rules! moved {
     }};
 }
 
-/// Sets bit i of the answer if lane i of `$lanes` is marked, as `Block::bits` tells.
+/// Sets bit i of the answer if lane i of `$lanes` is marked, as defined by `Block::bits`.
 macro_rules! bits {
     ($lanes:expr, $equal:expr, $number:expr) => {{
         let (lanes, number) = ($lanes, Simd::splat($number));

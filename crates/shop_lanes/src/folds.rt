@@ -28,7 +28,7 @@ pub fn greatest_before<B: Block>(block: B) -> B
     B::greater(fours, B::moved(fours, Move::UpFour))
 }
 
-/// Returns in each lane the greatest number in the lanes of `block` behind it; 0 in the last lane.
+/// Returns in each lane the greatest number of the later lanes of `block`; 0 in the last lane.
 #[inline(always)]
 pub fn greatest_behind<B: Block>(block: B) -> B
     requires { length (B.numbers block) ≡ 8 }

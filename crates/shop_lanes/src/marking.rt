@@ -52,7 +52,7 @@ impl Marks {
         }
     }
 
-    /// Unmarks `position`, if it is marked. It may also lie outside of the 64 positions.
+    /// Unmarks `position`, if it is marked. `position` need not be one of the 64 positions.
     #[inline(always)]
     pub fn unmark(&mut self, position: usize)
         ensures { self.new ≡ without position self.old }

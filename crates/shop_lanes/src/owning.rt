@@ -10,9 +10,9 @@ use crate::lane_rows::LaneRows;
 use crate::passes::are_wide;
 use crate::served_blocks::serve;
 
-/// The ends of columns, with all waiting operations served by rank from time 0 on. `begins` and `clocks` hold the time
-/// when each column begins and ends. `before` and `behind` hold the greatest end, tail included, in the columns before
-/// and behind each column.
+/// The ends of columns, if all waiting operations are served by rank from time 0 on. `begins` and `clocks` hold the
+/// time when each column begins and ends. `before` and `behind` hold the greatest end, tail included, in the columns
+/// before and after each column.
 #[derive(Clone, Copy)]
 struct ColumnEnds<B> {
     begins: B,
@@ -79,9 +79,9 @@ fn write_back<B: Block>(
         let time = B::load(rows.times, block);
         let tail = B::load(rows.tails, block);
         let noted = B::load(owns, block);
-        // With all waiting operations served by rank from time 0 on, `first` and `behind` hold in each lane the
-        // greatest end, tail included, of those before and behind its own. `behind` counts the time of its own one,
-        // which is taken off.
+        // If all waiting operations are served by rank from time 0 on, `first` and `behind` hold in each lane the
+        // greatest end, tail included, of the operations before and after its own. `behind` includes the time of the
+        // lane's own operation, which is taken off here.
         let first = B::greater(ends.before, B::sum(ends.begins, noted));
         let late = B::sum(clocks, B::waiting(tail, head, one));
         let rest = B::greater(first, B::difference(behind, time));
@@ -130,8 +130,9 @@ fn own_spans_of_longer<B: Block>(rows: &LaneRows<B::Number>, owns: &mut [B::Numb
     }
 }
 
-/// Writes into `owns` the own span of each waiting operation: how late the operation, and the others with their tails,
-/// end if it starts first, at its head, and they follow by rank. `EACH` is as for `bits_up_to`.
+/// Writes into `owns` the own span of each waiting operation. The operation starts first, at its head, and the others
+/// follow by rank: the own span is the greatest of the operation's end and the others' ends with their tails. `EACH` is
+/// as for `bits_up_to`.
 #[inline(always)]
 pub(crate) fn own_spans<B: Block, const EACH: usize>(
     rows: &LaneRows<B::Number>,

@@ -61,7 +61,7 @@ pub trait StateLanes: Drop {
         requires { position < length (heads self.now) }
         ensures { result ≡ slice_index (heads self.now) position };
 
-    /// The head at `position`; `GREATEST` behind the last position.
+    /// The head at `position`; `GREATEST` after the last position.
     fn head_or_greatest(&self, position: usize) -> u64
         requires { position ≤ length (heads self.now) }
         ensures { result ≡ slice_index_or (heads self.now) position GREATEST };
@@ -86,7 +86,8 @@ pub trait StateLanes: Drop {
         ensures job { IsFirstLeast (ends self.now) result.0 }
         ensures end { result.1 ≡ slice_index (ends self.now) result.0 };
 
-    /// Marks the positions in blocks `from` up to `to` (excluded) where an operation waits with a head below `limit`.
+    /// Marks the positions in blocks `from` up to `to` (excluded) of the operations that wait with a head below
+    /// `limit`.
     fn below(&self, from: usize, to: usize, limit: u64) -> Marks
         requires ordered { from ≤ to }
         requires within { 8 * to ≤ length (heads self.now) }

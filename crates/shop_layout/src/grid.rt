@@ -16,7 +16,7 @@ pub struct Grid<'l, L: StateLanes> {
     positions: &'l Positions,
     /// the legs of all routes
     legs: &'l [Leg],
-    /// at each position, where the legs behind its operation begin
+    /// for each position, where the legs after its operation begin
     behind: &'l [usize],
     /// the number of blocks of each machine, or 0 if not all machines have equally many
     blocks_each: usize,
@@ -40,7 +40,7 @@ impl<'l, L: StateLanes> Model for Grid<'l, L> {
 }
 
 impl<'l, L: StateLanes> Grid<'l, L> {
-    /// Makes a grid of `layout`, whose times and tails stand in the lanes of `rows`.
+    /// Makes a grid of `layout`; `rows` has the layout's times and tails in lanes.
     pub(crate) fn of(layout: &'l Layout<'_>, rows: &'l Rows<L::Number>) -> Grid<'l, L>
         requires times { map L.value rows.now.times.items ≡ layout.now.layout.times }
         requires tails { map L.value rows.now.tails.items ≡ layout.now.layout.tails }
@@ -104,7 +104,7 @@ impl<'l, L: StateLanes> Grid<'l, L> {
         L::EACH
     }
 
-    /// The first block of `machine`, and the block behind its last block. `each` is the number of blocks of each
+    /// The first block of `machine`, and the block after its last block. `each` is the number of blocks of each
     /// machine, or 0 if unknown.
     #[inline(always)]
     pub fn blocks_of(&self, each: usize, machine: usize) -> (usize, usize)

@@ -9,9 +9,9 @@ use crate::positions::Positions;
 use std::alloc::{AllocError as NoMemory, Global};
 use std::marker::Model;
 
-/// A step of a route: its position, its machine and its time; or the end of a route, at the position behind all others.
-/// A walk along a route reads its legs side by side in memory; rows by position would be read at another place for each
-/// step.
+/// A step of a route: its position, its machine and its time; or the end of a route, at the position after all others.
+/// The legs of a route are side by side in memory, so a walk along it reads them in turn; rows by position would be
+/// read at another place for each step.
 #[derive(Clone, Copy)]
 pub struct Leg {
     pub position: u32,
@@ -19,7 +19,7 @@ pub struct Leg {
     pub time: u64,
 }
 
-/// Adds the legs of the route whose steps stand at the positions `places`, in order, and then its end. There are `end`
+/// Adds the legs of a route, whose steps have the positions `places`, in order, and then its end. There are `end`
 /// positions. Fails with `NoMemory` if memory runs out.
 fn add_route(
     legs: &mut Vec<Leg>,
@@ -139,8 +139,8 @@ impl<'a> Model for Routes<'a> {
 }
 
 impl<'a> Routes<'a> {
-    /// Looks up the rows of the layout `positions`, with the legs of all routes, and at each position where the legs
-    /// behind its operation begin.
+    /// Looks up the rows of the layout `positions`, with the legs of all routes and, for each position, where the legs
+    /// after its operation begin.
     #[inline(always)]
     pub(crate) fn of(positions: &'a Positions, legs: &'a [Leg], behind: &'a [usize]) -> Routes<'a>
         requires legs { legs.now ≡ all_legs positions.now }
@@ -187,8 +187,8 @@ impl<'a> Routes<'a> {
         times[position]
     }
 
-    /// The index of the leg behind the operation at `position`, or of the end of its route if no operation is behind
-    /// it. Later legs of the route follow.
+    /// The index of the leg after the operation at `position`, or of the end of its route if that operation is the last
+    /// one. Later legs of the route follow.
     #[inline(always)]
     pub fn behind(&self, position: usize) -> usize
         requires job { position < length self.now.jobs }

@@ -72,7 +72,7 @@ struct Cells {
     blocks: Vec<u32>,
 }
 
-/// Adds `count` blocks to `slots`, with the operations of `list` down their columns and padding behind. Fails with
+/// Adds `count` blocks to `slots`, with the operations of `list` down their columns, then padding. Fails with
 /// `NoMemory` if memory runs out.
 fn add_blocks(slots: &mut Vec<Slot>, list: &[Slot], count: usize) -> Result<(), NoMemory>
     requires { 8 * count < 2 ^ 32 }

@@ -30,8 +30,8 @@ pub enum Verdict {
         job: usize,
         step: usize,
     },
-    /// Two operations of one machine overlap: neither ends before the other begins. `first` stands before `second` by
-    /// job and step. An operation of time 0 overlaps another if it stands strictly inside it.
+    /// Two operations of one machine overlap: neither ends before the other begins. `first` comes before `second` by
+    /// job and step. An operation of time 0 overlaps another if it is strictly inside it.
     Overlap {
         machine: usize,
         first: OperationId,

@@ -132,8 +132,8 @@ fn are_below(jobs: usize, word: &Word) -> bool
     word.jobs().all(|j| j < jobs)
 }
 
-/// Returns whether `word` is a word of `instance`: each entry is one of its jobs, and no job stands there more often
-/// than its route is long. Takes no memory. For library callers: the program doesn't use `fits`.
+/// Returns whether `word` is a word of `instance`: each entry is one of its jobs, and no job occurs more often than its
+/// route is long. Takes no memory. For library callers: the program doesn't use `fits`.
 pub fn fits(instance: &Instance, word: &Word) -> bool
     ensures { IsTrue result ↔ IsWord instance.now word.now }
 {
@@ -148,8 +148,8 @@ pub fn fits(instance: &Instance, word: &Word) -> bool
     true
 }
 
-/// Returns whether `word` is full: each job of the instance stands there as often as its route is long, and no other
-/// entry does. Takes no memory. For library callers: the program doesn't use `is_full`.
+/// Returns whether `word` is full: each job of the instance occurs as often as its route is long, and no other entry
+/// occurs. Takes no memory. For library callers: the program doesn't use `is_full`.
 pub fn is_full(instance: &Instance, word: &Word) -> bool
     ensures { IsTrue result ↔ IsFull instance.now word.now }
 {

@@ -12,7 +12,7 @@ pub struct Open {
 
 /// A waiting open child, with the fields of `Open`, or waiting closed children. Closed children have bounds that reach
 /// the best makespan and are only counted. They are the last `count` children of one word: the first `depth` jobs of
-/// the walk's path. The fields of a child lie beside the tag, so that an entry takes 16 bytes, not 24 as with an `Open`
+/// the walk's path. The variant has a child's fields itself, so that an entry takes 16 bytes, not 24 as with an `Open`
 /// in it: each search brings a list of these.
 #[derive(Clone, Copy)]
 pub enum Waiting {

@@ -2,8 +2,8 @@
 use shop_engine::{CheckArgs, ListArgs, SolveArgs};
 use shop_runs::Workers;
 
-/// A command with its arguments and its paths. Without a path a text is standard input; without the path of a schedule,
-/// the schedule stands in the text of the instance.
+/// A command with its arguments and its paths. Without a path the text is standard input; without a path of a schedule,
+/// the text of the instance also has the schedule.
 #[derive(Drop)]
 pub enum Args {
     List {

@@ -78,7 +78,7 @@ fn first_from(stacks: &[Place], from: usize) -> usize
     stacks.len()
 }
 
-/// Counts the words of the stacks from `first` on until they are at least `most`. Returns the index behind the last
+/// Counts the words of the stacks from `first` on until they are at least `most`. Returns the index after the last
 /// stack that was counted, or `None` if all of them hold fewer, and how many were counted. Fails with `NoMemory` if a
 /// stack holds 2^64 words or more.
 fn place_behind(

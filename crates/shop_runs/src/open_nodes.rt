@@ -26,8 +26,8 @@ const MOST_FOR_AN_OPERATION: u64 = 128;
 /// as nodes come.
 const FEW_NODES: usize = 16;
 
-/// Returns whether open nodes of bounds below `makespan` may stand in a row, for an instance of `operations`
-/// operations.
+/// Returns whether open nodes of bounds below `makespan` may be kept in a row of stacks, for an instance of
+/// `operations` operations.
 fn fits_row(makespan: u64, operations: usize) -> bool {
     makespan <= MOST_IN_ROW && makespan / MOST_FOR_AN_OPERATION <= operations as u64
 }

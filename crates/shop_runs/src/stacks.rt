@@ -12,8 +12,8 @@ const FULL_CHUNK: usize = 256;
 /// For how many words a chunk that covers another has room at first. Most stacks end in such a chunk.
 const FIRST_ROOM: usize = 16;
 
-/// The words of the open nodes of one bound. `top` is taken next; the words below it lie in chunks, of which `below` is
-/// the topmost. Words come and go there alone, and nothing copies the full chunks that it covers.
+/// The words of the open nodes of one bound. `top` is taken next. The words below it are in chunks, of which `below` is
+/// the topmost: words are put and taken only there, and the full chunks under it are never copied.
 #[derive(Drop)]
 pub(crate) struct Stack {
     pub(crate) top: SharedWord,

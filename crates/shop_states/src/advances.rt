@@ -16,7 +16,7 @@ use crate::states::State;
 use shop_lanes::StateLanes;
 use shop_layout::Grid;
 
-/// Makes the operation behind `position` on the route of `job` the job's next one, and sets that operation's end in
+/// Makes the operation after `position` on the route of `job` the job's next one, and sets that operation's end in
 /// lanes: `GREATEST` if the job has no operation left.
 #[inline(always)]
 pub(crate) fn set_next<L: StateLanes>(

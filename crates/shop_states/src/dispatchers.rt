@@ -216,22 +216,21 @@ impl<'l, 'a, L: StateLanes> Dispatcher<'l, 'a, L> {
         Some(told)
     }
 
-    /// Makes `to` a copy of `from`, and does there what `dispatch_below` does. If `is_known`, `bound_children` was
+    /// Makes `to` a copy of `from`, and does there what `dispatch_below` does. If `IS_KNOWN`, `bound_children` was
     /// called for this word last: the bound then takes fewer steps.
     #[inline(always)]
-    pub fn dispatch_in_copy(
+    pub fn dispatch_in_copy<const IS_KNOWN: bool>(
         &mut self,
         from: &State<L>,
         to: &mut State<L>,
         candidate: Candidate,
-        is_known: bool,
         bound: u64,
         limit: u64,
     ) -> Option<u64>
         requires to { IsSlot L.StateLanes self.old.laid_out to.old }
         requires can { CanDispatch self.old.laid_out.asked
             (λ w. IsStateWith L.StateLanes self.old.laid_out candidate from.now w
-            × (IsTrue is_known → KnowsChild self.old.laid_out self.old.ceilings w candidate.job))
+            × (IsTrue IS_KNOWN → KnowsChild self.old.laid_out self.old.ceilings w candidate.job))
             candidate.job bound }
         ensures dispatched { HasDispatched self.old.laid_out.asked
             (IsStateWith L.StateLanes self.old.laid_out candidate from.now)
@@ -240,7 +239,7 @@ impl<'l, 'a, L: StateLanes> Dispatcher<'l, 'a, L> {
         ensures same { self.new ≡ self.old }
     {
         let grid = self.laid_out.grid();
-        let ceilings = ceilings_if(is_known, self.ceilings.as_slice());
+        let ceilings = ceilings_if(IS_KNOWN, self.ceilings.as_slice());
         let range = range_of(candidate, bound, limit, ceilings);
         let job = candidate.job as usize;
         dispatch_in_copy(from, to, &mut self.raises, grid, job, &range)

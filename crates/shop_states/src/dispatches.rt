@@ -21,7 +21,8 @@ pub(crate) struct Dispatch {
     pub delayed: Marks,
 }
 
-/// Returns the block behind those that are marked at once from block `from` on, of blocks up to `behind` (excluded).
+/// Returns where the blocks end that can be marked at once, from block `from` on: at most `MOST_MARKED` blocks, of
+/// those up to `behind` (excluded).
 #[inline(always)]
 pub(crate) fn marks_end(from: usize, behind: usize) -> usize
     requires { from ≤ behind }

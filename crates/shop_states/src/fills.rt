@@ -8,8 +8,8 @@ ghost use Rattle.shop_states.specs.inner.PlacedNexts.{IsPlacedAt, IsWordAt};
 use shop_lanes::StateLanes;
 use shop_layout::LaidOut;
 
-/// Sets the heads of the operations on a route from leg `index` on, for which its job is ready at `ready`. The legs up
-/// to the end of the route lie side by side, and hold all that is read of an operation.
+/// Sets the heads of the operations on a route from leg `index` on; the job is ready for the first of them at `ready`.
+/// The legs up to the end of the route are side by side, and have all that is read of an operation.
 #[inline(always)]
 fn fill_route<L: StateLanes>(
     lanes: &mut L,
@@ -80,8 +80,8 @@ fn fill_job<L: StateLanes>(
     leg.position
 }
 
-/// Sets all heads and ends to those of the placement that `next`, `ready` and `free` tell. Turns `next` from the
-/// indices of next legs into the positions of next operations.
+/// Sets all heads and ends to those of the placement given by `next`, `ready` and `free`. Turns `next` from the indices
+/// of next legs into the positions of next operations.
 pub(crate) fn fill_state<L: StateLanes>(
     lanes: &mut L,
     laid_out: &LaidOut<L>,

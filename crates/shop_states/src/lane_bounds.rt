@@ -78,7 +78,7 @@ pub(crate) fn take_spans_of<L: StateLanes>(
     ensures { TakesSpansIn L.StateLanes laid.now (raises_in L.value raises.old) (raises_in L.value raises.new)
         range.now.least range.now.limit result }
 {
-    // looked up once: an emptied raise is a write, behind which the rows would be looked up anew
+    // looked up only once: emptying a raise is a write, after which the rows would be looked up again
     let rows = laid.grid.rows(laid.lanes);
     let mut most = range.least;
     let mut left = raised;

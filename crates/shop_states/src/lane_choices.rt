@@ -8,9 +8,9 @@ use crate::job_sets::JobSet;
 use shop_lanes::{Marks, StateLanes};
 use shop_layout::Grid;
 
-/// Where a conflict set lies: in blocks `from` up to `behind` (excluded), those of one machine. The next operation that
-/// can end first is there: that of `chosen`. `end` is its end in lanes. `below` marks the heads below `end` in the
-/// blocks before `to`.
+/// Which blocks a conflict set is in: `from` up to `behind` (excluded), all blocks of one machine. They have the next
+/// operation that can end first, that of `chosen`; `end` is its end in lanes. `below` marks the heads below `end` in
+/// the blocks before `to`.
 #[derive(Drop)]
 pub(crate) struct ConflictBlocks {
     pub chosen: usize,
@@ -80,8 +80,8 @@ pub(crate) fn is_alone<L: StateLanes>(blocks: &ConflictBlocks, lanes: &L, positi
     is_alone_in(lanes, blocks.to, blocks.behind, blocks.end, position)
 }
 
-/// Returns the conflict set that lies in `blocks`: the chosen job, and each job with an operation that waits there with
-/// a head below the end of the chosen one. Each of these operations is its job's next one, since no next operation can
+/// Returns the conflict set that is in `blocks`: the chosen job, and each job with an operation that waits there with a
+/// head below the end of the chosen one. Each of these operations is its job's next one, since no next operation can
 /// end earlier.
 #[inline(always)]
 pub(crate) fn conflict_set<const NUMBERS: usize, L: StateLanes>(

@@ -1,4 +1,5 @@
-// Raises heads behind the operations of one machine as if that machine were free late, and notes how far.
+// Raises heads of later operations on the routes of one machine's operations, as if that machine were free late, and
+// notes how far.
 ghost use Rattle.std.specs.Prelude.{◌<◌, slice_index};
 ghost use Rattle.shop_states.specs.inner.{LaneRaises.raises_in, LaidLanes.rows_in, RaiseCalls.CanNote};
 ghost use Rattle.shop_states.specs.inner.Siblings.{CanRaiseBehind, CanRaiseLate, HasRaisedBehind, IsEndAt, IsLateOn};
@@ -19,8 +20,9 @@ pub(crate) struct Latest {
     pub second: u64,
 }
 
-/// The machine on which all candidates wait, and delay the other operations. It has blocks `from` up to `behind`
-/// (excluded). The candidates' operation that ends last is at position `last`, and ends at `latest.end`.
+/// The machine of a conflict set: all candidates wait on it, and whichever goes first delays the other operations
+/// there. It has blocks `from` up to `behind` (excluded). The candidates' operation that ends last is at position
+/// `last`, and ends at `latest.end`.
 #[derive(Clone, Copy)]
 pub(crate) struct LateMachine {
     pub from: usize,
@@ -29,7 +31,7 @@ pub(crate) struct LateMachine {
     pub latest: Latest,
 }
 
-/// Raises the heads behind the operation at `position` on its route, as far as they are too early if the operation
+/// Raises the heads after the operation at `position` on its route, as far as they are too early if that operation
 /// begins at `free`. Notes how far these heads rose, see `see`. The operation's own head stays.
 #[inline(always)]
 fn raise_behind<L: StateLanes, const NUMBERS: usize>(
@@ -59,10 +61,10 @@ fn raise_behind<L: StateLanes, const NUMBERS: usize>(
     raise_route::<L, NUMBERS>(lanes, raises, raised, routes, first, ready);
 }
 
-/// Raises the heads behind each operation that waits on a late machine, as if the operation began at the latest time
-/// until which candidates can delay it: at `late.latest.end` or, if it stands at `late.last`, at `late.latest.second`.
-/// Notes how far heads rose. No head of a child is then higher, except on that machine, where a head rises only behind
-/// another operation of its route. Marks up to eight blocks at once, and visits only what waits there and can begin
+/// Raises the heads on the routes after each operation that waits on a late machine, as if the operation began as late
+/// as a candidate can delay it: at `late.latest.end` or, for the operation at `late.last`, at `late.latest.second`.
+/// Notes how far heads rose. Then no head of a child is higher, except on that machine, on which heads rise only after
+/// another operation of their route. Marks up to eight blocks at once, and visits only what waits there and can begin
 /// before the latest end: after all others, and after a marked head that rose before its turn, heads on routes are late
 /// enough.
 pub(crate) fn raise_late<L: StateLanes, const NUMBERS: usize>(

@@ -71,8 +71,8 @@ impl<L: StateLanes> MachineRaises<L> {
         let mut raised = MachineSet::none();
         let raises = self.raises.as_mut_slice();
         let each = grid.fixed_blocks_each();
-        // a dispatch marks at most `MOST_MARKED` blocks: of longer machines, and of those of unknown length, the other
-        // blocks are marked on the way
+        // `delayed` marks at most `MOST_MARKED` blocks. If a machine has more, or an unknown number, `raise_any` marks
+        // the later blocks as it goes
         if each == 0 || each > MOST_MARKED {
             if raises.len() <= 64 {
                 raise_any::<L, 1>(lanes, raises, &mut raised, grid, next, dispatch);
@@ -120,7 +120,7 @@ impl<L: StateLanes> MachineRaises<L> {
         take_spans_of(each, raises, raised, laid, &higher) - 1
     }
 
-    /// Raises heads on the routes behind the operations that wait on a late machine, as `late_raises::raise_late` does.
+    /// Raises heads on routes after the operations that wait on a late machine, as `late_raises::raise_late` does.
     /// Returns the set of machines on which heads rose.
     #[inline(always)]
     pub(crate) fn raise_late(

@@ -1,5 +1,5 @@
-// Places the operations of a word, in the order of its jobs. What is kept of a job is the index of its next leg (its
-// first unplaced operation, or the end of its route), since the legs of a route lie side by side in memory.
+// Places the operations of a word, in the order of its jobs. For each job the index of its next leg is kept (its first
+// unplaced operation, or the end of its route), since the legs of a route are side by side in memory.
 ghost use Rattle.std.specs.Prelude.{◌≡◌, ◌≤◌, length, take};
 ghost use Rattle.shop_model.specs.Word.{IsWord, none_placed, placing};
 ghost use Rattle.shop_states.specs.inner.PlacedNexts.{IsPlacedAt};

@@ -1,4 +1,4 @@
-// Raises heads after an operation is dispatched, and notes how far where the longer word is bounded.
+// Raises heads after an operation is dispatched; if the longer word is to be bounded, also notes how far.
 ghost use Rattle.std.specs.Prelude.{◌+◌, ◌≤◌, ◌<◌, ◌^◌, [], length, slice_index};
 ghost use Rattle.shop_states.specs.inner.{LaneRaises.raises_in, LaidLanes.{HasRaisedIn, RaisesIn, rows_in}};
 ghost use Rattle.shop_states.specs.inner.RaiseCalls.{CanDelay, CanNote, CanRaise};

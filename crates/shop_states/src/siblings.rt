@@ -68,10 +68,10 @@ fn greatest_own(candidates: &[Candidate], bound: u64) -> u64 {
         .fold(bound, u64::max)
 }
 
-/// Finds a ceiling for each machine: a number that no span of a child exceeds there, whichever of the candidates is
-/// dispatched; on their own machine no span from after the dispatched operation's end, since `own` tells the others.
-/// Writes the ceilings, in lanes, into `ceilings`. Returns the greatest ceiling, or a number above the `own` of each
-/// candidate. `lanes` holds the heads of the word and is used up; `next` has its next operations.
+/// Finds a ceiling for each machine: a number that no span of a child exceeds there, whichever candidate is dispatched.
+/// On the candidates' own machine it covers only spans from after the dispatched operation's end: `own` covers the
+/// others. Writes the ceilings, in lanes, into `ceilings`. Returns the greatest ceiling, or a number above the `own` of
+/// each candidate. `lanes` holds the heads of the word and is used up; `next` has its next operations.
 #[inline(never)]
 pub(crate) fn bound_children<L: StateLanes>(
     lanes: &mut L,

@@ -55,8 +55,8 @@ struct Reader {
 }
 
 impl Reader {
-    /// Reads a text line, and keeps the name that it gives, if any. Fails with `BadRow` if the line stands between
-    /// rows, or with `NoMemory` if memory runs out.
+    /// Reads a text line, and keeps the name that it gives, if any. Fails with `BadRow` if the line is between rows, or
+    /// with `NoMemory` if memory runs out.
     fn take_words(
         &mut self,
         alloc: Global,
@@ -193,8 +193,8 @@ pub fn read_orlib(alloc: Global, text: &[u8]) -> Result<Vec<Named>, ReadFault>
 }
 
 /// Reads the instances of `text`, at least one, in the form that goes by Taillard's name: a size line, a row of times
-/// for each job, and a row of machines for each job, counted from 1. Numbers behind jobs and machines in a size line
-/// are skipped. The names of instances are their numbers, from 1.
+/// for each job, and a row of machines for each job, counted from 1. Further numbers of a size line, after jobs and
+/// machines, are skipped. The names of instances are their numbers, from 1.
 ///
 /// Fails as `read_orlib` does. For library callers: the program doesn't use `read_taillard`.
 pub fn read_taillard(alloc: Global, text: &[u8]) -> Result<Vec<Named>, ReadFault>

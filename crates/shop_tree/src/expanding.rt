@@ -13,8 +13,8 @@ use shop_lanes::StateLanes;
 use shop_model::{SharedWord, Word};
 use std::alloc::{AllocError as NoMemory, Global};
 
-/// How many states a word's children may take from other words. Once no state is left, children that are walked later
-/// have none.
+/// The most states that a word's children may take from other words. If none is left, children that are walked later
+/// are filled from their words.
 const MOST_WANTED: usize = 3;
 
 impl<'l, 'a, L: StateLanes> Walker<'l, 'a, L> {

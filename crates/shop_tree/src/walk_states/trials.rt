@@ -38,7 +38,7 @@ impl<'l, 'a, L: StateLanes> WalkStates<'l, 'a, L> {
         }
         let trial = &mut self.trial;
         self.dispatcher
-            .dispatch_in_copy(&self.current, trial, candidate, false, bound, limit)
+            .dispatch_in_copy::<false>(&self.current, trial, candidate, bound, limit)
     }
 
     /// Bounds the children of the current word, that of `branching`, as `Dispatcher::bound_children` does, if they are
@@ -74,7 +74,7 @@ impl<'l, 'a, L: StateLanes> WalkStates<'l, 'a, L> {
     {
         let trial = &mut self.trial;
         self.dispatcher
-            .dispatch_in_copy(&self.current, trial, candidate, true, bound, limit)
+            .dispatch_in_copy::<true>(&self.current, trial, candidate, bound, limit)
     }
 
     /// Dispatches the candidate of `branching` with this `job`, whose child's bound is known already, in the current
@@ -171,9 +171,10 @@ impl<'l, 'a, L: StateLanes> WalkStates<'l, 'a, L> {
         Ok(closed)
     }
 
-    /// Gives the child on top of the stack a state, if the child lies from index `from` on and has none, and another
-    /// state can take the place of the current one: dispatches its job in the current state, which the walk no longer
-    /// needs. The child is one of `branching`, with a bound below its limit. Fails with `NoMemory` if memory runs out.
+    /// Gives the child on top of the stack a state, by dispatching its job in the current state, which the walk no
+    /// longer needs. Does so only if the child's index is at least `from`, it has no state, and another state can take
+    /// the place of the current one. The child is one of `branching`, with a bound below its limit. Fails with
+    /// `NoMemory` if memory runs out.
     fn give_current(
         &mut self,
         alloc: Global,

@@ -9,7 +9,7 @@ dispatch_in_copy-requires-clause-can g c =
     let can = rw (← c.self.view_is) at c.requires.can
     in candidate_can c.grid-grid.ensures.grid refl (kept_of can.is.0.0).kept can.is.0.1
     (bound_there (kept_of can.is.0.0) can.bound_is) c.range_of-range.ensures.least c.self.invariant.machines
-    (rw c.range_of-range.ensures.ceilings (its_ceilings c.args.is_known
+    (rw c.range_of-range.ensures.ceilings (its_ceilings _
     (rw c.as_slice.ensures.value at c.ceilings_if-ceilings.ensures.known) c.ceilings_if-ceilings.ensures.unknown
     can.is.1))
 
