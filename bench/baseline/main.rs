@@ -11,17 +11,17 @@
 //! It searches as the program does (docs/DECISIONS.md). If a proof lets the program omit a bounds check, it omits the
 //! check, too. These things differ, beside the first bound, which it finds in its lanes:
 //!
-//! - Memory for states: half a megabyte in all, but at least two states; in the program 400 KB for waiting children, and
-//!   two states a walk. A state is one piece of memory with bits of next operations; in the program some pieces in a
-//!   box. For a word's children as many states are taken back as they want; in the program at most three.
+//! - Memory for states: half a megabyte in all, but at least two states; in the program 400 KB for waiting children,
+//!   and two states a walk. A state is one piece of memory with bits of next operations; in the program some pieces in
+//!   a box. For a word's children as many states are taken back as they want; in the program at most three.
 //! - The width of lanes: by the opening makespan, the greatest load of a machine and the longest route; in the program
 //!   by the latest release, all times, and the greatest load of a machine with its tail.
 //! - Threads and their states last for the run; in the program for a round, and short rounds have fewer workers. The
 //!   calling thread searches, too; in the program it waits. Plain counts say how many share a word; in the program
 //!   atomic ones, which shows in small pieces.
-//! - Open nodes by bound are in std's map of lists; in the program in a row of stacks if bounds are small, else in std's
-//!   map. By `--order kept` each round seeks the least bound among all open nodes; the program has a list of least
-//!   bounds.
+//! - Open nodes by bound are in std's map of lists; in the program in a row of stacks if bounds are small, else in
+//!   std's map. By `--order kept` each round seeks the least bound among all open nodes; the program has a list of
+//!   least bounds.
 //! - There is a walk of its own for 1, 2, 4, 7 and 8 blocks a machine in lanes of each width; in the program for 2, 3
 //!   and 4 in lanes of 16 bits.
 
