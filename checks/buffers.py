@@ -92,7 +92,7 @@ def check_buffers(tally, module, answers):
         for buffer in buffers
         for title, place, status in memory.tries(buffer)
     ]
-    # the guard gives a place of its own to what has no bytes, which lies in these
+    # buffers without bytes lie in these huge ones, but the guard gives them a place of their own
     around_room = {"text": (memory.behind, huge), "room": (None, 0)}
     tries.append(("list", around_room, TOO_LONG, "a huge text and no room"))
     around_name = {"room": (memory.places["room"][0], huge), "name": (None, 0)}

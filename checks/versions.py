@@ -21,7 +21,7 @@ RELEASED_ON = re.compile(r"^date-released: (\S+)\n", re.MULTILINE)
 
 
 def parts_of(version):
-    """The three numbers of a version, and whether it is a release: a later version has more of these."""
+    """The three numbers of a version, and whether it is a release: these are greater for a later version."""
     first, second, third, ahead = VERSION.fullmatch(version).groups()
     return int(first), int(second), int(third), not ahead
 

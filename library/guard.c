@@ -20,7 +20,7 @@ static const jobshop_outcome bad_argument = {JOBSHOP_BAD_ARGUMENT, false, 0, 0};
 static const jobshop_options defaults = JOBSHOP_DEFAULTS;
 static uint8_t nothing[1];
 
-/* The bytes at a pointer; of none the pointer may be null. */
+/* The bytes at a pointer, which may be null if there are none. */
 static bytes at(const void *start, size_t length) {
     return (bytes){length == 0 ? nothing : (uint8_t *)(uintptr_t)start, length};
 }

@@ -22,7 +22,7 @@
 #include <stdint.h>
 
 /* The version of this header; `jobshop_version` returns that of the library. Between two releases it is the next one,
- * with "-dev" behind it. The number is 10000 times the first part plus 100 times the second plus the third. */
+ * with "-dev" after it. The number is 10000 times the first part plus 100 times the second plus the third. */
 #define JOBSHOP_VERSION "1.3.0-dev"
 #define JOBSHOP_VERSION_NUMBER 10300
 

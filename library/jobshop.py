@@ -257,7 +257,7 @@ def _route(job, route):
 
 
 def _starts(job, row):
-    """The starts of a job, each looked at."""
+    """The starts of a job, each checked."""
     if not _is_list(row):
         raise TypeError(f"job {job}: its starts are a list of whole numbers, not {row!r}")
     return [_whole(start, LATEST_START, (job, step), "start") for step, start in enumerate(row)]
@@ -299,7 +299,7 @@ def _instance(text, format, releases):
 
 
 def _hint(kind, texts):
-    """What a refusal says besides: that memory is missing, or that a text is a path or has one line alone."""
+    """What the message of a refusal adds: that memory is missing, or that a text given is a path or has no line end."""
     if kind == OUT_OF_MEMORY:
         return " (memory is missing, and no text is at fault)"
     for text in (text for text in texts if isinstance(text, str)):
@@ -330,15 +330,15 @@ def _answer(length, texts, call, *arguments):
 
 
 def _is_awaited():
-    """Is this a thread for which a process that ends would wait?"""
+    """Is the process ending, and does it wait for this thread?"""
     main = threading.main_thread()
     is_ending = getattr(threading, "_SHUTTING_DOWN", False) or not main.is_alive()
     return is_ending and threading.current_thread() is not main
 
 
 def _apart(call):
-    """The call, made in a thread that nobody waits for: Ctrl-C ends the wait for its outcome, and so does the end of
-    the process, which ends the thread that waits."""
+    """The call, made in a thread of its own, for whose outcome this one waits. Ctrl-C ends the wait, and so does the
+    end of the process: nothing waits for the thread that calls."""
 
     def begin(*arguments):
         outcomes = SimpleQueue()

@@ -9,17 +9,17 @@ use std::sync::atomic::{AtomicUsize, Ordering::SeqCst};
 use std::sync::{Condvar, Mutex, RwLock};
 use std::thread;
 
-/// How often one who waits looks again before it leaves the processor to others.
+/// How often a thread that waits looks again before it leaves the processor to others.
 const LOOKS: usize = 1_000;
-/// Stands for the call that ends the crew.
+/// The call that ends the crew.
 const END: usize = usize::MAX;
 
-/// What the searches of a round are told.
+/// What the searches of a round have to know.
 pub struct Round<T> {
     pub nodes: Vec<Node<T>>,
     pub budget: u64,
     pub piece: usize,
-    /// The best makespan, and the least bound of an open node: a piece that ends at this one ends the search.
+    /// The best makespan, and the least bound of an open node: a piece that ends at that bound ends the search.
     pub best: T,
     pub bound: T,
 }
@@ -35,7 +35,7 @@ pub struct Task<T> {
     pub paths: Paths,
 }
 
-/// The pieces of a round, claimed one after the other, and the least that ended at the round's bound.
+/// The pieces of a round, claimed one after the other, and the lowest piece that ended at the round's bound.
 struct Board {
     claimed: AtomicUsize,
     hit: AtomicUsize,
@@ -47,7 +47,7 @@ impl Board {
         self.hit.store(pieces, SeqCst);
     }
 
-    /// Searches pieces as long as there are some that may count.
+    /// Claims pieces and searches them, as long as there are some whose sheets may count.
     fn work<T: Lane, const BLOCKS: usize>(
         &self,
         walker: &mut Walker<T, BLOCKS>,
@@ -105,8 +105,8 @@ impl<T: Lane> Crew<T> {
         }
     }
 
-    /// Searches all pieces of the round, and tells their sheets in order: up to the first that ends at the round's
-    /// bound, and with it, where one does.
+    /// Searches the pieces of the round. Returns their sheets in order, up to the first one that ended at the round's
+    /// bound, or all of them if none did.
     pub fn search<const BLOCKS: usize>(&self, walker: &mut Walker<T, BLOCKS>) -> Vec<Sheet<T>> {
         let task = self.task.read().expect("no worker panics");
         let pieces = task.round.pieces();
@@ -140,12 +140,12 @@ impl<T: Lane> Crew<T> {
         }
     }
 
-    /// Ends the others.
+    /// Ends the other threads.
     pub fn end(&self) {
         self.call(END);
     }
 
-    /// Comes at each call, until the crew is ended.
+    /// Works at each call, until the crew is ended.
     pub fn serve<const BLOCKS: usize>(&self, mut walker: Walker<T, BLOCKS>) {
         let mut call = 0;
         loop {

@@ -8,8 +8,8 @@ pub const LANES: usize = 8;
 
 pub type Block<T> = Simd<T, LANES>;
 
-/// What stands at the positions of a machine, block by block. Operations of falling tail stand in the first lanes of
-/// all blocks, then in the second lanes, and so on. Where nothing waits the head is none.
+/// What is at the positions of a machine, block by block. Operations by falling tail run down the first lanes of all
+/// blocks, then down the second lanes, and so on. If nothing waits at a position, its head is `NONE`.
 #[derive(Clone, Copy)]
 pub struct Row<'r, T: SimdElement> {
     pub heads: &'r [Block<T>],
@@ -17,12 +17,12 @@ pub struct Row<'r, T: SimdElement> {
     pub tails: &'r [Block<T>],
 }
 
-/// A number in a lane, and what is done with blocks of such. A moment is kept one greater than it is, so that 0 stands
-/// for none.
+/// A number in a lane, and what is done with blocks of such numbers. Times of events are stored one greater, so that 0
+/// is `NONE`.
 pub trait Lane: SimdElement + Ord + Add<Output = Self> + Sub<Output = Self> + Send + Sync {
     const NONE: Self;
     const NEVER: Self;
-    /// The moment 0.
+    /// Time 0.
     const BEGIN: Self;
 
     fn of(number: u64) -> Self;
@@ -34,10 +34,10 @@ pub trait Lane: SimdElement + Ord + Add<Output = Self> + Sub<Output = Self> + Se
     /// The first place of the least number of some blocks, and this number.
     fn least(blocks: &[Block<Self>]) -> (usize, Self);
 
-    /// The least number above a limit, or one that isn't.
+    /// The least number above a limit; if there is none, a number that isn't above the limit.
     fn least_above(blocks: &[Block<Self>], limit: Self) -> Self;
 
-    /// A bit for each lane of up to eight blocks: is it below the limit, and some moment?
+    /// A bit for each lane of up to eight blocks: is it below the limit, and not `NONE`?
     fn moments_below(blocks: &[Block<Self>], limit: Self) -> u64;
 
     /// A bit for each lane of up to eight blocks: is it below the limit?
@@ -46,12 +46,12 @@ pub trait Lane: SimdElement + Ord + Add<Output = Self> + Sub<Output = Self> + Se
     /// A bit for each lane of up to eight blocks: is it this number?
     fn equal_to(blocks: &[Block<Self>], number: Self) -> u64;
 
-    /// Of what waits with a head of at least `from`, served by falling tail: the greatest of the times up to an
-    /// operation, its own too, and its tail.
+    /// The load of what waits with a head of at least `from`, served by falling tail from 0 on: the greatest end, tail
+    /// included.
     fn load(row: Row<Self>, from: Self) -> Self;
 
-    /// By lane: when the operation ends that waits there, and what else waits is served from then on, the greatest end,
-    /// tails included.
+    /// For each lane the own span of the operation that waits there: the greatest end, tails included, of the others on
+    /// the machine, if the operation goes first and they follow; but no less than the operation's own end.
     fn own_spans(row: Row<Self>, spans: &mut [Block<Self>]);
 }
 
@@ -78,7 +78,7 @@ macro_rules! greatest_before {
     }};
 }
 
-/// In each lane the greatest of the lanes behind it, or 0.
+/// In each lane the greatest of the lanes after it, or 0.
 macro_rules! greatest_behind {
     ($lanes:expr) => {{
         let zero = Block::splat(0);
@@ -90,7 +90,7 @@ macro_rules! greatest_behind {
     }};
 }
 
-/// The bits of a test of each block; two blocks at a time, since their masks have room in one register.
+/// The bits of a test of each block, two blocks at a time, since the masks of two fit one register.
 macro_rules! bits_of {
     ($blocks:expr, $test:expr) => {{
         let (pairs, last) = $blocks.as_chunks::<2>();
@@ -197,10 +197,10 @@ macro_rules! lane {
                 for ((heads, times), tails) in row.heads.iter().zip(row.times).zip(row.tails) {
                     let is_served = heads.simd_ge(from);
                     sums += is_served.select(*times, zero);
-                    // where nothing is served that is when the last one before ended
+                    // if nothing is served in a lane, this is the end of what was served before
                     greatest = greatest.simd_max(sums + is_served.select(*tails, zero));
                 }
-                // what stands in the lanes before is no more than an end in it
+                // in an empty lane this is no more than the end of what was served before
                 (greatest + (sums_up_to!(sums) - sums)).reduce_max()
             }
 

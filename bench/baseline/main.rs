@@ -1,29 +1,29 @@
-//! The same search as the program's, in plain Rust without proofs, and the best that is known: the yardstick that
-//! `bench/beside` measures against.
+//! The same search as the program's, in plain Rust without proofs: `bench/beside` measures the program against it.
 //!
 //!     baseline solve [--format F] [--name N] [--rounds R] [--budget B] [--piece K] [--order O] [--workers W] FILE
 //!     baseline list [--format F] FILE
 //!     baseline check [--format F] [--name N] FILE
 //!
-//! Prints what the program prints, but for faults: it expects words and texts to be sound. The search goes over rows of
-//! lanes: on a machine, the operations that wait are bounded eight at a time. Each open child of a walk that was tried
-//! has the state that its word leaves, so that nothing is ever taken back; a settled one is filled from its word.
+//! Prints what the program prints, except for faults: it expects words and texts to be sound. The search goes over rows
+//! of lanes: the operations that wait on a machine are bounded eight at a time. Each open child that was tried has the
+//! state that its word leaves, so nothing is ever undone; a settled child is filled from its word.
 //!
-//! It goes the program's way (docs/DECISIONS.md), with a bound check omitted where a proof lets the program omit it.
-//! These things differ, beside the first bound, which it finds in its lanes:
+//! It searches as the program does (docs/DECISIONS.md). If a proof lets the program omit a bounds check, it omits the
+//! check, too. These things differ, beside the first bound, which it finds in its lanes:
 //!
-//! - Memory for states: half a megabyte for all, never fewer than two states; the program has 400 KB for waiting
-//!   children, and two states a walk. A state is one piece of memory with bits of next operations, there some pieces
-//!   in a box. As many states as are wanted are taken back for a word's children, there at most three.
-//! - The width of lanes: by the opening makespan, the greatest load of a machine and the longest route; there by the
-//!   latest release, all times, and the greatest load of a machine with its tail.
-//! - Threads and their states last for the run, there for a round; short rounds have all workers, there fewer. The
-//!   calling thread searches too, there it waits. Who shares a word is counted plainly, there by atomic steps, which
-//!   shows in small pieces.
-//! - Open nodes by bound are in std's map of lists; there in a row of stacks if bounds are small, else in std's map.
-//!   The least bound of open nodes as kept is sought in all of them each round; there it is in a list of least bounds.
-//! - A walk of its own for 1, 2, 4, 7 and 8 blocks a machine in lanes of each width; there for 2, 3 and 4 in lanes of
-//!   16 bits.
+//! - Memory for states: half a megabyte in all, but at least two states; in the program 400 KB for waiting children,
+//!   and two states a walk. A state is one piece of memory with bits of next operations; in the program some pieces in
+//!   a box. For a word's children as many states are taken back as they want; in the program at most three.
+//! - The width of lanes: by the opening makespan, the greatest load of a machine and the longest route; in the program
+//!   by the latest release, all times, and the greatest load of a machine with its tail.
+//! - Threads and their states last for the run; in the program for a round, and short rounds have fewer workers. The
+//!   calling thread searches, too; in the program it waits. Plain counts say how many share a word; in the program
+//!   atomic ones, which shows in small pieces.
+//! - Open nodes by bound are in std's map of lists; in the program in a row of stacks if bounds are small, else in
+//!   std's map. By `--order kept` each round seeks the least bound among all open nodes; the program has a list of
+//!   least bounds.
+//! - There is a walk of its own for 1, 2, 4, 7 and 8 blocks a machine in lanes of each width; in the program for 2, 3
+//!   and 4 in lanes of 16 bits.
 
 #![feature(portable_simd)]
 

@@ -1,9 +1,9 @@
-//! Open nodes, which share the paths that they lie on.
+//! Open nodes, which share paths.
 
 use crate::lanes::Lane;
 use std::collections::BTreeMap;
 
-/// Stands for no job, where a node's word is only a beginning of its path.
+/// No job: the node's word is only a beginning of its path.
 pub const NO_JOB: u16 = u16::MAX;
 
 /// An open node: the first `length` jobs of a path and then one more.
@@ -16,14 +16,14 @@ pub struct Node<T> {
 }
 
 impl<T> Node<T> {
-    /// The jobs of its word: those that lie on its path, and then one more, if there is one.
+    /// The jobs of its word: those on its path, and then one more, if there is one.
     pub fn parts<'p>(&self, paths: &'p Paths) -> (&'p [u16], Option<u16>) {
         let last = (self.last != NO_JOB).then_some(self.last);
         (&paths.paths[self.path as usize][..self.length as usize], last)
     }
 }
 
-/// The paths of open nodes, and how many nodes lie on each.
+/// The paths of open nodes, and how many nodes share each.
 #[derive(Default)]
 pub struct Paths {
     paths: Vec<Box<[u16]>>,
@@ -32,7 +32,7 @@ pub struct Paths {
 }
 
 impl Paths {
-    /// A path on which no node lies yet.
+    /// Adds a path, which no node has yet.
     pub fn add(&mut self, path: Vec<u16>) -> u32 {
         let number = self.unused.pop().unwrap_or_else(|| {
             self.paths.push(Box::default());
@@ -108,7 +108,7 @@ impl<T: Lane> Open<T> {
         }
     }
 
-    /// Takes the first nodes, so many at most.
+    /// Takes the first nodes, at most `most`.
     pub fn take(&mut self, most: usize) -> Vec<Node<T>> {
         std::iter::from_fn(|| self.pop()).take(most).collect()
     }

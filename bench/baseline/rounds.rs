@@ -13,7 +13,7 @@ use std::{mem, thread};
 
 /// A round has at most this many pieces.
 const PIECES: usize = 256;
-/// Up to how many operations an instance has its machines ordered, and by the bounds of how many words.
+/// The most operations of an instance whose machines are ordered, and by the bounds of how many words.
 const MOST_ORDERED: usize = 400;
 const WORDS: usize = 4;
 
@@ -44,7 +44,7 @@ struct Run<T> {
     word: Vec<u16>,
     best: T,
     open: Open<T>,
-    /// How many nodes of each bound from the horizon on are open: no round that is left can take them.
+    /// How many open nodes have each bound from the horizon on: no remaining round can take them.
     distant: BTreeMap<T, usize>,
     horizon: Option<T>,
     /// How many nodes are opened before they are counted again.
@@ -76,8 +76,8 @@ impl<T: Lane> Run<T> {
         }
     }
 
-    /// Keeps the nodes of least bounds, up to the first bound with which they are `most` or more, and counts the others,
-    /// once a node was opened for each bound and every eighth node that were gone through before.
+    /// Keeps the nodes of least bounds, up to the first bound at which they are `most` or more, and only counts the
+    /// others. Then does nothing until as many nodes were opened as there are bounds, and an eighth of the nodes kept.
     fn retire(&mut self, most: usize, paths: &mut Paths) {
         let Open::ByBound(stacks) = &mut self.open else { return };
         if self.wait > 0 {
@@ -106,7 +106,7 @@ impl<T: Lane> Run<T> {
         }
     }
 
-    /// Some words of the next round, taken evenly.
+    /// At most `WORDS` words of the next round, at even distances.
     fn some_words(&mut self, plan: &Plan, paths: &Paths) -> Vec<Vec<u16>> {
         let front = self.open.take(PIECES * plan.piece);
         let words = front.iter().step_by(front.len() / WORDS + 1).map(|node| {
@@ -153,7 +153,7 @@ impl<T: Lane> Run<T> {
         self.retire(self.rounds_left as usize * PIECES * plan.piece + 1, paths);
     }
 
-    /// Opens what a sheet left, the last of it first, since the first is to stand before it.
+    /// Opens the nodes that a sheet left, the last one first, so that the first one is taken first.
     fn gather(&mut self, sheet: Sheet<T>, paths: &mut Paths) {
         let best = self.best;
         for node in sheet.untaken.iter().rev().filter(|node| node.bound < best) {
@@ -169,8 +169,8 @@ impl<T: Lane> Run<T> {
     }
 }
 
-/// A layout in which machines with the greatest bounds after these words come first, since they close most children. Of
-/// large instances they stand as they are.
+/// A layout in which machines with the greatest bounds after these words come first, since they close most children. In
+/// large instances machines keep their order.
 fn layout_for<T: Lane, const BLOCKS: usize>(instance: &Instance, words: &[Vec<u16>]) -> Layout<T, BLOCKS> {
     let as_they_are: Vec<usize> = (0..instance.machines).collect();
     let layout = Layout::new(instance, &as_they_are);
@@ -193,8 +193,8 @@ fn layout_for<T: Lane, const BLOCKS: usize>(instance: &Instance, words: &[Vec<u1
     Layout::new(instance, &ranks)
 }
 
-/// Searches rounds until no node is open or so many are done, with so many threads beside this one. Tells how many
-/// were.
+/// Searches rounds until no node is open or all rounds of the plan are done, with the threads of the crew beside this
+/// one. Returns how many rounds were done.
 fn search<T: Lane, const BLOCKS: usize>(
     run: &mut Run<T>,
     plan: &Plan,
@@ -223,9 +223,8 @@ fn search<T: Lane, const BLOCKS: usize>(
     done
 }
 
-/// The answer of a plan on an instance, with lanes that are wide enough for it, and so many blocks of them a machine.
-/// The first round has the empty word alone: where machines are ordered, those behind it have a layout for the words of
-/// the second.
+/// The answer of a plan on an instance, with lanes wide enough for it, and `BLOCKS` blocks of them a machine. The first
+/// round has only the empty word: if machines are ordered, later rounds have a layout for the words of the second.
 fn answer_in<T: Lane, const BLOCKS: usize>(instance: &Instance, plan: &Plan) -> Answer {
     let mut run = Run::new(instance, plan);
     let mut paths = Paths::default();
@@ -260,8 +259,8 @@ fn answer_by_length<T: Lane>(instance: &Instance, plan: &Plan) -> Answer {
     }
 }
 
-/// The answer of a plan on an instance, with the narrowest lanes that no number goes past. A head is always below the
-/// opening makespan, and to it are added times of one machine and one tail.
+/// The answer of a plan on an instance, with the narrowest lanes that hold all numbers. A head is always below the
+/// opening makespan, and at most the times of one machine and one tail are added to it.
 pub fn answer(instance: &Instance, plan: &Plan) -> Answer {
     let opening = instance.placed(&instance.opening_word()).1;
     let mut loads = vec![0; instance.machines];

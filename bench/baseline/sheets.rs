@@ -1,4 +1,4 @@
-//! What a search of a piece comes to.
+//! What a search of a piece returns.
 
 use crate::lanes::Lane;
 use crate::open::Node;
@@ -16,7 +16,7 @@ pub struct Sheet<T> {
     pub best: T,
     /// How many nodes were counted.
     pub taken: u64,
-    /// What the budget left of the last walk, and the path on which all of that lies.
+    /// What the budget left of the last walk, and the path that all of it shares.
     pub path: Vec<u16>,
     pub left: Vec<Leaving<T>>,
     /// The nodes of the piece that were never taken. They come after what is left.
