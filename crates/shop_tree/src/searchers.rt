@@ -1,55 +1,15 @@
 // The search of a piece, in lanes of the width of its layout.
 ghost use Rattle.std.specs.Prelude.{◌≡◌, ◌≤◌, ◌<◌, ◌^◌, IfOk, OnOk};
 ghost use Rattle.shop_nodes.specs.Nodes.{AreNodes};
-ghost use Rattle.shop_tree.specs.{Searches.Searches, inner.StateWalkers.HasStates};
+ghost use Rattle.shop_tree.specs.Searches.{Searches};
 
 use crate::walkers::Walker;
-use shop_lanes::{Lanes16, Lanes32, Lanes64, StateLanes};
-use shop_layout::{LaneLayout, Layout, LayoutFor};
+use shop_lanes::{Lanes16, Lanes32, Lanes64};
+use shop_layout::{LaneLayout, Layout};
 use shop_model::Instance;
 use shop_nodes::{Piece, Sheet};
 use std::alloc::{AllocError as NoMemory, Global};
 use std::marker::Model;
-
-// `LaneWalker` calls these for each of its lanes, and not the walk's own functions: so what a walk needs of its states,
-// letting go of them included, is proved once for any lanes, not once for each.
-
-/// Makes a walk like `Walker::new`.
-#[inline(always)]
-fn walker_in<'l, 'a, L: StateLanes>(
-    alloc: Global,
-    instance: &'a Instance,
-    layout: LayoutFor<'l, 'a, L>,
-    most: usize,
-) -> Result<Walker<'l, 'a, L>, NoMemory>
-    requires { layout.asked ≡ instance.now }
-    ensures instance { IfOk result (λ w. w.instance.now ≡ instance.now) }
-    ensures states { IfOk result HasStates }
-{
-    Walker::new(alloc, instance, layout.laid_out(), most)
-}
-
-/// Searches `piece` like `Walker::search`.
-#[inline(always)]
-fn search_in<'l, 'a, L: StateLanes>(
-    walker: &mut Walker<'l, 'a, L>,
-    alloc: Global,
-    piece: &'a Piece,
-    best: u64,
-    budget: u64,
-) -> Result<Sheet<'a>, NoMemory>
-    requires nodes { AreNodes walker.old.instance.now piece.now.nodes.items }
-    requires small { budget < 2 ^ 50 }
-    requires states { HasStates walker.old }
-    ensures sheet { IfOk result (Searches walker.old.instance.now piece.now best budget) }
-    ensures instance { OnOk result (walker.new.instance.now ≡ walker.old.instance.now) }
-    ensures states { OnOk result (HasStates walker.new) }
-{
-    walker.search(alloc, piece, best, budget)
-}
-
-/// Lets go of a walk.
-fn let_go<L: StateLanes>(_walker: Walker<'_, '_, L>) {}
 
 /// A walk in lanes of 16, 32 or 64 bits; in those of 16 bits for two, three, four or any number of blocks a machine.
 enum LaneWalker<'l, 'a> {
@@ -61,15 +21,16 @@ enum LaneWalker<'l, 'a> {
     In64(Walker<'l, 'a, Lanes64>),
 }
 
+// Not derived: a derived `Drop` would be compiled anew into each function that has a walk.
 impl Drop for LaneWalker<'_, '_> {
     fn drop(self) {
         match self {
-            LaneWalker::In16By2(walker) => let_go(walker),
-            LaneWalker::In16By3(walker) => let_go(walker),
-            LaneWalker::In16By4(walker) => let_go(walker),
-            LaneWalker::In16(walker) => let_go(walker),
-            LaneWalker::In32(walker) => let_go(walker),
-            LaneWalker::In64(walker) => let_go(walker),
+            LaneWalker::In16By2(_)
+            | LaneWalker::In16By3(_)
+            | LaneWalker::In16By4(_)
+            | LaneWalker::In16(_)
+            | LaneWalker::In32(_)
+            | LaneWalker::In64(_) => {}
         }
     }
 }
@@ -89,12 +50,12 @@ impl<'l, 'a> LaneWalker<'l, 'a> {
         ensures { IfOk result (IsWalkOf instance.now) }
     {
         Ok(match layout.lanes() {
-            LaneLayout::In16By2(layout) => Self::In16By2(walker_in(alloc, instance, layout, most)?),
-            LaneLayout::In16By3(layout) => Self::In16By3(walker_in(alloc, instance, layout, most)?),
-            LaneLayout::In16By4(layout) => Self::In16By4(walker_in(alloc, instance, layout, most)?),
-            LaneLayout::In16(layout) => Self::In16(walker_in(alloc, instance, layout, most)?),
-            LaneLayout::In32(layout) => Self::In32(walker_in(alloc, instance, layout, most)?),
-            LaneLayout::In64(layout) => Self::In64(walker_in(alloc, instance, layout, most)?),
+            LaneLayout::In16By2(layout) => Self::In16By2(Walker::new(alloc, instance, layout, most)?),
+            LaneLayout::In16By3(layout) => Self::In16By3(Walker::new(alloc, instance, layout, most)?),
+            LaneLayout::In16By4(layout) => Self::In16By4(Walker::new(alloc, instance, layout, most)?),
+            LaneLayout::In16(layout) => Self::In16(Walker::new(alloc, instance, layout, most)?),
+            LaneLayout::In32(layout) => Self::In32(Walker::new(alloc, instance, layout, most)?),
+            LaneLayout::In64(layout) => Self::In64(Walker::new(alloc, instance, layout, most)?),
         })
     }
 
@@ -114,12 +75,12 @@ impl<'l, 'a> LaneWalker<'l, 'a> {
         ensures walk { OnOk result (IsWalkOf (shop_walked self.old) self.new) }
     {
         match self {
-            LaneWalker::In16By2(walker) => search_in(walker, alloc, piece, best, budget),
-            LaneWalker::In16By3(walker) => search_in(walker, alloc, piece, best, budget),
-            LaneWalker::In16By4(walker) => search_in(walker, alloc, piece, best, budget),
-            LaneWalker::In16(walker) => search_in(walker, alloc, piece, best, budget),
-            LaneWalker::In32(walker) => search_in(walker, alloc, piece, best, budget),
-            LaneWalker::In64(walker) => search_in(walker, alloc, piece, best, budget),
+            LaneWalker::In16By2(walker) => walker.search(alloc, piece, best, budget),
+            LaneWalker::In16By3(walker) => walker.search(alloc, piece, best, budget),
+            LaneWalker::In16By4(walker) => walker.search(alloc, piece, best, budget),
+            LaneWalker::In16(walker) => walker.search(alloc, piece, best, budget),
+            LaneWalker::In32(walker) => walker.search(alloc, piece, best, budget),
+            LaneWalker::In64(walker) => walker.search(alloc, piece, best, budget),
         }
     }
 }

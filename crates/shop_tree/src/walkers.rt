@@ -9,7 +9,7 @@ use crate::held::{Held, copy_waiting};
 use crate::walk_states::WalkStates;
 use shop_model::{Instance, Word};
 use shop_lanes::StateLanes;
-use shop_layout::LaidOut;
+use shop_layout::LayoutFor;
 use shop_nodes::{Halt, Left, Node, Open, Piece, Sheet, Waiting};
 use shop_states::{Candidate, State};
 use std::alloc::{AllocError as NoMemory, Global};
@@ -23,7 +23,6 @@ const TOGETHER: usize = 36;
 
 /// A walk: the word found last, the best makespan, and how many more nodes it may take (`budget`); its states, path to
 /// the current word, stack of waiting children, and room for candidates.
-#[derive(Drop)]
 pub(crate) struct Walker<'l, 'a, L: StateLanes> {
     pub(crate) instance: &'a Instance,
     pub(crate) operations: usize,
@@ -45,23 +44,42 @@ pub(crate) struct Walker<'l, 'a, L: StateLanes> {
     pub ghost path_room: { operation_count instance.now ≤ vec_capacity path },
 }
 
+// Not derived: a derived `Drop` would be proved anew for each width of lanes.
+impl<L: StateLanes> Drop for Walker<'_, '_, L> {
+    fn drop(self) {
+        let Walker {
+            instance: _,
+            operations: _,
+            together: _,
+            found: _,
+            best: _,
+            budget: _,
+            states: _,
+            path: _,
+            stack: _,
+            candidates: _,
+            stripped: _,
+        } = self;
+    }
+}
+
 impl<'l, 'a, L: StateLanes> Walker<'l, 'a, L> {
     ghost use Rattle.shop_nodes.specs.declared.halts.Waiting.TheVariants.{Rest};
     ghost use Rattle.shop_nodes.specs.Halts.{open_child, halted_words, AreHalted, stack_words, word_at};
     ghost use Rattle.shop_tree.specs.inner.{Walkers.IsTurn, StateWalkers.{stage_of, HasStates}, Held.IsHeldOf};
     ghost use Rattle.shop_tree.specs.inner.Walkers.{on_top, stack_walk, node_walk, IsInOrder, HasWalked, HasWalkedUpTo};
 
-    /// Makes a walk for pieces of the instance, laid out, with at most `most` states for waiting children. Fails
+    /// Makes a walk for pieces of `instance`, over its layout, with at most `most` states for waiting children. Fails
     /// with `NoMemory` if memory runs out.
     // out of line: a caller with one inlined body for each of six kinds of lanes would take six times the stack memory
     #[inline(never)]
     pub(crate) fn new(
         alloc: Global,
         instance: &'a Instance,
-        laid_out: LaidOut<'l, 'a, L>,
+        layout: LayoutFor<'l, 'a, L>,
         most: usize,
     ) -> Result<Walker<'l, 'a, L>, NoMemory>
-        requires shop { laid_out.asked ≡ instance.now }
+        requires shop { layout.asked ≡ instance.now }
         ensures instance { IfOk result (λ w. w.instance.now ≡ instance.now) }
         ensures states { IfOk result HasStates }
     {
@@ -73,7 +91,7 @@ impl<'l, 'a, L: StateLanes> Walker<'l, 'a, L> {
             found: None,
             best: 0,
             budget: 0,
-            states: WalkStates::new(alloc, laid_out, most)?,
+            states: WalkStates::new(alloc, layout.laid_out(), most)?,
             path: Vec::with_capacity(alloc, instance.operations())?,
             stack: Vec::new(alloc),
             candidates: Vec::with_capacity(alloc, instance.jobs())?,
