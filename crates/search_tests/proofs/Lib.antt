@@ -1,1 +1,1 @@
-pub mod KnownChildren
+pub mod TwoDispatches

@@ -3,7 +3,7 @@
 ghost use Rattle.std.specs.Prelude.{◌≡◌, ℕ, ◌++◌, ◌∷◌, [], All, IfSome, List, OnSome};
 ghost use Rattle.shop_model.specs.Word.{IsWord};
 ghost use Rattle.shop_bound.specs.{Bound.lb, Conflicts.conflict};
-ghost use Rattle.shop_states.specs.States.{ListsBelow, TellsBoundBelow};
+ghost use Rattle.shop_states.specs.States.{CanDispatch, HasDispatched, ListsBelow, TellsBoundBelow};
 ghost use Rattle.shop_states.specs.inner.WordStates.{IsCandidate, IsSlot, IsStateOf, IsStateWith, KnowsChild};
 
 use crate::in_lanes::{Tried, assert_in_lanes};
@@ -55,6 +55,34 @@ struct Trial {
     together: Option<u64>,
 }
 
+/// Dispatches a candidate in a copy of the state by one call: that after `bound_children`, if children were bounded
+/// together.
+fn dispatch_at_once<L: StateLanes>(
+    dispatcher: &mut Dispatcher<'_, '_, L>,
+    state: &State<L>,
+    direct: &mut State<L>,
+    trial: Trial,
+) -> Option<u64>
+    requires direct { IsSlot L.StateLanes dispatcher.old.laid_out direct.old }
+    requires can { CanDispatch dispatcher.old.laid_out.asked
+        (λ w. IsStateWith L.StateLanes dispatcher.old.laid_out trial.candidate state.now w
+        × IfSome trial.together
+        (λ top. KnowsChild dispatcher.old.laid_out dispatcher.old.ceilings w trial.candidate.job))
+        trial.candidate.job trial.bound }
+    ensures dispatched { HasDispatched dispatcher.old.laid_out.asked
+        (IsStateWith L.StateLanes dispatcher.old.laid_out trial.candidate state.now)
+        (λ w. IsStateOf L.StateLanes dispatcher.old.laid_out w direct.new)
+        trial.candidate.job trial.bound trial.limit result }
+    ensures direct { IsSlot L.StateLanes dispatcher.old.laid_out direct.new }
+    ensures dispatcher { dispatcher.new ≡ dispatcher.old }
+{
+    let (candidate, bound, limit) = (trial.candidate, trial.bound, trial.limit);
+    match trial.together {
+        Some(_) => dispatcher.dispatch_in_copy::<true>(state, direct, candidate, bound, limit),
+        None => dispatcher.dispatch_in_copy::<false>(state, direct, candidate, bound, limit),
+    }
+}
+
 /// Dispatches a candidate of the word `path`, whose state `rooms` has, in a copy of this state by two calls, and in
 /// another copy by one, and asserts that both tell the same bound. Dispatches it in a third copy without a bound.
 fn dispatch_twice<L: StateLanes>(
@@ -92,10 +120,7 @@ fn dispatch_twice<L: StateLanes>(
     dispatcher.fill(path, &mut rooms.copied);
     let told = dispatcher.dispatch_below(&mut rooms.copied, candidate, bound, limit);
     let (state, direct) = (&rooms.state, &mut rooms.direct);
-    let again = match trial.together {
-        Some(_) => dispatcher.dispatch_in_copy::<true>(state, direct, candidate, bound, limit),
-        None => dispatcher.dispatch_in_copy::<false>(state, direct, candidate, bound, limit),
-    };
+    let again = dispatch_at_once(dispatcher, state, direct, trial);
     assert_eq!(rt; told, again);
     again
 }

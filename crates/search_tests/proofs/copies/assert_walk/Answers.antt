@@ -1,13 +1,10 @@
-use Rattle.std.specs.List.{All}
-use Rattle.std.proofs.Common.{◌≡◌, ℕ, ◌<◌, ◌%◌, ◌++◌, ◌∷◌, [], List, arith, get_or, length, sym, subst, ◌∙◌}
-use Rattle.shop_model.specs.Shop.{Shop}
-use Rattle.shop_model.specs.Word.{IsWord}
+use Rattle.std.specs.{List.All, Prelude.{Option, Some, None, IfSome}}
+use Rattle.std.proofs.Common.{◌≡◌, ℕ, ◌<◌, ◌%◌, ◌++◌, ◌∷◌, [], List, ap, arith, get_or, length, sym, subst, ◌∙◌}
+use Rattle.shop_model.specs.{Shop.Shop, Word.IsWord}
 use Rattle.shop_bound.specs.Conflicts.{conflict}
-use Rattle.shop_states.specs.States.{ListsBelow}
-use Rattle.shop_states.specs.declared.states.Candidate.{Candidate}
-use Rattle.shop_states.proofs.Candidates.{candidate_fits}
+use Rattle.shop_states.specs.{States.ListsBelow, declared.states.Candidate.Candidate, inner.WordStates.KnowsChild}
+use Rattle.shop_states.proofs.{AskedStates.word_of, Candidates.candidate_fits, KeptRoom.slot_of}
 use Rattle.shop_states.proofs.ListedCandidates.{listed_at}
-use Rattle.search_tests.proofs.KnownChildren.{still_known}
 use Rattle.search_tests.proofs.copies.assert_walk.Goals as goal
 
 picked : {shop : Shop} {w : List ℕ} {limit : ℕ} {is : Candidate → Type 0} {cs : List Candidate} {n : ℕ}
@@ -20,106 +17,85 @@ picked {shop} {w} {limit} {is} word lists i c here e =
       subst is (sym e) at.1,
     )
 
-pub bound_together-together-requires-clause-can : goal.bound_together-together-requires-clause-can
-bound_together-together-requires-clause-can g c =
-    let was = c.loop.invariant.state in let w = was.word in let state = was.is.0
-    in record {
-      word = w;
-      is_word = state;
-      limit = 18446744073709551615;
-      others = c.list_candidates.result;
-      listed = rw c.deref.ensures.value (c.list_candidates.ensures.listed w state);
-      bound_is = was.is.1;
-    }
+known_at : (P : Candidate → Type 0) (xs : List Candidate) (o : Option ℕ) (i : ℕ) (c : Candidate) → i < length xs
+    → c ≡ get_or xs i c → IfSome o (λ top. All P xs) → IfSome o (λ top. P c)
+known_at P xs (Some top) i c here is all = subst P (sym is) (all i c here)
+known_at P xs None i c here is all = tt
 
-pub dispatch_twice-told-requires-clause-can : goal.dispatch_twice-told-requires-clause-can
-dispatch_twice-told-requires-clause-can g c =
-    let d = c.args.dispatcher.now in let was = c.loop.invariant.state in let w = was.word in let state = was.is.0
-    in let word = g.met.D.Dispatching.state_is_of_word d w _ state in let long = c.list_candidates.new.candidates.ok.0
-    in let some = c.if-count-eq0.false in let count = c.len-count.ensures
-    in let its = picked word (c.list_candidates.ensures.listed w state) (c.up_to.result % c.len-count.result)
-    c.index-candidate.result.now (omega arith) c.index-candidate.ensures
-    in let still = subst (g.D.Dispatching.IsStateOf d w) (sym c.bound_together-together.ensures.state) state
-    in let is_known = λ (x : Candidate). g.D.Dispatching.KnowsChild d c.bound_together-together.new.scratch w x.job
-    in record {
-      word = w;
-      is = (
-        still,
-        its.1,
-        still_known c.bound_together-together.result (λ top known. subst is_known (sym c.index-candidate.ensures)
-            (subst (All is_known) c.deref.ensures.value
-            (known w 18446744073709551615 c.list_candidates.result state was.is.1
-            (rw c.deref.ensures.value (c.list_candidates.ensures.listed w state)))
-            (c.up_to.result % c.len-count.result) c.index-candidate.result.now (omega arith)))
-            c.bound_together-together.ensures.known,
-      );
-      fits = its.0;
-      bound_is = was.is.1;
-    }
+pub bound_together-together-requires-clause-listed : goal.bound_together-together-requires-clause-listed
+bound_together-together-requires-clause-listed g c = (
+  c.list_candidates.result,
+  rw (ap (λ d. d.laid_out) c.list_candidates.ensures.same, c.as_slice.ensures.value, c.deref.ensures.value)
+      (c.list_candidates.ensures.listed c.loop.path.items c.loop.invariant.state),
+)
 
-pub list_candidates-requires-in-loop-clause-state : goal.list_candidates-requires-in-loop-clause-state
-list_candidates-requires-in-loop-clause-state g c =
-    let d = c.args.dispatcher.now in let was = c.loop.invariant.state in let w = was.word in let state = was.is.0
-    in let word = g.met.D.Dispatching.state_is_of_word d w _ state in let long = c.list_candidates.new.candidates.ok.0
-    in let some = c.if-count-eq0.false in let count = c.len-count.ensures
-    in let its = picked word (c.list_candidates.ensures.listed w state) (c.up_to.result % c.len-count.result)
+pub dispatch_twice-told-requires-clause-state : goal.dispatch_twice-told-requires-clause-state
+dispatch_twice-told-requires-clause-state g c =
+    let same = c.bound_together-together.ensures.laid_out ∙ ap (λ d. d.laid_out) c.list_candidates.ensures.same
+    in let state = c.loop.invariant.state in let w = c.loop.path.items
+    in let some = c.if-count-eq0.false in let count = c.len-count.ensures in let long = c.list_candidates.new.candidates.ok.0
+    in let its = picked (word_of state) (c.list_candidates.ensures.listed w state) (c.up_to.result % c.len-count.result)
     c.index-candidate.result.now (omega arith) c.index-candidate.ensures
-    in let still = subst (g.D.Dispatching.IsStateOf d w) (sym c.bound_together-together.ensures.state) state
-    in record {
-      word = w ++ c.index-candidate.result.now.job ∷ [];
-      is = c.in-Some.ensures.state w still its.1;
-    }
+    in (
+      rw (same, c.as_slice-in-loop.ensures.value, c.bound_together-together.ensures.state) state,
+      rw (same, c.as_slice-in-loop.ensures.value) its.1,
+    )
 
-pub list_candidates-requires-in-loop-2-clause-state : goal.list_candidates-requires-in-loop-2-clause-state
-list_candidates-requires-in-loop-2-clause-state g c =
-    let d = c.args.dispatcher.now in let was = c.loop.invariant.state in let w = was.word in let state = was.is.0
-    in let word = g.met.D.Dispatching.state_is_of_word d w _ state in let long = c.list_candidates.new.candidates.ok.0
-    in let some = c.if-count-eq0.false in let count = c.len-count.ensures
-    in let its = picked word (c.list_candidates.ensures.listed w state) (c.up_to.result % c.len-count.result)
-    c.index-candidate.result.now (omega arith) c.index-candidate.ensures
-    in let still = subst (g.D.Dispatching.IsStateOf d w) (sym c.bound_together-together.ensures.state) state
-    in record {
-      word = w ++ c.index-candidate.result.now.job ∷ [];
-      is = c.in-Some.ensures.same w still its.1;
-    }
+pub dispatch_twice-told-requires-clause-known : goal.dispatch_twice-told-requires-clause-known
+dispatch_twice-told-requires-clause-known g c =
+    let some = c.if-count-eq0.false in let count = c.len-count.ensures in let long = c.list_candidates.new.candidates.ok.0
+    in rw (c.bound_together-together.ensures.laid_out, c.as_slice-in-loop.ensures.value)
+    (known_at (λ x. KnowsChild c.list_candidates.new.self.laid_out c.bound_together-together.new.dispatcher.ceilings
+    c.loop.path.items x.job) c.list_candidates.new.candidates.items c.bound_together-together.result
+    (c.up_to.result % c.len-count.result) c.index-candidate.result.now (omega arith) c.index-candidate.ensures
+    (rw (c.as_slice.ensures.value, c.deref.ensures.value) at c.bound_together-together.ensures.known))
 
-pub list_candidates-requires-in-loop-3-clause-state : goal.list_candidates-requires-in-loop-3-clause-state
-list_candidates-requires-in-loop-3-clause-state g c =
-    let d = c.args.dispatcher.now in let was = c.loop.invariant.state in let w = was.word in let state = was.is.0
-    in let word = g.met.D.Dispatching.state_is_of_word d w _ state in let long = c.list_candidates.new.candidates.ok.0
-    in let some = c.if-count-eq0.false in let count = c.len-count.ensures
-    in let its = picked word (c.list_candidates.ensures.listed w state) (c.up_to.result % c.len-count.result)
+pub dispatch_twice-told-requires-clause-fits : goal.dispatch_twice-told-requires-clause-fits
+dispatch_twice-told-requires-clause-fits g c =
+    let same = c.bound_together-together.ensures.laid_out ∙ ap (λ d. d.laid_out) c.list_candidates.ensures.same
+    in let state = c.loop.invariant.state in let w = c.loop.path.items
+    in let some = c.if-count-eq0.false in let count = c.len-count.ensures in let long = c.list_candidates.new.candidates.ok.0
+    in let its = picked (word_of state) (c.list_candidates.ensures.listed w state) (c.up_to.result % c.len-count.result)
     c.index-candidate.result.now (omega arith) c.index-candidate.ensures
-    in let still = subst (g.D.Dispatching.IsStateOf d w) (sym c.bound_together-together.ensures.state) state
+    in rw (same, c.as_slice-in-loop.ensures.value) its.0
+
+pub loop-preserved-in_default : goal.loop-preserved-in_default
+loop-preserved-in_default g c =
+    let listed = ap (λ d. d.laid_out) c.list_candidates.ensures.same
+    in let together = c.bound_together-together.ensures.laid_out ∙ listed
+    in let same = ap (λ d. d.laid_out) c.dispatch_twice-told.ensures.dispatcher
+    in let all = same ∙ together in let was = c.loop.invariant
     in record {
-      word = w ++ c.index-candidate.result.now.job ∷ [];
-      is = c.in-Some.ensures.alike w still its.1;
+      state = rw (all, c.dispatch_twice-told.ensures.first ∙ c.bound_together-together.ensures.state) was.state;
+      bound = rw all was.bound;
+      copied = rw same c.dispatch_twice-told.ensures.copied;
+      direct = rw same c.dispatch_twice-told.ensures.direct;
+      settled = rw same (slot_of c.dispatch_twice-told.ensures.alike);
+      room = rw all (let a = was.room in let b = c.list_candidates.ensures.room in omega arith);
+      others = rw all was.others;
     }
 
 pub loop-preserved : goal.loop-preserved
 loop-preserved g c =
-    let d = c.args.dispatcher.now in let was = c.loop.invariant.state in let w = was.word in let state = was.is.0
-    in let word = g.met.D.Dispatching.state_is_of_word d w _ state in let long = c.list_candidates.new.candidates.ok.0
-    in let some = c.if-count-eq0.false in let count = c.len-count.ensures
-    in let its = picked word (c.list_candidates.ensures.listed w state) (c.up_to.result % c.len-count.result)
-    c.index-candidate.result.now (omega arith) c.index-candidate.ensures
-    in let still = subst (g.D.Dispatching.IsStateOf d w) (sym c.bound_together-together.ensures.state) state
-    in let more = w ++ c.index-candidate.result.now.job ∷ []
+    let listed = ap (λ d. d.laid_out) c.list_candidates.ensures.same
+    in let together = c.bound_together-together.ensures.laid_out ∙ listed
+    in let twice = ap (λ d. d.laid_out) c.dispatch_twice-told.ensures.dispatcher
+    in let first = ap (λ d. d.laid_out) c.list_candidates-in-loop.ensures.same
+    in let second = ap (λ d. d.laid_out) c.list_candidates-in-loop-2.ensures.same
+    in let third = ap (λ d. d.laid_out) c.list_candidates-in-loop-3.ensures.same
+    in let lists = third ∙ (second ∙ first) in let before = lists ∙ twice in let all = before ∙ together
+    in let was = c.loop.invariant
+    in let pushed : c.push.new.self.items ≡ c.loop.path.items ++ c.index-candidate.result.now.job ∷ [] = grind arith
     in record {
-      state = record {
-        word = more;
-        is = (
-          subst (g.D.Dispatching.IsStateOf d more) (sym c.swap.ensures.x_after) (c.in-Some.ensures.same w still its.1),
-          (c.in-Some.ensures.told w still its.1 was.is.1).0,
-        );
-      };
-      copied = c.dispatch_twice-told.ensures.copied;
-      direct = subst (g.D.Dispatching.IsSlot d) (sym (c.swap.ensures.y_after ∙ c.dispatch_twice-told.ensures.first))
-          (g.met.D.Dispatching.state_is_slot d w _ still);
-      settled = c.dispatch_twice-told.ensures.settled;
-      scratch = c.list_candidates-in-loop-3.ensures.scratch;
-      room = (let a = c.loop.invariant.room in let b = c.list_candidates.ensures.room
+      state = rw (before, pushed, c.swap.ensures.x_after)
+          (rw c.as_slice-in-loop.ensures.value at c.in-Some.ensures.same);
+      bound = rw (before, pushed) (rw c.as_slice-in-loop.ensures.value at c.in-Some.ensures.told.0);
+      copied = rw before c.dispatch_twice-told.ensures.copied;
+      direct = rw (before, c.swap.ensures.y_after, c.dispatch_twice-told.ensures.first
+          ∙ c.bound_together-together.ensures.state, together) (slot_of was.state);
+      settled = rw before (slot_of c.dispatch_twice-told.ensures.alike);
+      room = rw all (let a = was.room in let b = c.list_candidates.ensures.room
           in let e = c.list_candidates-in-loop.ensures.room in omega arith);
-      others = (let a = c.loop.invariant.others in let b = c.list_candidates-in-loop-2.ensures.room
+      others = rw all (let a = was.others in let b = c.list_candidates-in-loop-2.ensures.room
           in let e = c.list_candidates-in-loop-3.ensures.room in omega arith);
     }

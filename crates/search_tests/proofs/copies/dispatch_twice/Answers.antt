@@ -1,32 +1,58 @@
-use Rattle.search_tests.proofs.KnownChildren.{still_known}
+use Rattle.std.proofs.Common.{◌∙◌, refl}
+use Rattle.shop_states.specs.inner.WordStates.{IsStateWith}
+use Rattle.search_tests.proofs.TwoDispatches.{told_both}
 use Rattle.search_tests.proofs.copies.dispatch_twice.Goals as goal
 
-pub dispatch_settled-requires : goal.dispatch_settled-requires
-dispatch_settled-requires g c =
-    let can = c.requires.can
-    in record { word = can.word; is = (c.copy.ensures.state can.word can.is.0, can.is.1) }
+pub returns-clause-told : goal.returns-clause-told
+returns-clause-told g c =
+    let same = c.dispatch_below-told.ensures.same ∙ (c.fill-2.ensures.same ∙ c.fill.ensures.same)
+    in let once = rw same at c.dispatch_at_once-again.ensures.dispatched
+    in once.bounded c.args.path.now c.requires.state c.requires.bound
 
-pub dispatch_below-told-requires-clause-can : goal.dispatch_below-told-requires-clause-can
-dispatch_below-told-requires-clause-can g c =
-    let can = c.requires.can
-    in record {
-      word = can.word;
-      is = (c.copy-2.ensures.state can.word can.is.0, can.is.1);
-      fits = can.fits;
-      bound_is = can.bound_is;
-    }
+pub returns-clause-same : goal.returns-clause-same
+returns-clause-same g c =
+    let same = c.dispatch_below-told.ensures.same ∙ (c.fill-2.ensures.same ∙ c.fill.ensures.same)
+    in let once = rw same at c.dispatch_at_once-again.ensures.dispatched
+    in once.state c.args.path.now c.requires.state
 
-pub dispatch_in_copy-again-requires-clause-can : goal.dispatch_in_copy-again-requires-clause-can
-dispatch_in_copy-again-requires-clause-can g c =
-    let can = c.requires.can in let job = c.args.trial.candidate.job
-    in record {
-      word = can.word;
-      is = (
-        can.is.0,
-        can.is.1,
-        still_known c.args.trial.together
-            (λ top known. c.dispatch_below-told.ensures.kept can.word job known) can.is.2,
-      );
-      fits = can.fits;
-      bound_is = can.bound_is;
-    }
+pub returns-clause-state : goal.returns-clause-state
+returns-clause-state g c =
+    let twice = c.fill-2.ensures.same ∙ c.fill.ensures.same
+    in let below = rw twice at c.dispatch_below-told.ensures.dispatched
+    in let once = rw (c.dispatch_below-told.ensures.same ∙ twice) at c.dispatch_at_once-again.ensures.dispatched
+    in let filled = rw c.fill.ensures.same at c.fill-2.ensures.state
+    in let with : IsStateWith g.L.StateLanes c.args.dispatcher.now.laid_out c.args.trial.candidate
+    c.fill-2.new.state c.args.path.now = (filled, c.requires.state.1)
+    in told_both _ _ _ c.dispatch_below-told.result c.dispatch_at_once-again.result
+    (below.bounded c.args.path.now with c.requires.bound)
+    (once.bounded c.args.path.now c.requires.state c.requires.bound) (below.state c.args.path.now with)
+
+pub returns-clause-alike : goal.returns-clause-alike
+returns-clause-alike g c =
+    let told = rw c.fill.ensures.same at c.dispatch_settled.ensures.state
+    in told c.args.path.now (c.fill.ensures.state, c.requires.state.1)
+
+pub returns-clause-copied : goal.returns-clause-copied
+returns-clause-copied g c =
+    rw (c.fill-2.ensures.same ∙ c.fill.ensures.same) at c.dispatch_below-told.ensures.slot
+
+pub returns-clause-direct : goal.returns-clause-direct
+returns-clause-direct g c =
+    rw (c.dispatch_below-told.ensures.same ∙ (c.fill-2.ensures.same ∙ c.fill.ensures.same))
+    at c.dispatch_at_once-again.ensures.direct
+
+pub returns-clause-first : goal.returns-clause-first
+returns-clause-first g c = refl
+
+pub returns-clause-dispatcher : goal.returns-clause-dispatcher
+returns-clause-dispatcher g c = c.dispatch_at_once-again.ensures.dispatcher
+    ∙ (c.dispatch_below-told.ensures.same ∙ (c.fill-2.ensures.same ∙ c.fill.ensures.same))
+
+pub dispatch_at_once-again-requires-clause-can : goal.dispatch_at_once-again-requires-clause-can
+dispatch_at_once-again-requires-clause-can g c =
+    rw (c.dispatch_below-told.ensures.same ∙ (c.fill-2.ensures.same ∙ c.fill.ensures.same)) (record {
+      word = c.args.path.now;
+      is = (c.requires.state, c.requires.known);
+      fits = c.requires.fits;
+      bound_is = c.requires.bound;
+    })
