@@ -1,7 +1,8 @@
 // `LaneRows`: the heads, times and tails of operations by position. `HeadRange`: a range of heads.
 ghost use Rattle.std.specs.Prelude.{◌≡◌, ◌*◌, ◌≤◌, length};
 
-/// The head, the time and the tail of the operation at each position, in numbers of one width.
+/// The head, the time and the tail of the operation at each position, in numbers of one width. The rows are known to be
+/// equally long, so that a pass over them tests no index.
 #[derive(Drop)]
 pub struct LaneRows<'a, N> {
     pub heads: &'a [N],

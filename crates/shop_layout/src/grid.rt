@@ -10,7 +10,7 @@ use crate::positions::Positions;
 use shop_lanes::{LaneRows, StateLanes};
 use std::marker::Model;
 
-/// The layout of an instance, with times and tails in lanes. Contracts see the layout without lanes.
+/// The layout of an instance, with times and tails in lanes of the width of `L`. Contracts see the layout without lanes.
 #[derive(Drop)]
 pub struct Grid<'l, L: StateLanes> {
     positions: &'l Positions,

@@ -50,9 +50,15 @@ impl<'l, 'a> LaneWalker<'l, 'a> {
         ensures { IfOk result (IsWalkOf instance.now) }
     {
         Ok(match layout.lanes() {
-            LaneLayout::In16By2(layout) => Self::In16By2(Walker::new(alloc, instance, layout, most)?),
-            LaneLayout::In16By3(layout) => Self::In16By3(Walker::new(alloc, instance, layout, most)?),
-            LaneLayout::In16By4(layout) => Self::In16By4(Walker::new(alloc, instance, layout, most)?),
+            LaneLayout::In16By2(layout) => Self::In16By2(Walker::new(
+                alloc, instance, layout, most,
+            )?),
+            LaneLayout::In16By3(layout) => Self::In16By3(Walker::new(
+                alloc, instance, layout, most,
+            )?),
+            LaneLayout::In16By4(layout) => Self::In16By4(Walker::new(
+                alloc, instance, layout, most,
+            )?),
             LaneLayout::In16(layout) => Self::In16(Walker::new(alloc, instance, layout, most)?),
             LaneLayout::In32(layout) => Self::In32(Walker::new(alloc, instance, layout, most)?),
             LaneLayout::In64(layout) => Self::In64(Walker::new(alloc, instance, layout, most)?),

@@ -140,7 +140,11 @@ impl<'l, 'a, L: StateLanes> WalkStates<'l, 'a, L> {
 
     /// Makes `state` the current state, and keeps the former one as a spare. If `state` is `None`, fills the current
     /// state from `word`. Fails with `NoMemory` if memory runs out.
-    pub(crate) fn go_on_in(&mut self, state: Option<Box<State<L>>>, word: &[u16]) -> Result<(), NoMemory>
+    pub(crate) fn go_on_in(
+        &mut self,
+        state: Option<Box<State<L>>>,
+        word: &[u16],
+    ) -> Result<(), NoMemory>
         requires sound { HoldSlots L.StateLanes self.old }
         requires word { IsWord self.old.dispatcher.laid_out.asked word.now }
         requires state { IsHeldOf (IsStateOf L.StateLanes self.old.dispatcher.laid_out) word.now state }

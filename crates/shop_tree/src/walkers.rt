@@ -7,9 +7,9 @@ ghost use Rattle.shop_tree.specs.{Searches.Searches, inner.Slots.HoldSlots};
 
 use crate::held::{Held, copy_waiting};
 use crate::walk_states::WalkStates;
-use shop_model::{Instance, Word};
 use shop_lanes::StateLanes;
 use shop_layout::LayoutFor;
+use shop_model::{Instance, Word};
 use shop_nodes::{Halt, Left, Node, Open, Piece, Sheet, Waiting};
 use shop_states::{Candidate, State};
 use std::alloc::{AllocError as NoMemory, Global};

@@ -91,8 +91,13 @@ loop-preserved g c =
           (rw c.as_slice-in-loop.ensures.value at c.in-Some.ensures.same);
       bound = rw (before, pushed) (rw c.as_slice-in-loop.ensures.value at c.in-Some.ensures.told.0);
       copied = rw before c.dispatch_twice-told.ensures.copied;
-      direct = rw (before, c.swap.ensures.y_after, c.dispatch_twice-told.ensures.first
-          ∙ c.bound_together-together.ensures.state, together) (slot_of was.state);
+      direct = rw (
+        before,
+        c.swap.ensures.y_after,
+        c.dispatch_twice-told.ensures.first
+            ∙ c.bound_together-together.ensures.state,
+        together,
+      ) (slot_of was.state);
       settled = rw before (slot_of c.dispatch_twice-told.ensures.alike);
       room = rw all (let a = was.room in let b = c.list_candidates.ensures.room
           in let e = c.list_candidates-in-loop.ensures.room in omega arith);
