@@ -1,5 +1,5 @@
 -- Two dispatches of one candidate.
-use Rattle.std.proofs.Common.{◌≡◌, ℕ, arith}
+use Rattle.std.proofs.Common.{ℕ, arith}
 use Rattle.std.specs.Prelude.{Option, Some, None, OnSome}
 use Rattle.shop_states.specs.States.{TellsBoundBelow}
 

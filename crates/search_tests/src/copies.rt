@@ -1,6 +1,6 @@
 // A dispatch in a copy of a state, by one call and by two, and without a bound: the bounds are equal, and the states
 // behave alike. So too where the children of a word were bounded together.
-ghost use Rattle.std.specs.Prelude.{◌≡◌, ℕ, ◌++◌, ◌∷◌, [], All, IfSome, List, OnSome};
+ghost use Rattle.std.specs.Prelude.{◌≡◌, ℕ, ◌++◌, ◌∷◌, [], All, IfSome, OnSome};
 ghost use Rattle.shop_model.specs.Word.{IsWord};
 ghost use Rattle.shop_bound.specs.{Bound.lb, Conflicts.conflict};
 ghost use Rattle.shop_states.specs.States.{CanDispatch, HasDispatched, ListsBelow, TellsBoundBelow};

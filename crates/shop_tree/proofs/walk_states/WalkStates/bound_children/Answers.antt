@@ -1,4 +1,4 @@
-use Rattle.std.proofs.Common.{◌≡◌, ℕ, List, All, IfSome, refl, subst}
+use Rattle.std.proofs.Common.{◌≡◌, ℕ, List, All, IfSome, subst}
 use Rattle.shop_bound.specs.Bound.{lb}
 use Rattle.shop_states.specs.States.{Settles}
 use Rattle.shop_tree.{specs.inner.Slots.Lists, proofs.SiblingLemmas.bounded_together}
