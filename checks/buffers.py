@@ -55,7 +55,9 @@ class Memory:
             wanted[front : front + len(answer)] = answer
         is_answered = outcome.status in (DONE, TOO_SMALL)
         told = (name == "check", len(answer)) if is_answered else (False, 0)
-        return outcome.status, self.block.raw == wanted and (outcome.feasible, outcome.length) == told
+        has_no_line = outcome.line == 0 or not is_answered and outcome.status != BAD_ARGUMENT
+        is_right = (outcome.feasible, outcome.length) == told and has_no_line
+        return outcome.status, self.block.raw == wanted and is_right
 
     def tries(self, buffer):
         """Places of a buffer, each with its title and the status of a call that is given it."""

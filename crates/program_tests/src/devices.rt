@@ -55,18 +55,22 @@ impl<'t> Read for Reader<'t> {
     }
 }
 
-/// A writer of one byte a call into memory that fails once, at call `fails_at`.
+/// A writer of one byte a call into memory that once, at call `stops_at`, fails or takes none.
 #[derive(Drop)]
 struct Writer {
     held: Vec<u8>,
     calls: u64,
-    fails_at: u64,
+    stops_at: u64,
+    takes_none: bool,
 }
 
 impl Write for Writer {
     fn write(&mut self, buffer: &[u8]) -> io::Result<usize> {
         self.calls = self.calls.saturating_add(1);
-        if self.calls == self.fails_at {
+        if self.calls == self.stops_at && self.takes_none {
+            return Ok(0);
+        }
+        if self.calls == self.stops_at {
             return Err(ErrorKind::Interrupted.into());
         }
         let count = buffer.len().min(1);
@@ -197,13 +201,14 @@ fn a_reader_fails_at_each_call(rt: HostRuntime) {
     }
 }
 
-/// Asserts what an engine does on a slow writer that fails at call `call`, or takes all.
-fn assert_written(rt: &impl Abort, alloc: Global, row: &Run, call: u64) {
+/// Asserts what an engine does on a slow writer that fails or takes none at call `call`, or takes all.
+fn assert_written(rt: &impl Abort, alloc: Global, row: &Run, call: u64, takes_none: bool) {
     let (engine, text, written) = *row;
     let mut writer = Writer {
         held: Vec::new(alloc),
         calls: 0,
-        fails_at: call,
+        stops_at: call,
+        takes_none,
     };
     let mut source = Reading::new(text.as_bytes());
     let answer = run(
@@ -230,7 +235,16 @@ fn assert_written(rt: &impl Abort, alloc: Global, row: &Run, call: u64) {
 fn a_writer_fails_at_each_call(rt: HostRuntime) {
     for row in &RUNS {
         for call in 1..=row.2.len() as u64 + 1 {
-            assert_written(&rt, rt.alloc(), row, call);
+            assert_written(&rt, rt.alloc(), row, call, false);
+        }
+    }
+}
+
+#[test]
+fn a_writer_takes_none_at_each_call(rt: HostRuntime) {
+    for row in &RUNS {
+        for call in 1..=row.2.len() as u64 + 1 {
+            assert_written(&rt, rt.alloc(), row, call, true);
         }
     }
 }
