@@ -6,8 +6,8 @@
 
 The sheet is UTF-8, with commas, semicolons or tabs between fields. A first line `sep=;` is skipped. The next line has
 the names of the columns, in capitals or not: job, machine, hours and, if jobs come in late, release. Below it each row
-is a step, the steps of a job in order. A job's first row has its release, before which it can't begin, or nothing. Write
-hours as 2, 1.5, 1,25 or 1:30. Jobs and machines are numbered as they come.
+is a step, the steps of a job in order. A job's first row has its release, before which it can't begin, or nothing.
+Write hours as 2, 1.5, 1,25 or 1:30. Jobs and machines are numbered as they come.
 
 A unit of the instance is half an hour, or with --units-an-hour N an N-th of an hour. With --start 7:45 the list has
 times of the day; from 24:00 on they are of the next day. Then a release like 8:30 is a time of the day, and a release

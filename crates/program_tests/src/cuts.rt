@@ -21,8 +21,9 @@ fn orlib_cut_at_each_byte(rt: HostRuntime) {
     }
 }
 
-/// The first header is complete with its 42nd byte, the first byte of the name: a shorter text has no header, so line 2
-/// is read as a size line. Each line of numbers begins with a space; a text cut after that space ends in a blank line.
+/// The first header is complete with byte 42 of the text, the first byte of the name: a shorter text has no header, so
+/// line 2 is read as a size line. Each line of numbers begins with a space; a text cut after that space ends in a blank
+/// line.
 #[test]
 fn named_instances_cut_at_each_byte(rt: HostRuntime) {
     let text = TWO_EXAMPLES.as_bytes();

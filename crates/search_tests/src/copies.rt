@@ -1,5 +1,5 @@
-// A dispatch in a copy of a state, by one call and by two, and without a bound: the bounds are equal, and the states
-// behave alike. So too where the children of a word were bounded together.
+// A dispatch in a copy of a state, beside one in place and one without a bound: the bounds are equal, and the states
+// behave alike. So too if the children of a word were bounded together.
 ghost use Rattle.std.specs.Prelude.{◌≡◌, ℕ, ◌++◌, ◌∷◌, [], All, IfSome, OnSome};
 ghost use Rattle.shop_model.specs.Word.{IsWord};
 ghost use Rattle.shop_bound.specs.{Bound.lb, Conflicts.conflict};
@@ -17,12 +17,13 @@ use std::alloc::{AllocGlobal, Global};
 use std::mem;
 use std::process::Abort;
 
-/// Room for the state of a word, and for the states of its children.
+/// The state of a word three times: `placed` goes on by dispatches in place, `settled` by dispatches without a bound, and
+/// `state` by dispatches in its copy `direct`.
 #[derive(Drop)]
 struct Rooms<L: StateLanes> {
     state: State<L>,
-    copied: State<L>,
     direct: State<L>,
+    placed: State<L>,
     settled: State<L>,
 }
 
@@ -33,14 +34,14 @@ fn rooms_of<L: StateLanes>(
     dispatcher: &Dispatcher<'_, '_, L>,
 ) -> Rooms<L>
     ensures state { IsSlot L.StateLanes dispatcher.now.laid_out result.state }
-    ensures copied { IsSlot L.StateLanes dispatcher.now.laid_out result.copied }
     ensures direct { IsSlot L.StateLanes dispatcher.now.laid_out result.direct }
+    ensures placed { IsSlot L.StateLanes dispatcher.now.laid_out result.placed }
     ensures settled { IsSlot L.StateLanes dispatcher.now.laid_out result.settled }
 {
     Rooms {
         state: dispatcher.slot(alloc).expect(rt, "memory"),
-        copied: dispatcher.slot(alloc).expect(rt, "memory"),
         direct: dispatcher.slot(alloc).expect(rt, "memory"),
+        placed: dispatcher.slot(alloc).expect(rt, "memory"),
         settled: dispatcher.slot(alloc).expect(rt, "memory"),
     }
 }
@@ -83,8 +84,8 @@ fn dispatch_at_once<L: StateLanes>(
     }
 }
 
-/// Dispatches a candidate of the word `path`, whose state `rooms` has, in a copy of this state by two calls, and in
-/// another copy by one, and asserts that both tell the same bound. Dispatches it in a third copy without a bound.
+/// Dispatches a candidate of the word `path`, whose states `rooms` has, in each of them, and asserts that the dispatch in
+/// place and the one in a copy return the same bound.
 fn dispatch_twice<L: StateLanes>(
     rt: &impl Abort,
     dispatcher: &mut Dispatcher<'_, '_, L>,
@@ -92,9 +93,9 @@ fn dispatch_twice<L: StateLanes>(
     path: &[u16],
     trial: Trial,
 ) -> Option<u64>
-    requires copied { IsSlot L.StateLanes dispatcher.old.laid_out rooms.old.copied }
     requires direct { IsSlot L.StateLanes dispatcher.old.laid_out rooms.old.direct }
-    requires settled { IsSlot L.StateLanes dispatcher.old.laid_out rooms.old.settled }
+    requires placed { IsStateOf L.StateLanes dispatcher.old.laid_out path.now rooms.old.placed }
+    requires settled { IsStateOf L.StateLanes dispatcher.old.laid_out path.now rooms.old.settled }
     requires word { IsWord dispatcher.old.laid_out.asked path.now }
     requires state { IsStateWith L.StateLanes dispatcher.old.laid_out trial.candidate rooms.old.state path.now }
     requires known { IfSome trial.together
@@ -103,22 +104,20 @@ fn dispatch_twice<L: StateLanes>(
     requires bound { trial.bound ≡ lb dispatcher.old.laid_out.asked path.now }
     ensures told { TellsBoundBelow trial.limit
         (lb dispatcher.old.laid_out.asked (path.now ++ trial.candidate.job ∷ [])) result }
-    ensures state { OnSome result
-        (IsStateOf L.StateLanes dispatcher.old.laid_out (path.now ++ trial.candidate.job ∷ []) rooms.new.copied) }
+    ensures placed { OnSome result
+        (IsStateOf L.StateLanes dispatcher.old.laid_out (path.now ++ trial.candidate.job ∷ []) rooms.new.placed) }
     ensures same { OnSome result
         (IsStateOf L.StateLanes dispatcher.old.laid_out (path.now ++ trial.candidate.job ∷ []) rooms.new.direct) }
     ensures alike { IsStateOf L.StateLanes dispatcher.old.laid_out (path.now ++ trial.candidate.job ∷ [])
         rooms.new.settled }
-    ensures copied { IsSlot L.StateLanes dispatcher.old.laid_out rooms.new.copied }
     ensures direct { IsSlot L.StateLanes dispatcher.old.laid_out rooms.new.direct }
+    ensures slot { IsSlot L.StateLanes dispatcher.old.laid_out rooms.new.placed }
     ensures first { rooms.new.state ≡ rooms.old.state }
     ensures dispatcher { dispatcher.new ≡ dispatcher.old }
 {
     let (candidate, bound, limit) = (trial.candidate, trial.bound, trial.limit);
-    dispatcher.fill(path, &mut rooms.settled);
     dispatcher.dispatch_settled(&mut rooms.settled, candidate);
-    dispatcher.fill(path, &mut rooms.copied);
-    let told = dispatcher.dispatch_below(&mut rooms.copied, candidate, bound, limit);
+    let told = dispatcher.dispatch_below(&mut rooms.placed, candidate, bound, limit);
     let (state, direct) = (&rooms.state, &mut rooms.direct);
     let again = dispatch_at_once(dispatcher, state, direct, trial);
     assert_eq!(rt; told, again);
@@ -132,7 +131,8 @@ pub enum Manner {
     Together,
 }
 
-/// Bounds the children of the word `path` together, if they are to be dispatched so. Uses up the first copy.
+/// Bounds the children of the word `path` together, if they are to be dispatched so. Uses up
+/// `rooms.direct`.
 fn bound_together<L: StateLanes>(
     dispatcher: &mut Dispatcher<'_, '_, L>,
     rooms: &mut Rooms<L>,
@@ -141,7 +141,7 @@ fn bound_together<L: StateLanes>(
     bound: u64,
     manner: Manner,
 ) -> Option<u64>
-    requires copied { IsSlot L.StateLanes dispatcher.old.laid_out rooms.old.copied }
+    requires direct { IsSlot L.StateLanes dispatcher.old.laid_out rooms.old.direct }
     requires state { IsStateOf L.StateLanes dispatcher.old.laid_out path.now rooms.old.state }
     requires listed { (others : ℕ) × ListsBelow dispatcher.old.laid_out.asked path.now 18446744073709551615
         (IsCandidate dispatcher.old.laid_out path.now)
@@ -150,16 +150,16 @@ fn bound_together<L: StateLanes>(
     ensures known { IfSome result (λ top.
         All (λ c. KnowsChild dispatcher.old.laid_out dispatcher.new.ceilings path.now c.job) candidates.now) }
     ensures state { rooms.new.state ≡ rooms.old.state }
-    ensures copied { IsSlot L.StateLanes dispatcher.old.laid_out rooms.new.copied }
-    ensures direct { rooms.new.direct ≡ rooms.old.direct }
-    ensures unused { rooms.new.settled ≡ rooms.old.settled }
+    ensures direct { IsSlot L.StateLanes dispatcher.old.laid_out rooms.new.direct }
+    ensures placed { rooms.new.placed ≡ rooms.old.placed }
+    ensures settled { rooms.new.settled ≡ rooms.old.settled }
     ensures laid_out { dispatcher.new.laid_out ≡ dispatcher.old.laid_out }
 {
     match manner {
         Manner::Alone => None,
         Manner::Together => {
-            let (state, copied) = (&rooms.state, &mut rooms.copied);
-            dispatcher.bound_children(state, copied, candidates, bound)
+            let (state, direct) = (&rooms.state, &mut rooms.direct);
+            dispatcher.bound_children(state, direct, candidates, bound)
         }
     }
 }
@@ -173,8 +173,9 @@ fn assert_same(rt: &impl Abort, candidates: &[Candidate], others: &[Candidate]) 
     }
 }
 
-/// Walks a random word of `instance`. Asserts that each dispatch in a copy tells the same bound by one call and by two,
-/// and leaves states with the same candidates, as does one without a bound.
+/// Walks a random word of `instance`. Asserts that each dispatch in a copy returns the same bound as one in place, and
+/// that both states, and one after dispatches without a bound, have the same candidates. Fills the latter two anew after
+/// a dispatch that reached the limit.
 pub fn assert_walk<L: StateLanes>(
     rt: &impl Abort,
     alloc: Global,
@@ -192,6 +193,8 @@ pub fn assert_walk<L: StateLanes>(
     let word = Word::of_jobs(Vec::new(alloc));
     let mut bound = lower_bound(alloc, instance, &word).expect(rt, "memory");
     dispatcher.fill(&[], &mut rooms.state);
+    dispatcher.fill(&[], &mut rooms.placed);
+    dispatcher.fill(&[], &mut rooms.settled);
     for _ in 0..instance.operations() {
         dispatcher.list_candidates(&rooms.state, u64::MAX, &mut candidates);
         let count = candidates.len();
@@ -217,10 +220,12 @@ pub fn assert_walk<L: StateLanes>(
         };
         let told = dispatch_twice(rt, dispatcher, &mut rooms, path.as_slice(), trial);
         let Some(below) = told else {
+            dispatcher.fill(path.as_slice(), &mut rooms.placed);
+            dispatcher.fill(path.as_slice(), &mut rooms.settled);
             continue;
         };
         path.push(candidate.job).expect(rt, "memory");
-        dispatcher.list_candidates(&rooms.copied, u64::MAX, &mut candidates);
+        dispatcher.list_candidates(&rooms.placed, u64::MAX, &mut candidates);
         dispatcher.list_candidates(&rooms.direct, u64::MAX, &mut others);
         assert_same(rt, &candidates, &others);
         dispatcher.list_candidates(&rooms.settled, u64::MAX, &mut others);

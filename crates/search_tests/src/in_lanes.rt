@@ -19,8 +19,8 @@ pub enum Tried {
     Fills,
 }
 
-/// Walks along a random word, or fills states. It is called for each width of lanes, so that what a walk or a fill needs
-/// of its states is proved once, for any lanes.
+/// Walks along a random word, or fills states. Called for each width of lanes, so that what a walk or a fill needs of
+/// its states is proved once, for any lanes.
 fn assert_over<L: StateLanes>(
     rt: &(impl Abort + AllocGlobal),
     numbers: &mut Numbers,

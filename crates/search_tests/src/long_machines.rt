@@ -91,8 +91,7 @@ fn bounds_of_nodes_left(rt: HostRuntime) {
     }
 }
 
-/// A walk to the end of 270 operations also lists the closed children deep in the stack. # Outside crates/ and the
-/// folders that this branch edits
+/// After a walk to the end of 270 operations, closed children of long words are among the nodes left.
 #[test]
 fn bounds_of_nodes_left_deep(rt: HostRuntime) {
     let mut numbers = Numbers { state: 5 };

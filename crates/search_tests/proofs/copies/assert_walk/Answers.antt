@@ -33,7 +33,8 @@ pub dispatch_twice-told-requires-clause-state : goal.dispatch_twice-told-require
 dispatch_twice-told-requires-clause-state g c =
     let same = c.bound_together-together.ensures.laid_out ∙ ap (λ d. d.laid_out) c.list_candidates.ensures.same
     in let state = c.loop.invariant.state in let w = c.loop.path.items
-    in let some = c.if-count-eq0.false in let count = c.len-count.ensures in let long = c.list_candidates.new.candidates.ok.0
+    in let some = c.if-count-eq0.false in let count = c.len-count.ensures
+    in let long = c.list_candidates.new.candidates.ok.0
     in let its = picked (word_of state) (c.list_candidates.ensures.listed w state) (c.up_to.result % c.len-count.result)
     c.index-candidate.result.now (omega arith) c.index-candidate.ensures
     in (
@@ -43,7 +44,8 @@ dispatch_twice-told-requires-clause-state g c =
 
 pub dispatch_twice-told-requires-clause-known : goal.dispatch_twice-told-requires-clause-known
 dispatch_twice-told-requires-clause-known g c =
-    let some = c.if-count-eq0.false in let count = c.len-count.ensures in let long = c.list_candidates.new.candidates.ok.0
+    let some = c.if-count-eq0.false in let count = c.len-count.ensures
+    in let long = c.list_candidates.new.candidates.ok.0
     in rw (c.bound_together-together.ensures.laid_out, c.as_slice-in-loop.ensures.value)
     (known_at (λ x. KnowsChild c.list_candidates.new.self.laid_out c.bound_together-together.new.dispatcher.ceilings
     c.loop.path.items x.job) c.list_candidates.new.candidates.items c.bound_together-together.result
@@ -54,26 +56,45 @@ pub dispatch_twice-told-requires-clause-fits : goal.dispatch_twice-told-requires
 dispatch_twice-told-requires-clause-fits g c =
     let same = c.bound_together-together.ensures.laid_out ∙ ap (λ d. d.laid_out) c.list_candidates.ensures.same
     in let state = c.loop.invariant.state in let w = c.loop.path.items
-    in let some = c.if-count-eq0.false in let count = c.len-count.ensures in let long = c.list_candidates.new.candidates.ok.0
+    in let some = c.if-count-eq0.false in let count = c.len-count.ensures
+    in let long = c.list_candidates.new.candidates.ok.0
     in let its = picked (word_of state) (c.list_candidates.ensures.listed w state) (c.up_to.result % c.len-count.result)
     c.index-candidate.result.now (omega arith) c.index-candidate.ensures
     in rw (same, c.as_slice-in-loop.ensures.value) its.0
+
+pub dispatch_twice-told-requires-clause-placed : goal.dispatch_twice-told-requires-clause-placed
+dispatch_twice-told-requires-clause-placed g c =
+    let same = c.bound_together-together.ensures.laid_out ∙ ap (λ d. d.laid_out) c.list_candidates.ensures.same
+    in rw (same, c.as_slice-in-loop.ensures.value, c.bound_together-together.ensures.placed) c.loop.invariant.placed
+
+pub dispatch_twice-told-requires-clause-settled : goal.dispatch_twice-told-requires-clause-settled
+dispatch_twice-told-requires-clause-settled g c =
+    let same = c.bound_together-together.ensures.laid_out ∙ ap (λ d. d.laid_out) c.list_candidates.ensures.same
+    in rw (same, c.as_slice-in-loop.ensures.value, c.bound_together-together.ensures.settled) c.loop.invariant.settled
 
 pub loop-preserved-in_default : goal.loop-preserved-in_default
 loop-preserved-in_default g c =
     let listed = ap (λ d. d.laid_out) c.list_candidates.ensures.same
     in let together = c.bound_together-together.ensures.laid_out ∙ listed
-    in let same = ap (λ d. d.laid_out) c.dispatch_twice-told.ensures.dispatcher
-    in let all = same ∙ together in let was = c.loop.invariant
+    in let twice = ap (λ d. d.laid_out) c.dispatch_twice-told.ensures.dispatcher
+    in let first = ap (λ d. d.laid_out) c.fill-in_default.ensures.same
+    in let second = ap (λ d. d.laid_out) c.fill-in_default-2.ensures.same
+    in let fills = second ∙ first in let before = fills ∙ twice in let all = before ∙ together
+    in let was = c.loop.invariant
     in record {
       state = rw (all, c.dispatch_twice-told.ensures.first ∙ c.bound_together-together.ensures.state) was.state;
       bound = rw all was.bound;
-      copied = rw same c.dispatch_twice-told.ensures.copied;
-      direct = rw same c.dispatch_twice-told.ensures.direct;
-      settled = rw same (slot_of c.dispatch_twice-told.ensures.alike);
+      direct = rw before c.dispatch_twice-told.ensures.direct;
+      placed = rw fills (rw c.as_slice-in_default.ensures.value at c.fill-in_default.ensures.state);
+      settled = rw second (rw c.as_slice-in_default-2.ensures.value at c.fill-in_default-2.ensures.state);
       room = rw all (let a = was.room in let b = c.list_candidates.ensures.room in omega arith);
       others = rw all was.others;
     }
+
+pub fill-requires-in_default-2-clause-slot : goal.fill-requires-in_default-2-clause-slot
+fill-requires-in_default-2-clause-slot g c =
+    rw (ap (λ d. d.laid_out) c.fill-in_default.ensures.same ∙ ap (λ d. d.laid_out)
+    c.dispatch_twice-told.ensures.dispatcher) (slot_of c.dispatch_twice-told.ensures.alike)
 
 pub loop-preserved : goal.loop-preserved
 loop-preserved g c =
@@ -90,7 +111,6 @@ loop-preserved g c =
       state = rw (before, pushed, c.swap.ensures.x_after)
           (rw c.as_slice-in-loop.ensures.value at c.in-Some.ensures.same);
       bound = rw (before, pushed) (rw c.as_slice-in-loop.ensures.value at c.in-Some.ensures.told.0);
-      copied = rw before c.dispatch_twice-told.ensures.copied;
       direct = rw (
         before,
         c.swap.ensures.y_after,
@@ -98,7 +118,8 @@ loop-preserved g c =
             ∙ c.bound_together-together.ensures.state,
         together,
       ) (slot_of was.state);
-      settled = rw before (slot_of c.dispatch_twice-told.ensures.alike);
+      placed = rw (before, pushed) (rw c.as_slice-in-loop.ensures.value at c.in-Some.ensures.placed);
+      settled = rw (before, pushed) (rw c.as_slice-in-loop.ensures.value at c.dispatch_twice-told.ensures.alike);
       room = rw all (let a = was.room in let b = c.list_candidates.ensures.room
           in let e = c.list_candidates-in-loop.ensures.room in omega arith);
       others = rw all (let a = was.others in let b = c.list_candidates-in-loop-2.ensures.room

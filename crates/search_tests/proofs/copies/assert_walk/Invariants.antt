@@ -7,9 +7,9 @@ abbrev pub invariant-loop : goal.invariant-loop
 invariant-loop g l = record {
   state : IsStateOf g.L.StateLanes l.dispatcher.laid_out l.path.items l.rooms.state;
   bound : l.bound ≡ lb l.dispatcher.laid_out.asked l.path.items;
-  copied : IsSlot g.L.StateLanes l.dispatcher.laid_out l.rooms.copied;
   direct : IsSlot g.L.StateLanes l.dispatcher.laid_out l.rooms.direct;
-  settled : IsSlot g.L.StateLanes l.dispatcher.laid_out l.rooms.settled;
+  placed : IsStateOf g.L.StateLanes l.dispatcher.laid_out l.path.items l.rooms.placed;
+  settled : IsStateOf g.L.StateLanes l.dispatcher.laid_out l.path.items l.rooms.settled;
   room : length l.dispatcher.laid_out.asked.jobs ≤ vec_capacity l.candidates;
   others : length l.dispatcher.laid_out.asked.jobs ≤ vec_capacity l.others;
 }
