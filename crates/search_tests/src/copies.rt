@@ -174,8 +174,8 @@ fn assert_same(rt: &impl Abort, candidates: &[Candidate], others: &[Candidate]) 
 }
 
 /// Walks a random word of `instance`. Asserts that each dispatch in a copy returns the same bound as one in place, and
-/// that both states, and one after dispatches without a bound, have the same candidates. Fills the latter two anew after
-/// a dispatch that reached the limit.
+/// that these states, one after dispatches without a bound, and one filled from the word have the same candidates. After
+/// a dispatch that reached the limit, `placed` and `settled` are filled anew.
 pub fn assert_walk<L: StateLanes>(
     rt: &impl Abort,
     alloc: Global,
@@ -229,6 +229,9 @@ pub fn assert_walk<L: StateLanes>(
         dispatcher.list_candidates(&rooms.direct, u64::MAX, &mut others);
         assert_same(rt, &candidates, &others);
         dispatcher.list_candidates(&rooms.settled, u64::MAX, &mut others);
+        assert_same(rt, &candidates, &others);
+        dispatcher.fill(path.as_slice(), &mut rooms.state);
+        dispatcher.list_candidates(&rooms.state, u64::MAX, &mut others);
         assert_same(rt, &candidates, &others);
         mem::swap(&mut rooms.state, &mut rooms.direct);
         bound = below;

@@ -104,24 +104,36 @@ loop-preserved g c =
     in let first = ap (λ d. d.laid_out) c.list_candidates-in-loop.ensures.same
     in let second = ap (λ d. d.laid_out) c.list_candidates-in-loop-2.ensures.same
     in let third = ap (λ d. d.laid_out) c.list_candidates-in-loop-3.ensures.same
-    in let lists = third ∙ (second ∙ first) in let before = lists ∙ twice in let all = before ∙ together
+    in let filled = ap (λ d. d.laid_out) c.fill-in-loop.ensures.same
+    in let last = ap (λ d. d.laid_out) c.list_candidates-in-loop-4.ensures.same
+    in let lists = last ∙ (filled ∙ (third ∙ (second ∙ first))) in let before = lists ∙ twice
+    in let all = before ∙ together
     in let was = c.loop.invariant
     in let pushed : c.push.new.self.items ≡ c.loop.path.items ++ c.index-candidate.result.now.job ∷ [] = grind arith
     in record {
       state = rw (before, pushed, c.swap.ensures.x_after)
           (rw c.as_slice-in-loop.ensures.value at c.in-Some.ensures.same);
       bound = rw (before, pushed) (rw c.as_slice-in-loop.ensures.value at c.in-Some.ensures.told.0);
-      direct = rw (
-        before,
-        c.swap.ensures.y_after,
-        c.dispatch_twice-told.ensures.first
-            ∙ c.bound_together-together.ensures.state,
-        together,
-      ) (slot_of was.state);
+      direct = rw (last ∙ filled, c.swap.ensures.y_after) (slot_of c.fill-in-loop.ensures.state);
       placed = rw (before, pushed) (rw c.as_slice-in-loop.ensures.value at c.in-Some.ensures.placed);
       settled = rw (before, pushed) (rw c.as_slice-in-loop.ensures.value at c.dispatch_twice-told.ensures.alike);
       room = rw all (let a = was.room in let b = c.list_candidates.ensures.room
           in let e = c.list_candidates-in-loop.ensures.room in omega arith);
       others = rw all (let a = was.others in let b = c.list_candidates-in-loop-2.ensures.room
-          in let e = c.list_candidates-in-loop-3.ensures.room in omega arith);
+          in let e = c.list_candidates-in-loop-3.ensures.room in let f = c.list_candidates-in-loop-4.ensures.room
+          in omega arith);
     }
+
+pub fill-requires-in-loop-clause-slot : goal.fill-requires-in-loop-clause-slot
+fill-requires-in-loop-clause-slot g c =
+    let listed = ap (λ d. d.laid_out) c.list_candidates.ensures.same
+    in let together = c.bound_together-together.ensures.laid_out ∙ listed
+    in let twice = ap (λ d. d.laid_out) c.dispatch_twice-told.ensures.dispatcher
+    in let first = ap (λ d. d.laid_out) c.list_candidates-in-loop.ensures.same
+    in let second = ap (λ d. d.laid_out) c.list_candidates-in-loop-2.ensures.same
+    in let third = ap (λ d. d.laid_out) c.list_candidates-in-loop-3.ensures.same
+    in rw (
+      (third ∙ (second ∙ first)) ∙ (twice ∙ together),
+      c.dispatch_twice-told.ensures.first
+          ∙ c.bound_together-together.ensures.state,
+    ) (slot_of c.loop.invariant.state)
