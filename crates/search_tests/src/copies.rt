@@ -17,8 +17,8 @@ use std::alloc::{AllocGlobal, Global};
 use std::mem;
 use std::process::Abort;
 
-/// The state of a word three times: `placed` goes on by dispatches in place, `settled` by dispatches without a bound, and
-/// `state` by dispatches in its copy `direct`.
+/// The state of a word three times: `placed` goes on by dispatches in place, `settled` by dispatches without a bound,
+/// and `state` by dispatches in its copy `direct`.
 #[derive(Drop)]
 struct Rooms<L: StateLanes> {
     state: State<L>,
@@ -84,8 +84,8 @@ fn dispatch_at_once<L: StateLanes>(
     }
 }
 
-/// Dispatches a candidate of the word `path`, whose states `rooms` has, in each of them, and asserts that the dispatch in
-/// place and the one in a copy return the same bound.
+/// Dispatches a candidate of the word `path`, whose states `rooms` has, in each of them, and asserts that the dispatch
+/// in place and the one in a copy return the same bound.
 fn dispatch_twice<L: StateLanes>(
     rt: &impl Abort,
     dispatcher: &mut Dispatcher<'_, '_, L>,
@@ -174,8 +174,8 @@ fn assert_same(rt: &impl Abort, candidates: &[Candidate], others: &[Candidate]) 
 }
 
 /// Walks a random word of `instance`. Asserts that each dispatch in a copy returns the same bound as one in place, and
-/// that these states, one after dispatches without a bound, and one filled from the word have the same candidates. After
-/// a dispatch that reached the limit, `placed` and `settled` are filled anew.
+/// that these states, one after dispatches without a bound, and one filled from the word have the same candidates.
+/// After a dispatch that reached the limit, `placed` and `settled` are filled anew.
 pub fn assert_walk<L: StateLanes>(
     rt: &impl Abort,
     alloc: Global,

@@ -4,10 +4,11 @@ ghost use Rattle.std.specs.Prelude.{◌≡◌, ◌%◌, ◌≤◌, max, length, 
 ghost use Rattle.shop_lanes.specs.{Eights.ahead_of, Folds.least_up_to, Rows.lanes_in, inner.Passes.CanRaiseBound};
 ghost use Rattle.shop_lanes.specs.Spans.{spans_between, IsRaisedBelow};
 
+use crate::block_counts::{are_wide, at_few_blocks, at_more_blocks};
 use crate::blocks::Block;
 use crate::folds::least_of;
 use crate::lane_rows::{HeadRange, LaneRows};
-use crate::passes::{are_wide, load_of};
+use crate::passes::load_of;
 
 /// How far ahead of `from` the nearest of `heads` lies, where 0 follows `greatest`.
 #[inline(always)]
@@ -76,16 +77,14 @@ pub(crate) fn leap_any<B: Block>(
     requires { CanRaiseBound B.value B.GREATEST range.upto rows.now }
     ensures { IsRaisedBelow limit (max most (spans_between range.above range.upto (lanes_in B.value rows.now))) result }
 {
-    match rows.heads.len() {
-        8 => leap::<B>(8, rows, range, most, limit),
-        16 => leap::<B>(16, rows, range, most, limit),
-        24 => leap::<B>(24, rows, range, most, limit),
-        _ if are_wide(B::GREATEST) => leap::<B>(rows.heads.len(), rows, range, most, limit),
-        32 => leap::<B>(32, rows, range, most, limit),
-        40 => leap::<B>(40, rows, range, most, limit),
-        48 => leap::<B>(48, rows, range, most, limit),
-        56 => leap::<B>(56, rows, range, most, limit),
-        64 => leap::<B>(64, rows, range, most, limit),
-        _ => leap::<B>(rows.heads.len(), rows, range, most, limit),
-    }
+    at_few_blocks!(
+        rows.heads.len(),
+        0,
+        leap(rows, range, most, limit),
+        at_more_blocks!(
+            rows.heads.len(),
+            leap(rows, range, most, limit),
+            leap::<B>(rows.heads.len(), rows, range, most, limit)
+        )
+    )
 }

@@ -1,6 +1,7 @@
 // Rows of heads, times, tails and ends in lanes of 16, 32 or 64 bits, read and added up in blocks of eight.
 #![tactic(auto)]
 
+mod block_counts;
 mod block_lanes;
 mod blocks;
 mod blocks_of_widths;
@@ -13,11 +14,11 @@ mod passes;
 mod served_blocks;
 mod state_lanes;
 
+pub use block_counts::are_wide;
 use block_lanes::BlockLanes;
 use blocks_of_widths::{Block16, Block32, Block64};
 pub use lane_rows::{HeadRange, LaneRows};
 pub use marking::Marks;
-pub use passes::are_wide;
 pub use state_lanes::StateLanes;
 
 /// The heads and ends of a word's state in lanes of 16 bits, where each machine has `EACH` blocks, or any number if

@@ -4,10 +4,10 @@ ghost use Rattle.std.specs.Prelude.{◌≡◌, ◌/◌, length};
 ghost use Rattle.shop_lanes.specs.Rows.{lanes_in};
 ghost use Rattle.shop_lanes.specs.inner.{Passes.AreColumns, OwnSpans.{AreEnds, AreNoted, CanOwn, WritesOwnSpans}};
 
+use crate::block_counts::{are_wide, at_few_blocks, at_more_blocks};
 use crate::blocks::Block;
 use crate::folds::{greatest_before, greatest_behind, sums_before};
 use crate::lane_rows::LaneRows;
-use crate::passes::are_wide;
 use crate::served_blocks::serve;
 
 /// The ends of columns, if all waiting operations are served by rank from time 0 on. `begins` and `clocks` hold the
@@ -117,17 +117,11 @@ fn own_spans_of_longer<B: Block>(rows: &LaneRows<B::Number>, owns: &mut [B::Numb
     requires { CanOwn B.value B.GREATEST rows.now owns.old }
     ensures { WritesOwnSpans B.value rows.now owns.old owns.new }
 {
-    if are_wide(B::GREATEST) {
-        return own_spans_of::<B>(rows.heads.len(), rows, owns);
-    }
-    match rows.heads.len() {
-        32 => own_spans_of::<B>(32, rows, owns),
-        40 => own_spans_of::<B>(40, rows, owns),
-        48 => own_spans_of::<B>(48, rows, owns),
-        56 => own_spans_of::<B>(56, rows, owns),
-        64 => own_spans_of::<B>(64, rows, owns),
-        _ => own_spans_of::<B>(rows.heads.len(), rows, owns),
-    }
+    at_more_blocks!(
+        rows.heads.len(),
+        own_spans_of(rows, owns),
+        own_spans_of::<B>(rows.heads.len(), rows, owns)
+    )
 }
 
 /// Writes into `owns` the own span of each waiting operation. The operation starts first, at its head, and the others
@@ -141,11 +135,10 @@ pub(crate) fn own_spans<B: Block, const EACH: usize>(
     requires { CanOwn B.value B.GREATEST rows.now owns.old }
     ensures { WritesOwnSpans B.value rows.now owns.old owns.new }
 {
-    match rows.heads.len() {
-        8 => own_spans_of::<B>(8, rows, owns),
-        16 => own_spans_of::<B>(16, rows, owns),
-        24 => own_spans_of::<B>(24, rows, owns),
-        32 if EACH == 4 => own_spans_of::<B>(32, rows, owns),
-        _ => own_spans_of_longer::<B>(rows, owns),
-    }
+    at_few_blocks!(
+        rows.heads.len(),
+        EACH,
+        own_spans_of(rows, owns),
+        own_spans_of_longer::<B>(rows, owns)
+    )
 }

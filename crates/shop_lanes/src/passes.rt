@@ -4,6 +4,7 @@ ghost use Rattle.std.specs.{Prelude.{◌≡◌, ◌+◌, ◌*◌, ◌/◌, ◌%�
 ghost use Rattle.shop_lanes.specs.{Rows.lanes_in, Spans.{span, FitsSpan}, Eights.{is_between, is_marked}};
 ghost use Rattle.shop_lanes.specs.{Folds.least_up_to, inner.Passes.{CanFindLeast, IsLeastFound}};
 
+use crate::block_counts::{are_wide, at_few_blocks, at_more_blocks};
 use crate::blocks::Block;
 use crate::folds::{greatest_of, least_of, sums_before};
 use crate::lane_rows::LaneRows;
@@ -60,13 +61,6 @@ fn bits_of<B: Block>(count: usize, numbers: &[B::Number], equal: bool, number: u
     bits
 }
 
-/// Returns whether lanes that hold numbers up to `greatest` have 64 bits. Such lanes are rare, and unrolled code for
-/// them is three times as long: so there machines of four blocks and more share one loop.
-#[inline(always)]
-pub fn are_wide(greatest: u64) -> bool {
-    greatest > u32::MAX as u64
-}
-
 /// Does `bits_up_to` out of line, for numbers of blocks without inlined code: four and more or, where `EACH` is 4, five
 /// and more.
 #[inline(never)]
@@ -76,17 +70,11 @@ fn bits_of_longer<B: Block>(heads: &[B::Number], upto: u64) -> u64
     requires fits { upto ≤ B.GREATEST }
     ensures { result ≡ mask_l (map (is_between 0 upto) (map B.value heads.now)) }
 {
-    if are_wide(B::GREATEST) {
-        return bits_of::<B>(heads.len(), heads, false, upto);
-    }
-    match heads.len() {
-        32 => bits_of::<B>(32, heads, false, upto),
-        40 => bits_of::<B>(40, heads, false, upto),
-        48 => bits_of::<B>(48, heads, false, upto),
-        56 => bits_of::<B>(56, heads, false, upto),
-        64 => bits_of::<B>(64, heads, false, upto),
-        _ => bits_of::<B>(heads.len(), heads, false, upto),
-    }
+    at_more_blocks!(
+        heads.len(),
+        bits_of(heads, false, upto),
+        bits_of::<B>(heads.len(), heads, false, upto)
+    )
 }
 
 /// Sets bit i of the result if number i of `heads` is above 0 and at most `upto`. Code for four blocks is inlined only
@@ -98,13 +86,12 @@ pub(crate) fn bits_up_to<B: Block, const EACH: usize>(heads: &[B::Number], upto:
     requires fits { upto ≤ B.GREATEST }
     ensures { result ≡ mask_l (map (is_between 0 upto) (map B.value heads.now)) }
 {
-    match heads.len() {
-        8 => bits_of::<B>(8, heads, false, upto),
-        16 => bits_of::<B>(16, heads, false, upto),
-        24 => bits_of::<B>(24, heads, false, upto),
-        32 if EACH == 4 => bits_of::<B>(32, heads, false, upto),
-        _ => bits_of_longer::<B>(heads, upto),
-    }
+    at_few_blocks!(
+        heads.len(),
+        EACH,
+        bits_of(heads, false, upto),
+        bits_of_longer::<B>(heads, upto)
+    )
 }
 
 /// The least of the `count` numbers in `numbers`; `GREATEST` if there are none.
@@ -157,17 +144,11 @@ fn first_least_of_longer<B: Block>(numbers: &[B::Number]) -> (usize, u64)
     requires { CanFindLeast B.value B.GREATEST numbers.now }
     ensures { IsLeastFound (map B.value numbers.now) result }
 {
-    if are_wide(B::GREATEST) {
-        return first_least_of_any::<B>(numbers);
-    }
-    match numbers.len() {
-        32 => first_least_of::<B>(32, numbers),
-        40 => first_least_of::<B>(40, numbers),
-        48 => first_least_of::<B>(48, numbers),
-        56 => first_least_of::<B>(56, numbers),
-        64 => first_least_of::<B>(64, numbers),
-        _ => first_least_of_any::<B>(numbers),
-    }
+    at_more_blocks!(
+        numbers.len(),
+        first_least_of(numbers),
+        first_least_of_any::<B>(numbers)
+    )
 }
 
 /// The first position of the least number of `numbers`, and this least number. `EACH` is as for `bits_up_to`.
@@ -176,11 +157,10 @@ pub(crate) fn first_least<B: Block, const EACH: usize>(numbers: &[B::Number]) ->
     requires { CanFindLeast B.value B.GREATEST numbers.now }
     ensures { IsLeastFound (map B.value numbers.now) result }
 {
-    match numbers.len() {
-        8 => first_least_of::<B>(8, numbers),
-        16 => first_least_of::<B>(16, numbers),
-        24 => first_least_of::<B>(24, numbers),
-        32 if EACH == 4 => first_least_of::<B>(32, numbers),
-        _ => first_least_of_longer::<B>(numbers),
-    }
+    at_few_blocks!(
+        numbers.len(),
+        EACH,
+        first_least_of(numbers),
+        first_least_of_longer::<B>(numbers)
+    )
 }

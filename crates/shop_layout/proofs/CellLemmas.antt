@@ -47,16 +47,10 @@ module _ (lists : List (List Slot)) (n : ℕ) (cells : List Slot) (blocks : List
     (short : AreShorter 100000 lists) (slots : List Slot) (are : slots ≡ get_or lists n []) (count : ℕ)
     (whole : count ≡ div_ceil (length slots) 8)
   where
-    pub count_small : 8 * count < 2 ^ 32
-    count_small = grind (arith, count_bounds)
-
     module _ (more : List Slot) (added : AreAdded slots count (8 * count) cells more) (last : ℕ)
         (last_is : last ≡ length more / 8) where
       eights : 8 * last ≡ length more
       eights = let a = added.long in let b = before.whole in omega arith
-
-      pub last_small : n < 100 → last < 2 ^ 32
-      last_small below = grind (arith, count_bounds, eights)
 
       pub cells_turn : (after : List ℕ) → after ≡ blocks ++ last ∷ [] → AreCells lists (n + 1) more after
       cells_turn after noted =

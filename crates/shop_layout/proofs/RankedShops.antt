@@ -4,7 +4,7 @@ use Rattle.std.proofs.lemmas.{Bool.cases_lt, List.{drop-map, get_or-map, get_or_
 use Rattle.std.specs.List.{sum_by}
 use Rattle.shop_model.specs.{declared.ops.Op.Op, Limits.IsWithinLimits}
 use Rattle.shop_model.specs.Shop.{Shop, ShopJob, IsOperation, greatest_below, machine_of, no_job, no_op}
-use Rattle.shop_model.specs.Shop.{operation_count, release_of, route_of, time_of}
+use Rattle.shop_model.specs.Shop.{release_of, route_of, time_of}
 use Rattle.shop_bound.specs.{Heads.tail_in, Renumbered.IsRenumbered}
 use Rattle.shop_layout.specs.{HeadLimits.{latest_end, total_before}, Ranks.{AreRanks, ranked, ranked_job, ranked_op}}
 
@@ -62,10 +62,7 @@ module _ (ranks : List ℕ) (shop : Shop) where
   pub time_ranked : (j k : ℕ) → time_of (ranked ranks shop) j k ≡ time_of shop j k
   time_ranked j k = grind (arith, cases_lt, step_ranked, step_past, get_or_past)
 
-  -- as many operations, and the same latest end
-  pub operations_ranked : operation_count (ranked ranks shop) ≡ operation_count shop
-  operations_ranked = grind (arith, sum_mapped, length-map)
-
+  -- the same latest end
   total_ranked : (n : ℕ) → total_before (ranked ranks shop) n ≡ total_before shop n
   total_ranked zero = refl
   total_ranked (suc n) = grind (arith, route_ranked, times_ranked, total_ranked n)

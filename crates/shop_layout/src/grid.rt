@@ -1,5 +1,5 @@
 // `Grid`: the operations of an instance by position, with their times and tails in lanes.
-ghost use Rattle.std.specs.Prelude.{◌≡◌, ◌<◌, length, slice_index, slice_index_or, [], ◌≤◌, ◌+◌, ◌-◌, ◌*◌, ◌^◌, map};
+ghost use Rattle.std.specs.Prelude.{◌≡◌, ◌<◌, length, slice_index, ◌≤◌, ◌+◌, ◌-◌, ◌*◌, ◌^◌, map};
 ghost use Rattle.shop_lanes.specs.{Rows.{AreBlocks, lanes_between}, Spans.{AreOwnSpans, FitOwnSpans}};
 ghost use Rattle.shop_layout.specs.{Lanes.rows_of, Positions.{AreEven, HoldsMachines}};
 
@@ -10,7 +10,8 @@ use crate::positions::Positions;
 use shop_lanes::{LaneRows, StateLanes};
 use std::marker::Model;
 
-/// The layout of an instance, with times and tails in lanes of the width of `L`. Contracts see the layout without lanes.
+/// The layout of an instance, with times and tails in lanes of the width of `L`. Contracts see the layout without
+/// lanes.
 #[derive(Drop)]
 pub struct Grid<'l, L: StateLanes> {
     positions: &'l Positions,
@@ -63,16 +64,6 @@ impl<'l, L: StateLanes> Grid<'l, L> {
         ensures { result ≡ self.now }
     {
         Routes::of(self.positions, self.legs, self.behind)
-    }
-
-    /// The position of each step of `job`.
-    #[inline(always)]
-    pub fn places(&self, job: usize) -> &[u32]
-        requires { job < length self.now.places }
-        ensures { result.now ≡ slice_index_or self.now.places job [] }
-    {
-        let positions = self.positions;
-        positions.places[job].as_slice()
     }
 
     /// The first block of `machine`; the number of all blocks if `machine` is the number of machines.

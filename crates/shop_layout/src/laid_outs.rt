@@ -48,8 +48,8 @@ impl<'l, 'a, L: StateLanes> LayoutFor<'l, 'a, L> {
 }
 
 /// An instance with its layout in lanes of one width. The layout calls each machine by its rank. Contracts see the
-/// instance both as it was given and with its machines called so; those of a `Grid` see no instance, which spares a
-/// dispatch the proofs that go with one.
+/// instance both as it was given and with its machines called so. Contracts of a `Grid` see no instance, so a dispatch
+/// needs no proofs about one.
 pub struct LaidOut<'l, 'a, L: StateLanes> {
     instance: &'a Instance,
     /// the number of each machine in the layout, which only contracts read

@@ -6,8 +6,8 @@ use Rattle.shop_model.specs.{Limits.IsWithinLimits, Shop.Shop, Word.IsWord}
 use Rattle.shop_bound.specs.{Bound.lb, Conflicts.{conflict, SoleCandidateKeepsBound}, Renumbered.AreAlike}
 use Rattle.shop_layout.specs.LaidOuts.{LaidOutState}
 use Rattle.shop_states.specs.{States.{ListsBelow, TellsBoundBelow, none, listed, closed}, inner.AskedStates.IsKeptFor}
-use Rattle.shop_states.specs.{declared.states.Candidate.Candidate, inner.LaneStates.IsKeptInLanes}
-use Rattle.shop_states.specs.{declared.states.State.State, inner.LaidLanes.rows_in, inner.WordStates.{IsStateOf, of_word}}
+use Rattle.shop_states.specs.declared.states.{Candidate.Candidate, State.State}
+use Rattle.shop_states.specs.inner.{LaidLanes.rows_in, LaneStates.IsKeptInLanes, WordStates.{IsStateOf, of_word}}
 use Rattle.shop_states.{specs.inner.RisingLists.IsIn, proofs.Candidates.candidate_fits}
 
 -- a word that is kept in the layout

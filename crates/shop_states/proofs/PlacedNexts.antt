@@ -1,5 +1,5 @@
 -- Next legs, and when jobs are ready and machines free, while a word is placed.
-use Rattle.std.proofs.Common.{rules, ◌≡◌, ℕ, ◌+◌, ◌-◌, ◌≤◌, ◌<◌, ◌^◌, max, List, [], length, map, take, get_or, set}
+use Rattle.std.proofs.Common.{rules, ◌≡◌, ℕ, ◌+◌, ◌-◌, ◌≤◌, ◌<◌, ◌^◌, max, List, length, map, take, get_or, set}
 use Rattle.std.proofs.{Common.{subst, sym, arith}, lemmas.{Bool.cases_eq, Grind.get_or-set_at, List.get_or-set_other}}
 use Rattle.std.proofs.lemmas.List.{length-set, take_more, FromFn.{get_or-map-range_with_len, length-map-range_with_len}}
 use Rattle.std.specs.List.{range_with_len}
@@ -41,10 +41,10 @@ none_at shop l legs ready free old begun same none long = grind arith
 
 -- where the legs of the next job begin, which is a small number
 pub begins_behind : {shop : Shop} → IsWithinLimits shop → {l : LayoutState} → IsLaidOut shop l → {n : ℕ}
-    → n < length shop.jobs → {read : LayoutState} → read ≡ l → {places : List ℕ} → places ≡ get_or read.places n []
-    → {i : ℕ} → i ≡ leg_index l n 0
-    → (i + (length places + 1) ≡ leg_index l (n + 1) 0) × (i + (length places + 1) < 2 ^ 32)
-begins_behind limits {l} laid {n} known same {places} are at = grind (arith, next_first, first_small)
+    → n < length shop.jobs → {count : ℕ} → count ≡ length (route_of shop n) → {i : ℕ} → i ≡ leg_index l n 0
+    → (i + (count + 1) ≡ leg_index l (n + 1) 0) × (i + (count + 1) < 2 ^ 32)
+begins_behind limits {l} laid {n} known count_is at =
+    let steps = laid.routes n in grind (arith, next_first, first_small)
 
 -- what is read of the next leg of a job that can go on
 module _ {shop : Shop} (limits : IsWithinLimits shop) {l : LayoutState} {p : Placing}

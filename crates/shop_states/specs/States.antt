@@ -9,8 +9,9 @@
 --     TellsBoundBelow limit bound   the bound where it is below the limit, and else nothing
 --     ListsBelow shop w limit is    the candidates of a conflict set, in order, but for n jobs with which the bound
 --                                   reaches the limit
---     HasDispatched shop P after .. a word of which P holds goes on with the job: the longer word has the bound that is
---                                   told, if below the limit, and then `after` holds of it
+--     HasDispatched shop P after .. each word of which P holds goes on with the job: if it has this bound, the longer
+--                                   word's bound is told, if below the limit; if one is told, `after` holds of the
+--                                   longer word
 use Rattle.std.specs.Prelude.{◌≡◌, ◌≤◌, ◌<◌, ℕ, zero, suc, max, Option, Some, None, List, [], ◌∷◌, ◌++◌, All}
 use Rattle.std.specs.Prelude.{OnSome}
 use Rattle.shop_model.specs.{Shop.Shop, Word.IsWord}
@@ -56,6 +57,7 @@ pub record HasListed (shop : Shop) (P : List ℕ → Type 0) (is : List ℕ → 
 abbrev pub Settles : Shop → List ℕ → ℕ → ℕ → List Candidate → Type 0
 Settles shop w bound top cs = All (λ c. top ≤ max bound c.own → lb shop (w ++ c.job ∷ []) ≡ max bound c.own) cs
 
-pub record HasDispatched (shop : Shop) (P after : List ℕ → Type 0) (job bound limit : ℕ) (told : Option ℕ) : Type 0 where
-  pub bounded : (w : List ℕ) → P w → bound ≡ lb shop w → TellsBoundBelow limit (lb shop (w ++ job ∷ [])) told
-  pub state : (w : List ℕ) → P w → OnSome told (after (w ++ job ∷ []))
+pub record HasDispatched (shop : Shop) (P after : List ℕ → Type 0) (job bound limit : ℕ) (told : Option ℕ) : Type 0
+  where
+    pub bounded : (w : List ℕ) → P w → bound ≡ lb shop w → TellsBoundBelow limit (lb shop (w ++ job ∷ [])) told
+    pub state : (w : List ℕ) → P w → OnSome told (after (w ++ job ∷ []))

@@ -8,7 +8,7 @@ ghost use Rattle.shop_states.specs.inner.{LaidLanes.{KeepsWord, rows_in}, LaneSt
 ghost use Rattle.shop_states.specs.inner.StateCopies.{IsAsLong};
 
 use crate::dispatches::Dispatch;
-use crate::lane_bounds::{BoundRange, LaidLanes};
+use crate::lane_bounds::BoundRange;
 use crate::machine_raises::MachineRaises;
 use crate::machine_sets::MachineSet;
 use crate::raises::raise_any;
@@ -78,8 +78,7 @@ pub(crate) fn advance_below<L: StateLanes>(
     }
     lanes.set_head(dispatch.position, 0);
     let raised = raises.raise(lanes, grid, next, dispatch);
-    let laid = LaidLanes { lanes, grid };
-    let bound = raises.take_bound(raised, &laid, range);
+    let bound = raises.take_bound(raised, lanes, grid, range);
     if range.limit <= bound {
         return None;
     }

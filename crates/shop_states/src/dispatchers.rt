@@ -216,8 +216,8 @@ impl<'l, 'a, L: StateLanes> Dispatcher<'l, 'a, L> {
         Some(told)
     }
 
-    /// Makes `to` a copy of `from`, and does there what `dispatch_below` does. If `IS_KNOWN`, `bound_children` was
-    /// called for this word last: the bound then takes fewer steps.
+    /// Makes `to` a copy of `from`, and does there what `dispatch_below` does. If `IS_KNOWN`, the last call of
+    /// `bound_children` was for this word and returned a number; the bound then takes fewer steps.
     #[inline(always)]
     pub fn dispatch_in_copy<const IS_KNOWN: bool>(
         &mut self,
@@ -248,7 +248,7 @@ impl<'l, 'a, L: StateLanes> Dispatcher<'l, 'a, L> {
     /// Bounds all children of the word of `state` together, before any candidate is dispatched. `bound` is the bound of
     /// that word, and `list_candidates` listed the candidates. Returns a number: if `bound` or the `own` of a candidate
     /// is at least this number, the bound of the child is the greater of the two. Returns `None` if each child is to be
-    /// bounded alone. Uses up `room`.
+    /// bounded alone. Uses up `room`, and keeps ceilings for `dispatch_in_copy`.
     pub fn bound_children(
         &mut self,
         state: &State<L>,

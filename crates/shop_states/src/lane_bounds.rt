@@ -2,8 +2,8 @@
 ghost use Rattle.std.specs.Prelude.{◌≡◌, ◌-◌, ◌≤◌, ◌<◌, ◌^◌, ◌⊎◌, IsTrue, length, slice_index};
 ghost use Rattle.shop_lanes.specs.Rows.{lanes_in};
 ghost use Rattle.shop_layout.specs.Positions.{AreEven};
-ghost use Rattle.shop_states.specs.inner.{LaneRaises.{raise_in, raises_in}, LaidLanes.{CanTakeSpansIn, TakesSpansIn}};
-ghost use Rattle.shop_states.specs.inner.MachineRaises.{CanBoundRows, IsSpanByRaise};
+ghost use Rattle.shop_states.specs.inner.{LaneRaises.{raise_in, raises_in}, LaidLanes.rows_in};
+ghost use Rattle.shop_states.specs.inner.MachineRaises.{CanBoundRows, CanTakeSpansUnder, IsSpanByRaise, TakesSpans};
 
 use crate::lane_raises::{LaneRaise, take_raise};
 use crate::machine_sets::MachineSet;
@@ -17,13 +17,6 @@ pub(crate) struct BoundRange<'a> {
     pub least: u64,
     pub limit: u64,
     pub ceilings: &'a [u64],
-}
-
-/// The heads and ends of a word in lanes, with the layout of its instance.
-#[derive(Drop)]
-pub(crate) struct LaidLanes<'a, L: StateLanes> {
-    pub lanes: &'a L,
-    pub grid: &'a Grid<'a, L>,
 }
 
 /// Returns the greatest of `least` and the spans of the machine with these `rows` from its heads above `raise.from` and
@@ -65,27 +58,28 @@ fn is_ceiling_within(ceilings: &[u64], machine: usize, most: u64) -> bool
 /// machines all have `each` blocks, or any numbers of blocks if `each` is 0: a number that is known lets the compiler
 /// unroll the passes over the blocks.
 #[inline(always)]
-pub(crate) fn take_spans_of<L: StateLanes>(
+pub(crate) fn take_spans_of<'a, L: StateLanes>(
     each: usize,
     raises: &mut [LaneRaise<L::Number>],
     raised: MachineSet,
-    laid: &LaidLanes<L>,
+    lanes: &'a L,
+    grid: &'a Grid<'_, L>,
     range: &BoundRange,
 ) -> u64
-    requires even { AreEven laid.now.grid.now.blocks each }
-    requires can { CanTakeSpansIn L.StateLanes laid.now range.now.ceilings.now (raises_in L.value raises.old) raised
-        range.now.least }
-    ensures { TakesSpansIn L.StateLanes laid.now (raises_in L.value raises.old) (raises_in L.value raises.new)
-        range.now.least range.now.limit result }
+    requires even { AreEven grid.now.blocks each }
+    requires can { CanTakeSpansUnder L.GREATEST range.now.ceilings.now (raises_in L.value raises.old) raised grid.now
+        (rows_in L.StateLanes grid.now lanes.now) range.now.least }
+    ensures { TakesSpans grid.now (rows_in L.StateLanes grid.now lanes.now) (raises_in L.value raises.old)
+        (raises_in L.value raises.new) range.now.least range.now.limit result }
 {
     // looked up only once: emptying a raise is a write, after which the rows would be looked up again
-    let rows = laid.grid.rows(laid.lanes);
+    let rows = grid.rows(lanes);
     let mut most = range.least;
     let mut left = raised;
     while let Some(machine) = left.pop_first() {
         let raise = take_raise::<L>(raises, machine);
         if !is_ceiling_within(range.ceilings, machine, most) {
-            let (from, to) = laid.grid.blocks_of(each, machine);
+            let (from, to) = grid.blocks_of(each, machine);
             most = machine_bound::<L>(each, &rows.blocks(from, to), raise, most, range.limit);
         }
     }
@@ -98,27 +92,28 @@ pub(crate) fn take_spans_of<L: StateLanes>(
 pub(crate) fn take_any_spans<L: StateLanes>(
     raises: &mut [LaneRaise<L::Number>],
     raised: MachineSet,
-    laid: &LaidLanes<L>,
+    lanes: &L,
+    grid: &Grid<L>,
     range: &BoundRange,
 ) -> u64
-    requires { CanTakeSpansIn L.StateLanes laid.now range.now.ceilings.now (raises_in L.value raises.old) raised
-        range.now.least }
-    ensures { TakesSpansIn L.StateLanes laid.now (raises_in L.value raises.old) (raises_in L.value raises.new)
-        range.now.least range.now.limit result }
+    requires { CanTakeSpansUnder L.GREATEST range.now.ceilings.now (raises_in L.value raises.old) raised grid.now
+        (rows_in L.StateLanes grid.now lanes.now) range.now.least }
+    ensures { TakesSpans grid.now (rows_in L.StateLanes grid.now lanes.now) (raises_in L.value raises.old)
+        (raises_in L.value raises.new) range.now.least range.now.limit result }
 {
     if are_wide(L::GREATEST) {
-        return take_spans_of(0, raises, raised, laid, range);
+        return take_spans_of(0, raises, raised, lanes, grid, range);
     }
-    match laid.grid.blocks_each() {
-        1 => take_spans_of(1, raises, raised, laid, range),
-        2 => take_spans_of(2, raises, raised, laid, range),
-        3 => take_spans_of(3, raises, raised, laid, range),
-        4 => take_spans_of(4, raises, raised, laid, range),
-        5 => take_spans_of(5, raises, raised, laid, range),
-        6 => take_spans_of(6, raises, raised, laid, range),
-        7 => take_spans_of(7, raises, raised, laid, range),
-        8 => take_spans_of(8, raises, raised, laid, range),
-        _ => take_spans_of(0, raises, raised, laid, range),
+    match grid.blocks_each() {
+        1 => take_spans_of(1, raises, raised, lanes, grid, range),
+        2 => take_spans_of(2, raises, raised, lanes, grid, range),
+        3 => take_spans_of(3, raises, raised, lanes, grid, range),
+        4 => take_spans_of(4, raises, raised, lanes, grid, range),
+        5 => take_spans_of(5, raises, raised, lanes, grid, range),
+        6 => take_spans_of(6, raises, raised, lanes, grid, range),
+        7 => take_spans_of(7, raises, raised, lanes, grid, range),
+        8 => take_spans_of(8, raises, raised, lanes, grid, range),
+        _ => take_spans_of(0, raises, raised, lanes, grid, range),
     }
 }
 

@@ -1,4 +1,4 @@
-// States of partial schedules (words): each is filled from its word, copied, or extended by one dispatch.
+// States of partial schedules (words): each is filled from its word, or extended by a dispatch, in place or in a copy.
 #![tactic(auto)]
 
 mod advances;

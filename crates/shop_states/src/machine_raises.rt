@@ -1,14 +1,12 @@
 // The raises of heads on each machine in a dispatch, and the bound that they give.
 ghost use Rattle.std.specs.Prelude.{◌≡◌, ◌+◌, ◌≤◌, ◌<◌, ◌^◌, IfOk, length};
-ghost use Rattle.shop_states.specs.inner.LaidLanes.{CanTakeSpansIn, HasRaisedIn, TakesSpansIn, laid_rows, rows_in};
-ghost use Rattle.shop_states.specs.inner.{MachineRaises.{AreEmpty, CanTakeSpans}, RaiseCalls.CanDelay};
+ghost use Rattle.shop_states.specs.inner.{LaidLanes.{HasRaisedIn, rows_in}, RaiseCalls.CanDelay};
+ghost use Rattle.shop_states.specs.inner.MachineRaises.{AreEmpty, CanTakeSpans, CanTakeSpansUnder, TakesSpans};
 ghost use Rattle.shop_states.specs.inner.{Raises.IsOnMachine, Watchers.AreKnown};
 ghost use Rattle.shop_states.specs.inner.Siblings.{BoundsRaises, CanRaiseLate, HasRaisedBehind, IsLateOn};
 
 use crate::dispatches::{Dispatch, MOST_MARKED};
-use crate::lane_bounds::{
-    BoundRange, LaidLanes, kept_ceiling, machine_bound, take_any_spans, take_spans_of,
-};
+use crate::lane_bounds::{BoundRange, kept_ceiling, machine_bound, take_any_spans, take_spans_of};
 use crate::lane_raises::{LaneRaise, no_raise, take_raise};
 use crate::late_raises::{LateMachine, raise_late};
 use crate::machine_sets::MachineSet;
@@ -97,27 +95,28 @@ impl<L: StateLanes> MachineRaises<L> {
     pub(crate) fn take_bound(
         &mut self,
         raised: MachineSet,
-        laid: &LaidLanes<L>,
+        lanes: &L,
+        grid: &Grid<L>,
         range: &BoundRange,
     ) -> u64
         requires limit { range.now.limit < 2 ^ 63 }
         requires below { range.now.least < range.now.limit }
-        requires can { CanTakeSpansIn L.StateLanes laid.now range.now.ceilings.now self.old raised
-            (range.now.least + 1) }
-        ensures { TakesSpansIn L.StateLanes laid.now self.old self.new (range.now.least + 1) (range.now.limit + 1)
-            (result + 1) }
+        requires can { CanTakeSpansUnder L.GREATEST range.now.ceilings.now self.old raised grid.now
+            (rows_in L.StateLanes grid.now lanes.now) (range.now.least + 1) }
+        ensures { TakesSpans grid.now (rows_in L.StateLanes grid.now lanes.now) self.old self.new
+            (range.now.least + 1) (range.now.limit + 1) (result + 1) }
     {
         let raises = self.raises.as_mut_slice();
-        let each = laid.grid.fixed_blocks_each();
+        let each = grid.fixed_blocks_each();
         let higher = BoundRange {
             least: range.least + 1,
             limit: range.limit + 1,
             ceilings: range.ceilings,
         };
         if each == 0 {
-            return take_any_spans(raises, raised, laid, &higher) - 1;
+            return take_any_spans(raises, raised, lanes, grid, &higher) - 1;
         }
-        take_spans_of(each, raises, raised, laid, &higher) - 1
+        take_spans_of(each, raises, raised, lanes, grid, &higher) - 1
     }
 
     /// Raises heads on routes after the operations that wait on a late machine, as `late_raises::raise_late` does.
@@ -150,19 +149,20 @@ impl<L: StateLanes> MachineRaises<L> {
     /// heads within its raise, or `u64::MAX` where that reaches `limit`. Returns the bound that the greatest ceiling
     /// means. Empties the raises.
     #[inline(always)]
-    pub(crate) fn take_ceilings(
+    pub(crate) fn take_ceilings<'a>(
         &mut self,
         raised: MachineSet,
         ceilings: &mut [u64],
-        laid: &LaidLanes<L>,
+        lanes: &'a L,
+        grid: &'a Grid<'_, L>,
         least: u64,
         limit: u64,
     ) -> u64
         requires least { least < 2 ^ 63 }
-        requires can { CanTakeSpans L.GREATEST self.old raised laid.now.grid.now (laid_rows L.heads L.ends laid.now) }
+        requires can { CanTakeSpans L.GREATEST self.old raised grid.now (rows_in L.StateLanes grid.now lanes.now) }
         requires room { length ceilings.old ≡ length self.old }
         requires computable { L.GREATEST < 2 ^ 64 }
-        ensures bounds { BoundsRaises laid.now.grid.now (laid_rows L.heads L.ends laid.now) self.old self.new
+        ensures bounds { BoundsRaises grid.now (rows_in L.StateLanes grid.now lanes.now) self.old self.new
             ceilings.new (least + 1) (result + 1) }
         ensures long { length ceilings.new ≡ length ceilings.old }
     {
@@ -170,13 +170,13 @@ impl<L: StateLanes> MachineRaises<L> {
         let lowest = least + 1;
         let most = limit.saturating_add(1);
         ceilings.fill(lowest);
-        let each = laid.grid.fixed_blocks_each();
-        let rows = laid.grid.rows(laid.lanes);
+        let each = grid.fixed_blocks_each();
+        let rows = grid.rows(lanes);
         let mut greatest = lowest;
         let mut left = raised;
         while let Some(machine) = left.pop_first() {
             let raise = take_raise::<L>(raises, machine);
-            let (from, to) = laid.grid.blocks_of(each, machine);
+            let (from, to) = grid.blocks_of(each, machine);
             let span = machine_bound::<L>(each, &rows.blocks(from, to), raise, lowest, most);
             let ceiling = kept_ceiling(span, most);
             ceilings[machine] = ceilings[machine].max(ceiling);

@@ -22,12 +22,13 @@ pub(crate) fn place_none<L: StateLanes>(
         next_legs.new ready.new free.new }
 {
     let instance = laid_out.instance();
-    let grid = laid_out.grid();
+    // called for its contract: it tells what the legs are laid out from
+    let _ = laid_out.grid();
     let mut first: usize = 0;
     for job in 0..next_legs.len() {
         next_legs[job] = first as u32;
         ready[job] = instance.release(job);
-        first += grid.places(job).len() + 1;
+        first += instance.route(job).len() + 1;
     }
     // each machine is free from time 0 on
     free.fill(0);

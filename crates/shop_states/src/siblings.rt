@@ -9,7 +9,6 @@ ghost use Rattle.shop_states.specs.inner.{Advances.IsAdvancing, Ceilings.AreChil
 ghost use Rattle.shop_states.specs.inner.{LaneStates.IsKeptInLanes, MachineRaises.AreEmpty};
 ghost use Rattle.shop_states.specs.inner.Siblings.{AreLatest, AreSiblings, CanBoundChildren, CanEnd, end_by, job_at};
 
-use crate::lane_bounds::LaidLanes;
 use crate::late_raises::{LateMachine, Latest};
 use crate::machine_raises::MachineRaises;
 use crate::states::Candidate;
@@ -115,6 +114,5 @@ pub(crate) fn bound_children<L: StateLanes>(
     };
     let raised = raises.raise_late(lanes, &routes, late);
     let limit = greatest_own(candidates, bound).saturating_add(2);
-    let laid = LaidLanes { lanes, grid };
-    raises.take_ceilings(raised, ceilings, &laid, bound, limit)
+    raises.take_ceilings(raised, ceilings, lanes, grid, bound, limit)
 }

@@ -2,15 +2,13 @@
 --     rows_in g l lanes          the heads and ends of lanes, with the times and tails of the layout
 --     KeepsWord g l s shop w     the state s is that of word w
 --     RaisesIn, HasRaisedIn ..   `Raises` and `HasRaised` of the rows of old and new lanes
---     laid_rows heads ends laid  the rows of `laid`, where `heads` and `ends` read lanes
---     CanTakeSpansIn, TakesSpansIn ..  `CanTakeSpansUnder` and `TakesSpans` of the rows of `laid`
 use Rattle.std.specs.Prelude.{ℕ, List}
 use Rattle.shop_lanes.specs.{Rows.Rows, declared.state_lanes.StateLanes.Ghosts}
 use Rattle.shop_model.specs.Shop.{Shop}
 use Rattle.shop_layout.specs.{Lanes.rows_of, Positions.LayoutState}
-use Rattle.shop_states.specs.{declared.lane_bounds.LaidLanes.LaidLanes, declared.states.State.State}
+use Rattle.shop_states.specs.declared.states.State.{State}
 use Rattle.shop_states.specs.{inner.LaneRaises.Raise, inner.LaneStates.IsKeptInLanes, inner.RaiseCalls.HasRaised}
-use Rattle.shop_states.specs.inner.{MachineRaises.{CanTakeSpansUnder, TakesSpans}, Raises.Raises}
+use Rattle.shop_states.specs.inner.Raises.{Raises}
 
 module _ {L N : Type 0} (g : Ghosts L N) (l : LayoutState) where
   abbrev pub rows_in : L → Rows
@@ -24,14 +22,3 @@ module _ {L N : Type 0} (g : Ghosts L N) (l : LayoutState) where
 
   abbrev pub HasRaisedIn : List ℕ → (ℕ → Type 0) → ℕ → L → L → List Raise → List Raise → List ℕ → Type 0
   HasRaisedIn nexts among e old new = HasRaised g.GREATEST l nexts among e (rows_in old) (rows_in new)
-
-abbrev pub laid_rows : {L N : Type 0} → (L → List ℕ) → (L → List ℕ) → LaidLanes L N → Rows
-laid_rows heads ends laid = rows_of laid.grid.now (heads laid.lanes.now) (ends laid.lanes.now)
-
-module _ {L N : Type 0} (g : Ghosts L N) (laid : LaidLanes L N) where
-  abbrev pub CanTakeSpansIn : List ℕ → List Raise → List ℕ → ℕ → Type 0
-  CanTakeSpansIn ceilings raises raised least =
-      CanTakeSpansUnder g.GREATEST ceilings raises raised laid.grid.now (laid_rows g.heads g.ends laid) least
-
-  abbrev pub TakesSpansIn : List Raise → List Raise → ℕ → ℕ → ℕ → Type 0
-  TakesSpansIn = TakesSpans laid.grid.now (laid_rows g.heads g.ends laid)

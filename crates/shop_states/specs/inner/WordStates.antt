@@ -30,7 +30,8 @@ module _ {L N : Type 0} (g : Ghosts L N) (d : LaidOutState) where
 
   -- no record, so that proofs of a walk don't look into it
   pub data IsStateOf (w : List ℕ) (s : State L N) : Type 0 where
-    of_word : IsKeptFor g.GREATEST d w (rows_of d.layout (g.heads s.lanes) (g.ends s.lanes)) s.next.items → IsStateOf w s
+    of_word : IsKeptFor g.GREATEST d w (rows_of d.layout (g.heads s.lanes) (g.ends s.lanes)) s.next.items
+        → IsStateOf w s
 
   abbrev pub IsStateWith : Candidate → State L N → List ℕ → Type 0
   IsStateWith c s w = IsStateOf w s × IsCandidate d w c

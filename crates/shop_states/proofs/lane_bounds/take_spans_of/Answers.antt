@@ -1,6 +1,6 @@
 use Rattle.std.proofs.{Common.{List, subst, sym, refl, arith}, lemmas.List.length-map}
 use Rattle.shop_layout.specs.Lanes.{lanes_on}
-use Rattle.shop_states.specs.inner.{LaneRaises.{Raise, nothing_raised, raise_in, raises_in}, LaidLanes.laid_rows}
+use Rattle.shop_states.specs.inner.{LaneRaises.{Raise, nothing_raised, raise_in, raises_in}, LaidLanes.rows_in}
 use Rattle.shop_states.proofs.LookedUpRows.{can_bound, cut_ordered, cut_span, cut_within, its_blocks, its_known}
 use Rattle.shop_states.proofs.LookedUpRows.{its_small}
 use Rattle.shop_states.proofs.RaisedMachines.{IsTakenSo, first_known, taken_all, taken_more, taken_passed}
@@ -33,7 +33,7 @@ machine_bound-most-requires g c =
 
 pub loop-machine-preserved-then-not-is_ceiling_within : goal.loop-machine-preserved-then-not-is_ceiling_within
 loop-machine-preserved-then-not-is_ceiling_within g c =
-    let on = lanes_on (laid_rows g.L.StateLanes.heads g.L.StateLanes.ends c.args.laid.now) c.args.laid.now.grid.now
+    let on = lanes_on (rows_in g.L.StateLanes c.args.grid.now c.args.lanes.now) c.args.grid.now
     in let old = raises_in g.L.StateLanes.value c.args.raises.now
     in let left = c.loop-machine.invariant.left in let rows = c.rows-rows.ensures
     in let blocks = c.blocks_of-from.ensures
@@ -46,7 +46,7 @@ loop-machine-preserved-then-not-is_ceiling_within g c =
 
 pub loop-machine-preserved : goal.loop-machine-preserved
 loop-machine-preserved g c =
-    let on = lanes_on (laid_rows g.L.StateLanes.heads g.L.StateLanes.ends c.args.laid.now) c.args.laid.now.grid.now
+    let on = lanes_on (rows_in g.L.StateLanes c.args.grid.now c.args.lanes.now) c.args.grid.now
     in let old = raises_in g.L.StateLanes.value c.args.raises.now
     in let so = c.loop-machine.invariant
     in let few = c.is_ceiling_within.ensures c.if-not-is_ceiling_within.false

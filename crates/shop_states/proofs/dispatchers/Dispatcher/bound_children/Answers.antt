@@ -44,7 +44,8 @@ returns-clause-bounded g c = rw (← c.self.view_is) (λ w limit others of bound
           bound_there_is (max c.args.bound own.own) refl
           in let its = subst (λ (j : ℕ). IsAdvancing g.L.StateLanes.GREATEST shop w c.grid-grid.result.now
           (rows_of c.grid-grid.result.now (g.L.StateLanes.heads c.copy_from.new.self) (g.L.StateLanes.ends
-          c.copy_from.new.self)) c.as_slice-next.result.now j (max c.args.bound own.own)) (sym (same k d here)) advancing
+          c.copy_from.new.self)) c.as_slice-next.result.now j (max c.args.bound own.own)) (sym (same k d here))
+          advancing
           in sym (bound_behind (kept_of of) own.job candidate.fits)
           ∙ subst (λ (j : ℕ). lb shop (w ++ j ∷ []) ≡ max c.args.bound own.own) (same k d here)
           (c.bound_children.ensures.settled shop w copied siblings bound_there_is k (max c.args.bound own.own) here its

@@ -105,5 +105,6 @@ invariant_of-self-2 g c =
 
 pub returns-in_err-told-clause-slot : goal.returns-in_err-told-clause-slot
 returns-in_err-told-clause-slot g c = record {
-  room = room_kept (kept_of c.requires.can.is.0) _ _ _ c.advance_below.ensures.positions c.advance_below.ensures.ends refl;
+  room = room_kept (kept_of c.requires.can.is.0) _ _ _ c.advance_below.ensures.positions c.advance_below.ensures.ends
+      refl;
 }

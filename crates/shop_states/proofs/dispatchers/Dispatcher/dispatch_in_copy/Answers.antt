@@ -1,7 +1,7 @@
 use Rattle.std.proofs.Common.{◌∙◌, refl, sym}
 use Rattle.shop_states.proofs.CandidateDispatches.{candidate_can, candidate_kept, candidate_told, its_ceilings}
-use Rattle.shop_states.proofs.{AskedStates.{bound_there, state_on, told_behind}, KeptRoom.{buffers_kept, room_kept, slot_of}}
-use Rattle.shop_states.proofs.AskedStates.{kept_of}
+use Rattle.shop_states.proofs.AskedStates.{bound_there, kept_of, state_on, told_behind}
+use Rattle.shop_states.proofs.KeptRoom.{buffers_kept, room_kept, slot_of}
 use Rattle.shop_states.proofs.dispatchers.Dispatcher.dispatch_in_copy.Goals as goal
 
 pub dispatch_in_copy-requires-clause-can : goal.dispatch_in_copy-requires-clause-can

@@ -2,7 +2,7 @@ use Rattle.std.proofs.Common.{◌+◌, ◌<◌, ◌∙◌, ap, inl, inr, List, a
 use Rattle.std.proofs.lemmas.List.{length-map, length-set}
 use Rattle.shop_layout.specs.Lanes.{lanes_on}
 use Rattle.shop_states.specs.inner.LaneRaises.{Raise, nothing_raised, raise_in, raise_of, raises_in}
-use Rattle.shop_states.{specs.inner.LaidLanes.laid_rows, proofs.LookedUpRows.{can_bound, cut_ordered}}
+use Rattle.shop_states.{specs.inner.LaidLanes.rows_in, proofs.LookedUpRows.{can_bound, cut_ordered}}
 use Rattle.shop_states.proofs.{LookedUpRows.{cut_span, cut_within, its_known}, FittingSpans.spans_within}
 use Rattle.shop_states.proofs.RaisedMachines.{IsFoundSo, first_known, found_all, found_begins, found_more}
 use Rattle.shop_states.proofs.WrittenRaises.{bounds_written, few_written, long_given}
@@ -36,7 +36,7 @@ pub loop-machine-preserved : goal.loop-machine-preserved
 loop-machine-preserved g c =
     let so = c.loop-machine.invariant.found
     in let can = c.requires.can in let rows = c.rows-rows.ensures in let blocks = c.blocks_of-from.ensures
-    in let on = lanes_on (laid_rows g.L.StateLanes.heads g.L.StateLanes.ends c.args.laid.now) c.args.laid.now.grid.now
+    in let on = lanes_on (rows_in g.L.StateLanes c.args.grid.now c.args.lanes.now) c.args.grid.now
     in let old = c.args.self.now
     in let m = c.in-Some.machine
     in let known = its_known can so.left c.in-Some.ensures
