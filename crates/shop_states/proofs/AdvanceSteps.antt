@@ -7,7 +7,7 @@ use Rattle.shop_model.specs.{Shop.{Shop, IsOperation, machine_of, time_of}, Word
 use Rattle.shop_model.proofs.{Placings.{IsNext, place_next-is}, Unders.{placing-snoc, next_operation, after_word}}
 use Rattle.shop_bound.{specs.Heads.head_of, proofs.HeadTurns.ready_first}
 use Rattle.shop_states.specs.inner.{LaneEnds.IsEndOf, LaneHeads.AreHeadsAt, LaneStates.AreHeadsInLanes}
-use Rattle.shop_states.specs.inner.Raises.{AreFirst, HasBlocks, IsLeastRaise, IsOnMachine, IsRaisable, Raises}
+use Rattle.shop_states.specs.inner.Raises.{AreFirst, AsksOwn, HasBlocks, IsLeastRaise, IsOnMachine, IsRaisable, Raises}
 use Rattle.shop_states.proofs.RaisedHeads.{left, raisable, raised, has_blocks}
 use Rattle.shop_layout.{specs.Positions.{LayoutState, place, first_position}, proofs.LaidPlaces.place_of}
 
@@ -104,15 +104,15 @@ module _ {greatest : ℕ} {shop : Shop} {l : LayoutState} {rows : Rows} {w : Lis
       lifted_firsts : AreFirst l nexts lifted.heads
       lifted_firsts = grind (arith, lifted_here, lifted_none)
 
-      pub lifted_raisable : IsRaisable greatest l nexts lifted (IsOnMachine l m) (h + t)
+      pub lifted_raisable : IsRaisable greatest l nexts lifted (IsOnMachine l m) (AsksOwn (h + t))
       lifted_raisable =
-          subst (λ (x : ℕ). IsRaisable greatest l nexts lifted (IsOnMachine l x) (h + t)) (sym on)
+          subst (λ (x : ℕ). IsRaisable greatest l nexts lifted (IsOnMachine l x) (AsksOwn (h + t))) (sym on)
           (raisable kept.limits kept.laid next_is first_left (left kept.limits kept.laid next_is first_left kept.heads)
-          (end_is is read timed) greatest nexts lifted lifted_firsts
-          (let a = ap length lifted_ends in omega arith) lifted_heads lifted_times kept.computable next_fits)
+          (end_is is read timed) lifted_heads lifted_times lifted_firsts
+          (let a = ap length lifted_ends in omega arith) kept.computable next_fits)
 
     module _ {nexts : List ℕ} {new : Rows}
-        (raising : Raises greatest l nexts (IsOnMachine l m) (h + t) lifted new) where
+        (raising : Raises greatest l nexts (IsOnMachine l m) (AsksOwn (h + t)) lifted new) where
       pub advanced_times : new.times ≡ rows.times
       advanced_times = raising.times ∙ ap (λ (r : Rows). r.times) wrote
 
@@ -148,9 +148,9 @@ module _ {greatest : ℕ} {shop : Shop} {l : LayoutState} {rows : Rows} {w : Lis
         heads = subst (λ (p : Placing). AreHeadsAt shop p l new.heads) (sym (placing-snoc shop w j))
             (raised kept.limits kept.laid next_is first_left (left kept.limits kept.laid next_is first_left
             kept.heads) (end_is is read timed)
-            (subst (λ (x : ℕ). IsLeastRaise l (IsOnMachine l x) (h + t)
+            (subst (λ (x : ℕ). IsLeastRaise l (IsOnMachine l x) (AsksOwn (h + t))
             (set rows.heads (place l j (before.steps j)) 0)
             new.heads) on
-            (subst (λ (xs : List ℕ). IsLeastRaise l (IsOnMachine l m) (h + t) xs new.heads) lifted_heads
+            (subst (λ (xs : List ℕ). IsLeastRaise l (IsOnMachine l m) (AsksOwn (h + t)) xs new.heads) lifted_heads
             raising.raised)));
       }

@@ -6,13 +6,14 @@ use Rattle.std.proofs.Math.Seq.{get_or-append_seam}
 use Rattle.shop_lanes.specs.Rows.{Rows}
 use Rattle.shop_model.specs.{Shop.{Shop, IsOperation, machine_of}, Word.{IsWord, Placing, place_next, placing}}
 use Rattle.shop_model.proofs.Unders.{placing-snoc}
-use Rattle.shop_bound.specs.Heads.{head_of}
+use Rattle.shop_bound.{specs.Heads.head_of, proofs.HeadsStay.steps_rise}
 use Rattle.shop_layout.specs.{HeadLimits.latest_end, Positions.{LayoutState, first_position, place}}
-use Rattle.shop_layout.proofs.{LaidPlaces.{IsOperationAt, each_position, place_of}, LatestEnds.latest_end_is}
+use Rattle.shop_layout.proofs.{LaidPlaces.place_of, LatestEnds.latest_end_is}
 use Rattle.shop_states.specs.inner.{LaneHeads.{AreHeadsAt, AreStored}, LaneStates.AreHeadsInLanes}
-use Rattle.shop_states.{specs.inner.Raises.{AreInRouteOrder, IsOnMachine, IsRaised, at_in}, proofs.RaisedHeads.waits_at}
+use Rattle.shop_states.specs.inner.Raises.{AreInRouteOrder, AsksOwn, IsOnMachine, IsRaised, at_in}
 use Rattle.shop_states.proofs.{AdvanceSteps.{first_left, next_fits, next_is, within}, ChildReads.left_stored}
-use Rattle.shop_states.proofs.RaisedHeads.{in_order, target, target_at, target_least, target_none, target_raised}
+use Rattle.shop_states.proofs.RaisedHeads.{each_waiting, in_order, target, target_at, target_least}
+use Rattle.shop_states.proofs.RaisedHeads.{target_none, target_raised}
 
 -- the list of the first values of a function
 abbrev values : (ℕ → ℕ) → ℕ → List ℕ
@@ -56,65 +57,53 @@ module _ {greatest : ℕ} {shop : Shop} {w : List ℕ} {l : LayoutState} {rows :
   child_head = target kept.limits kept.laid (next_is j kept fits) (first_left j kept fits) stored
 
   pub child_raised : IsRaised l (IsOnMachine l (machine_of shop j ((placing shop w).steps j)))
-      ((place_next shop (placing shop w) j).free (machine_of shop j ((placing shop w).steps j)) + 1)
+      (AsksOwn ((place_next shop (placing shop w) j).free (machine_of shop j ((placing shop w).steps j)) + 1))
       (at_in (set rows.heads (place l j ((placing shop w).steps j)) 0)) child_head
   unfolding child_head
   child_raised = target_raised kept.limits kept.laid (next_is j kept fits) (first_left j kept fits) stored refl
 
   pub struck_order : AreInRouteOrder l (at_in (set rows.heads (place l j ((placing shop w).steps j)) 0))
-  struck_order = in_order kept.limits kept.laid (next_is j kept fits) (first_left j kept fits) stored
+  struck_order = in_order kept.limits kept.laid (placing shop w) stored
+      (steps_rise shop (placing shop w) j (place_next shop (placing shop w) j) (next_is j kept fits))
 
   nothing : (q : ℕ) → get_or (set rows.heads (place l j ((placing shop w).steps j)) 0) q 0 ≡ 0 → child_head q ≡ 0
   unfolding child_head
   nothing = target_none kept.limits kept.laid (next_is j kept fits) (first_left j kept fits) stored
 
   least_head : (other : ℕ → ℕ) → IsRaised l (IsOnMachine l (machine_of shop j ((placing shop w).steps j)))
-      ((place_next shop (placing shop w) j).free (machine_of shop j ((placing shop w).steps j)) + 1)
+      (AsksOwn ((place_next shop (placing shop w) j).free (machine_of shop j ((placing shop w).steps j)) + 1))
       (at_in (set rows.heads (place l j ((placing shop w).steps j)) 0)) other
       → (q : ℕ) → child_head q ≤ other q
   unfolding child_head
   least_head other raised =
       target_least kept.limits kept.laid (next_is j kept fits) (first_left j kept fits) stored refl raised
 
-  -- an operation that is left stands where a head is
-  left_at : (q : ℕ) → 0 < child_head q → (o : IsOperationAt shop l q)
-      × ((place_next shop (placing shop w) j).steps o.job ≤ o.step)
-  unfolding child_head
-  left_at q some = elim (cases_eq (get_or (set rows.heads (place l j ((placing shop w).steps j)) 0) q 0) 0) [
-    | inl none ↦ grind (arith, target_none, next_is, first_left)
-    | inr waits ↦ waits_at kept.limits kept.laid (next_is j kept fits) (first_left j kept fits) stored q (omega arith)
-  ]
-
   head_at : (i k : ℕ) → IsOperation shop i k → (place_next shop (placing shop w) j).steps i ≤ k
       → child_head (place l i k) ≡ head_of shop (place_next shop (placing shop w) j) i k + 1
   unfolding child_head
   head_at = target_at kept.limits kept.laid (next_is j kept fits) (first_left j kept fits) stored
 
+  -- what is so of each operation that is left is so where a head is
+  each_left : (P : ℕ → Type 0) → ((i k : ℕ) → IsOperation shop i k
+      → (place_next shop (placing shop w) j).steps i ≤ k → P (place l i k)) → (q : ℕ) → 0 < child_head q → P q
+  each_left P each q some =
+      elim (cases_eq (get_or (set rows.heads (place l j ((placing shop w).steps j)) 0) q 0) 0) [
+        | inl none ↦ (let a = nothing q none in absurd (omega arith))
+        | inr waits ↦ each_waiting kept.limits kept.laid stored P each q (omega arith)
+      ]
+
   pub child_fits : (q : ℕ) → 0 < child_head q → child_head q + get_or l.times q 0 ≤ greatest
-  child_fits q some =
-      let left = left_at q some in let o = left.0
-      in let head = head_at o.job o.step o.is left.1
-      in let same : child_head (place l o.job o.step) ≡ child_head q = ap child_head o.at
-      in let time = (place_of shop kept.limits l kept.laid o.job o.step o.is).time
-      in let at : get_or l.times (place l o.job o.step) 0 ≡ get_or l.times q 0 = ap (λ (x : ℕ). get_or l.times x 0) o.at
-      in let fit = next_fits j kept fits o.job o.step o.is left.1 in omega arith
+  child_fits = each_left (λ q. child_head q + get_or l.times q 0 ≤ greatest) (λ i k op opened.
+      let head = head_at i k op opened in let time = (place_of shop kept.limits l kept.laid i k op).time
+      in let fit = next_fits j kept fits i k op opened in omega arith)
 
   pub child_small : (q : ℕ) → child_head q ≤ latest_end shop + 1
   child_small q = elim (cases_lt 0 (child_head q)) [
     | inr none ↦ omega arith
-    | inl some ↦ (
-        let left = left_at q some in let o = left.0
-        in let head = head_at o.job o.step o.is left.1
-        in let same : child_head (place l o.job o.step) ≡ child_head q = ap child_head o.at
-        in let is = placing-snoc shop w j
-        in let steps : (placing shop (w ++ j ∷ [])).steps o.job
-        ≡ (place_next shop (placing shop w) j).steps o.job = ap (λ (p : Placing). p.steps o.job) is
-        in let heads : head_of shop (placing shop (w ++ j ∷ [])) o.job o.step
-        ≡ head_of shop (place_next shop (placing shop w) j) o.job o.step =
-        ap (λ (p : Placing). head_of shop p o.job o.step) is
-        in let open' = left.1
-        in let low = latest_end_is shop (w ++ j ∷ []) fits o.job o.step o.is (omega arith)
-        in omega arith)
+    | inl some ↦ each_left (λ x. child_head x ≤ latest_end shop + 1) (λ i k op opened.
+        let head = head_at i k op opened in let is = placing-snoc shop w j
+        in let steps = ap (λ (p : Placing). p.steps i) is in let heads = ap (λ (p : Placing). head_of shop p i k) is
+        in let low = latest_end_is shop (w ++ j ∷ []) fits i k op (omega arith) in omega arith) q some
   ]
 
   -- a list of these heads, and that any list of the child's heads has no greater ones than raised heads
@@ -136,18 +125,12 @@ module _ {greatest : ℕ} {shop : Shop} {w : List ℕ} {l : LayoutState} {rows :
 
   pub heads_least : {now : List ℕ} → AreHeadsAt shop (place_next shop (placing shop w) j) l now → (other : ℕ → ℕ)
       → IsRaised l (IsOnMachine l (machine_of shop j ((placing shop w).steps j)))
-      ((place_next shop (placing shop w) j).free (machine_of shop j ((placing shop w).steps j)) + 1)
+      (AsksOwn ((place_next shop (placing shop w) j).free (machine_of shop j ((placing shop w).steps j)) + 1))
       (at_in (set rows.heads (place l j ((placing shop w).steps j)) 0)) other
       → (q : ℕ) → get_or now q 0 ≤ other q
-  heads_least {now} are other raised q = elim (each_position shop kept.limits l kept.laid q) [
-    | inl o ↦ (let at : get_or now (place l o.job o.step) 0 ≡ get_or now q 0 = ap (λ (x : ℕ). get_or now x 0) o.at
-        in elim (cases_lt o.step ((place_next shop (placing shop w) j).steps o.job)) [
-          | inl before ↦ (let a = are.placed o.job o.step o.is before in omega arith)
-          | inr opened ↦ (let a = are.waiting o.job o.step o.is opened
-              in let b = head_at o.job o.step o.is opened
-              in let c = least_head other raised q
-              in let d : child_head (place l o.job o.step) ≡ child_head q = ap child_head o.at
-              in omega arith)
-        ])
-    | inr free ↦ (let a = are.padding q free in omega arith)
+  heads_least {now} are other raised q = elim (cases_lt 0 (get_or now q 0)) [
+    | inr none ↦ omega arith
+    | inl some ↦ each_waiting kept.limits kept.laid are (λ x. get_or now x 0 ≤ other x) (λ i k op opened.
+        let is = are.waiting i k op opened in let head = head_at i k op opened
+        in let least = least_head other raised (place l i k) in omega arith) q some
   ]

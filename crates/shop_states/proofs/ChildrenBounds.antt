@@ -6,14 +6,14 @@ use Rattle.shop_model.specs.{Shop.{Shop, machine_of}, Word.placing}
 use Rattle.shop_bound.{specs.Bound.lb, proofs.SmallSums.sums_small}
 use Rattle.shop_layout.specs.{HeadLimits.latest_end, Lanes.{lanes_on, rows_of}, Positions.LayoutState}
 use Rattle.shop_states.proofs.{CeilingLemmas.IsCeiling, LaneFits.spans_fit, OwnSpans.its_machine}
-use Rattle.shop_states.proofs.{LateHeads.{can_end, can_late, its_word, now_small, second_low}, RaisedHeads.has_blocks}
-use Rattle.shop_states.proofs.LateSpans.{child_ceilings, late_ceiling, settled}
+use Rattle.shop_states.proofs.LateHeads.{can_end, can_late, ends_fit, its_word, now_small, second_low}
+use Rattle.shop_states.proofs.{LateSpans.{child_ceilings, late_ceiling, settled}, RaisedHeads.has_blocks}
 use Rattle.shop_states.specs.declared.{late_raises.Latest.Latest, states.Candidate.Candidate}
 use Rattle.shop_states.specs.inner.{Advances.IsAdvancing, Ceilings.AreChildCeilings, LaneRaises.{Raise, raise_of}}
 use Rattle.shop_states.specs.inner.{LaneStates.IsKeptInLanes, MachineRaises.{AreEmpty, AreRaisesFit}}
-use Rattle.shop_states.specs.inner.{Raises.{HasBlocks, IsInBlocks}, Watchers.{AreSeen, Watches, no_floor}}
-use Rattle.shop_states.specs.inner.Siblings.{AreLatest, AreSiblings, BoundsRaises, CanRaiseLate, IsAmong, IsLateAt}
-use Rattle.shop_states.specs.inner.Siblings.{RaisesBehind, end_by, job_at}
+use Rattle.shop_states.specs.inner.Raises.{AsksNext, HasBlocks, IsInBlocks, Raises}
+use Rattle.shop_states.specs.inner.Siblings.{AreLatest, AreSiblings, BoundsRaises, CanRaiseLate, IsAmong, end_by}
+use Rattle.shop_states.specs.inner.{Siblings.{free_late, job_at}, Watchers.{AreSeen, Watches, no_floor}}
 
 module _ {greatest : ℕ} {shop : Shop} {w : List ℕ} {l : LayoutState} {hs es nexts : List ℕ}
     (kept : IsKeptInLanes greatest shop w l (rows_of l hs es) nexts) {cs : List Candidate}
@@ -52,13 +52,14 @@ module _ {greatest : ℕ} {shop : Shop} {w : List ℕ} {l : LayoutState} {hs es 
         within = omega arith;
         second = second_low kept siblings latest;
         fits = omega arith;
+        ends = ends_fit kept siblings latest (its_from from_is) (its_to behind_is);
         can = can_late kept siblings latest (its_from from_is) (its_to behind_is);
       }
 
   module _ {from to : ℕ} (from_is : from ≡ get_or l.blocks m 0) (to_is : to ≡ get_or l.blocks (m + 1) 0)
       {now : Rows}
-      (raises : RaisesBehind l (IsLateAt (IsInBlocks from to) (get_or nexts t.job 0) t.end t.second) (rows_of l hs es)
-      now) where
+      (raises : Raises greatest l [] (IsInBlocks from to) (AsksNext l (free_late (get_or nexts t.job 0) t))
+      (rows_of l hs es) now) where
     module _ {before after : List Raise} (empty : AreEmpty before) (many : length before ≡ shop.machines)
         (noted : Watches no_floor l.machines hs now.heads before after) where
       seen : AreSeen no_floor l.machines after hs now.heads
@@ -67,7 +68,7 @@ module _ {greatest : ℕ} {shop : Shop} {w : List ℕ} {l : LayoutState} {hs es 
       pub late_raises_fit : AreRaisesFit greatest after l now
       late_raises_fit =
           let spans = spans_fit kept.kept.limits kept.kept.laid greatest kept.holds now raises.times raises.tails
-          (raises.positions ∙ kept.kept.heads.positions)
+          (raises.raised.positions ∙ kept.kept.heads.positions)
           in let known = spans.known in let long = noted.long
           in let up_to = noted.up_to (latest_end shop + 1) (now_small kept siblings latest (its_from from_is)
           (its_to to_is) raises)

@@ -11,9 +11,9 @@ use Rattle.shop_bound.specs.Heads.{head_of, ready_after}
 use Rattle.shop_states.specs.inner.{LaneChoices.{AreEndsAt, AreNextsAt, IsJobBelow}, Raises.{HasBlocks, IsOnMachine}}
 use Rattle.shop_states.specs.inner.RisingLists.{IsIn, Rises, IsGatheredWith}
 use Rattle.shop_states.proofs.NextOperations.{next_is, next_placed, next_there, stored_end, stored_head}
-use Rattle.shop_states.proofs.{RaisedHeads.has_blocks, RisingLists.{none_in, one_rising}}
+use Rattle.shop_states.proofs.{RaisedHeads.{each_waiting, has_blocks}, RisingLists.{none_in, one_rising}}
 use Rattle.shop_layout.specs.Positions.{LayoutState, place, first_position}
-use Rattle.shop_layout.proofs.LaidPlaces.{each_position, place_of, on_machine}
+use Rattle.shop_layout.proofs.LaidPlaces.{on_machine, place_of}
 
 -- all that the choice by lanes stands on
 pub record AreChoosable (greatest : ℕ) (shop : Shop) (p : Placing) (l : LayoutState) (nexts : List ℕ)
@@ -130,24 +130,16 @@ module _ {shop : Shop} {p : Placing} {l : LayoutState} {nexts : List ℕ} {rows 
   module _ (limit : ℕ) (least : (i : ℕ) → IsOperation shop i (p.steps i) → limit ≤ next_end shop p i + 1) where
     waits_next : (q : ℕ) → 0 < get_or rows.heads q 0 → get_or rows.heads q 0 < limit
         → IsOperation shop (get_or l.jobs q 0) (p.steps (get_or l.jobs q 0)) × (get_or nexts (get_or l.jobs q 0) 0 ≡ q)
-    waits_next q waits below = elim (each_position shop can.limits l can.laid q) [
-      | inl o ↦ (let at = o.at
-          in let here = ap (λ (x : ℕ). get_or rows.heads x 0) at
-          in let job : o.job ≡ get_or l.jobs q 0 =
-          sym (place_of shop can.limits l can.laid o.job o.step o.is).job ∙ ap (λ (x : ℕ). get_or l.jobs x 0) at
-          in elim (cases_lt o.step (p.steps o.job)) [
-            | inl before ↦ absurd (let a = can.heads.placed o.job o.step o.is before in omega arith)
-            | inr opened ↦ (let a = can.heads.waiting o.job o.step o.is opened
-                in elim (cases_lt (p.steps o.job) o.step) [
-                  | inl later ↦ grind (arith, later_head)
-                  | inr same ↦ (let e : o.step ≡ p.steps o.job = omega arith
-                      in let op = subst (IsOperation shop o.job) e o.is
-                      in subst (λ (j : ℕ). IsOperation shop j (p.steps j) × (get_or nexts j 0 ≡ q)) job
-                      (op, next_there can o.job op ∙ (ap (place l o.job) (sym e) ∙ at)))
-                ])
-          ])
-      | inr free ↦ absurd (let a = can.heads.padding q free in omega arith)
-    ]
+    waits_next q waits below = each_waiting can.limits can.laid can.heads (λ x. get_or rows.heads x 0 < limit
+        → IsOperation shop (get_or l.jobs x 0) (p.steps (get_or l.jobs x 0)) × (get_or nexts (get_or l.jobs x 0) 0 ≡ x))
+        (λ i k op opened low.
+        let a = can.heads.waiting i k op opened
+        in elim (cases_lt (p.steps i) k) [
+          | inl later ↦ grind (arith, later_head)
+          | inr same ↦ (let e : k ≡ p.steps i = omega arith in let here = subst (IsOperation shop i) e op
+              in rw (place_of shop can.limits l can.laid i k op).job
+              (here, next_there can i here ∙ ap (place l i) (sym e)))
+        ]) q waits below
 
     to_next : (among : ℕ → Type 0) (j : ℕ) → IsJobBelow l rows.heads among limit j
         → IsNextBelow nexts rows.heads among limit j

@@ -9,14 +9,15 @@ use Rattle.shop_layout.specs.{HeadLimits.latest_end, Lanes.rows_of, Positions.{L
 use Rattle.shop_layout.proofs.LaidPlaces.{place_of}
 use Rattle.shop_states.specs.declared.{late_raises.Latest.Latest, states.Candidate.Candidate}
 use Rattle.shop_states.specs.inner.{LaneHeads.AreHeadsAt, LaneStates.IsKeptInLanes, Watchers.floor_on}
-use Rattle.shop_states.specs.inner.Raises.{AreInRouteOrder, IsInBlocks, IsOnMachine, IsRaised, at_in, steps_of}
-use Rattle.shop_states.specs.inner.Siblings.{AreLatest, AreSiblings, CanEnd, CanRaiseBehind, IsAmong, IsLateAt}
-use Rattle.shop_states.specs.inner.Siblings.{IsRaisedBehind, RaisesBehind, end_by, job_at}
+use Rattle.shop_states.specs.inner.Raises.{AreInRouteOrder, AsksNext, AsksOwn, IsInBlocks, IsOnMachine}
+use Rattle.shop_states.specs.inner.Raises.{IsRaisable, IsRaised, Raises, at_in, steps_of}
+use Rattle.shop_states.specs.inner.Siblings.{AreLatest, AreSiblings, CanEnd, IsAmong, end_by, free_late, job_at}
+use Rattle.shop_states.proofs.{AskedHeads.{own_reached, reach_next, reach_own}, BehindRaises.{free_last, free_other}}
 use Rattle.shop_states.proofs.{AdvanceSteps.end_small, Candidates.head_is, ChildRaises.heads_small}
 use Rattle.shop_states.proofs.{ChildReads.{head_here, is_operation}, StateSteps.{next_at, next_known, within}}
 use Rattle.shop_states.proofs.ChildTargets.{child_fits, child_head, child_raised, child_small, heads_least, struck_here}
 use Rattle.shop_states.proofs.ChildTargets.{struck_low, struck_order, struck_other}
-use Rattle.shop_states.proofs.RaisedHeads.{followed, head_waits_at, heads_in_order, indexed, is_place, operation_in}
+use Rattle.shop_states.proofs.RaisedHeads.{fits_at, in_order, operation_in, raisable_to, waits_place}
 
 module _ {greatest : ℕ} {shop : Shop} {w : List ℕ} {l : LayoutState} {hs es nexts : List ℕ}
     (kept : IsKeptInLanes greatest shop w l (rows_of l hs es) nexts) {cs : List Candidate}
@@ -58,6 +59,9 @@ module _ {greatest : ℕ} {shop : Shop} {w : List ℕ} {l : LayoutState} {hs es 
     pub second_low : t.second ≤ t.end
     second_low = grind arith
 
+    own_order : AreInRouteOrder l (at_in hs)
+    own_order = in_order kept.kept.limits kept.kept.laid (placing shop w) kept.kept.heads (λ i. omega arith)
+
     -- some heads that are late enough behind the last candidate
     record IsBeside (b : ℕ → ℕ) : Type 0 where
       rests : (q : ℕ) → get_or hs q 0 ≡ 0 → b q ≡ 0
@@ -71,17 +75,12 @@ module _ {greatest : ℕ} {shop : Shop} {w : List ℕ} {l : LayoutState} {hs es 
     own_beside : t.second ≡ 0 → IsBeside (at_in hs)
     own_beside none = record {
       rests = λ q z. z;
-      order = heads_in_order kept.kept.limits kept.kept.laid (placing shop w) kept.kept.heads;
+      order = own_order;
       here = omega arith;
       second = omega arith;
-      fits = λ q some.
-          let at = head_waits_at kept.kept.limits kept.kept.laid (placing shop w) kept.kept.heads q some in let o = at.0
-          in let head = kept.kept.heads.waiting o.job o.step o.is at.1
-          in let same : get_or hs (place l o.job o.step) 0 ≡ get_or hs q 0 = ap (λ (x : ℕ). get_or hs x 0) o.at
-          in let time = (place_of shop kept.kept.limits l kept.kept.laid o.job o.step o.is).time
-          in let there : get_or l.times (place l o.job o.step) 0 ≡ get_or l.times q 0 =
-          ap (λ (x : ℕ). get_or l.times x 0) o.at
-          in let fit = kept.kept.fits w kept.kept.word o.job o.step o.is at.1 in omega arith;
+      fits = fits_at kept.kept.limits kept.kept.laid kept.kept.heads (at_in hs) (λ i k op opened.
+          let head = kept.kept.heads.waiting i k op opened
+          in let fit = kept.kept.fits w kept.kept.word i k op opened in omega arith);
       small = heads_small shop kept.kept.limits l kept.kept.laid w kept.kept.word hs kept.kept.heads;
     }
 
@@ -115,7 +114,7 @@ module _ {greatest : ℕ} {shop : Shop} {w : List ℕ} {l : LayoutState} {hs es 
         in let rises = raised.rises last
         in let some = last_waits
         in let end = its_end among
-        in let reach = raised.reach last (on_its (machine_of shop j ((placing shop w).steps j))
+        in let reach = own_reached raised last (on_its (machine_of shop j ((placing shop w).steps j))
         (same_machine j t.job among latest.last)) (omega arith)
         in record {
           rests = λ q none. raised.rests q (let low = struck_low kept.kept j fits q in omega arith);
@@ -144,10 +143,10 @@ module _ {greatest : ℕ} {shop : Shop} {w : List ℕ} {l : LayoutState} {hs es 
 
     module _ {from to : ℕ} (from_is : from ≡ get_or l.blocks machine 0)
         (to_is : to ≡ get_or l.blocks (machine + 1) 0) where
-      last_raised : IsRaised l (IsOnMachine l machine) t.end
+      last_raised : IsRaised l (IsOnMachine l machine) (AsksOwn t.end)
           (at_in (set hs (place l t.job ((placing shop w).steps t.job)) 0)) of_last
       unfolding of_last
-      last_raised = subst (λ (e : ℕ). IsRaised l (IsOnMachine l machine) e
+      last_raised = subst (λ (e : ℕ). IsRaised l (IsOnMachine l machine) (AsksOwn e)
           (at_in (set hs (place l t.job ((placing shop w).steps t.job)) 0))
           (child_head kept.kept t.job (its_word latest.last)))
           (sym (latest.end ∙ its_end latest.last)) (child_raised kept.kept t.job (its_word latest.last))
@@ -157,21 +156,41 @@ module _ {greatest : ℕ} {shop : Shop} {w : List ℕ} {l : LayoutState} {hs es 
           → get_or (set hs (place l t.job ((placing shop w).steps t.job)) 0) q 0 ≡ get_or hs q 0
       waits_there q ne = search (rules, struck_other, its_word, its_place)
 
-      late_raised : IsRaisedBehind l (IsLateAt (IsInBlocks from to) last t.end t.second) (at_in hs) late_head
+      late_rises : (q : ℕ) → get_or hs q 0 ≤ late_head q
       unfolding late_head
-      late_raised =
-          let b = beside.1
-          in record {
-            rises = λ q. grind (arith, cases_eq, beside, last_raised, waits_there);
-            rests = λ q none.
-                let low = struck_low kept.kept t.job (its_word latest.last) q
-                in let x = last_raised.rests q (omega arith) in let y = b.rests q none in omega arith;
-            order = λ j k two some. elim (cases_lt 0 (of_last (place l j k))) [
-              | inl first ↦ grind (arith, last_raised, cases_lt, beside)
-              | inr none ↦ (let y = b.order j k two (omega arith) in omega arith)
-            ];
-            behind = λ j k e two at waits. grind (arith, beside, waits_there, last_raised);
-          }
+      late_rises q = grind (arith, cases_eq, beside, last_raised, waits_there)
+
+      late_order : AreInRouteOrder l late_head
+      unfolding late_head
+      late_order j k two some = elim (cases_lt 0 (of_last (place l j k))) [
+        | inl first ↦ grind (arith, last_raised, cases_lt, beside)
+        | inr none ↦ (let y = beside.1.order j k two (omega arith) in omega arith)
+      ]
+
+      -- on the machine these heads are late enough
+      free_low : (q : ℕ) → IsInBlocks from to q → 0 < get_or hs q 0 → free_late last t q ≤ late_head q
+      unfolding late_head
+      free_low q here waits = elim (cases_eq q last) [
+        | inl is ↦ (let b = ap beside.0 is in let second = beside.1.second in let free = free_last last t is refl
+            in omega arith)
+        | inr ne ↦ (let same = waits_there q ne in let low = here.0 in let high = here.1
+            in let reach = own_reached last_raised q (omega arith, omega arith) (omega arith)
+            in let free = free_other last t ne refl in omega arith)
+      ]
+
+      late_raised : IsRaised l (IsInBlocks from to) (AsksNext l (free_late last t)) (at_in hs) late_head
+      unfolding late_head
+      late_raised = record {
+        rises = late_rises;
+        rests = λ q none.
+            let low = struck_low kept.kept t.job (its_word latest.last) q
+            in let x = last_raised.rests q (omega arith) in let y = beside.1.rests q none in omega arith;
+        order = late_order;
+        reach = λ p q v here asked waits.
+            let up = late_rises p
+            in reach_next late_head late_order (waits_place kept.kept.limits kept.kept.laid kept.kept.heads p waits)
+            (omega arith) (free_low p here waits) asked;
+      }
 
       late_fits : (q : ℕ) → 0 < late_head q → late_head q + get_or l.times q 0 ≤ greatest
       unfolding late_head of_last
@@ -182,44 +201,21 @@ module _ {greatest : ℕ} {shop : Shop} {w : List ℕ} {l : LayoutState} {hs es 
       late_small q = grind (arith, child_small, its_word, beside)
 
       -- an operation that begins when the machine is free ends in time
-      ends_fit : (q e : ℕ) → IsLateAt (IsInBlocks from to) last t.end t.second q e → 0 < get_or hs q 0
-          → e + get_or l.times q 0 ≤ greatest
-      unfolding late_head
-      ends_fit q e at waits =
-          let b = beside.1
-          in elim at.1 [
-            | inl it ↦ grind (arith, beside, late_fits)
-            | inr it ↦ (let same = waits_there q it.0 in let e_is = it.1 in let low = at.0.0 in let high = at.0.1
-                in let reach = last_raised.reach q (omega arith, omega arith) (omega arith)
-                in let up = last_raised.rises q
-                in let f = late_fits q (omega arith) in omega arith)
-          ]
+      pub ends_fit : (q : ℕ) → IsInBlocks from to q → 0 < get_or hs q 0
+          → free_late last t q + get_or l.times q 0 ≤ greatest
+      ends_fit q here waits =
+          let low = free_low q here waits in let up = late_rises q in let fits = late_fits q (omega arith)
+          in omega arith
 
-      pub can_late : CanRaiseBehind greatest l (rows_of l hs es) (IsLateAt (IsInBlocks from to) last t.end t.second)
-      can_late =
-          let limits = kept.kept.limits in let laid = kept.kept.laid in let heads = kept.kept.heads
-          in record {
-            indexed = indexed limits laid heads.positions;
-            followed = followed limits laid heads.positions;
-            machines = laid.machines_at.positions ∙ sym heads.positions;
-            times = refl;
-            timed = laid.positions.times ∙ sym heads.positions;
-            places = λ q some.
-                let at = head_waits_at limits laid (placing shop w) heads q some
-                in is_place limits laid at.0.job at.0.step q at.0.is at.0.at;
-            order = heads_in_order limits laid (placing shop w) heads;
-            other = late_head;
-            raised = late_raised;
-            fits = late_fits;
-            ends = ends_fit;
-            computable = kept.kept.computable;
-          }
+      pub can_late : IsRaisable greatest l [] (rows_of l hs es) (IsInBlocks from to) (AsksNext l (free_late last t))
+      can_late = raisable_to kept.kept.limits kept.kept.laid kept.kept.heads refl (grind arith) (omega arith)
+          kept.kept.computable own_order late_head late_raised late_fits
 
       -- the raised heads
-      module _ {now : Rows}
-          (raises : RaisesBehind l (IsLateAt (IsInBlocks from to) last t.end t.second) (rows_of l hs es) now) where
+      module _ {now : Rows} (raises : Raises greatest l [] (IsInBlocks from to) (AsksNext l (free_late last t))
+          (rows_of l hs es) now) where
         pub now_small : (q : ℕ) → get_or now.heads q 0 ≤ latest_end shop + 1
-        now_small q = let a = raises.least late_head late_raised q in let b = late_small q in omega arith
+        now_small q = let a = raises.raised.least late_head late_raised q in let b = late_small q in omega arith
 
         -- no head of a child is higher, but on the machine up to the end of its own operation
         module _ {j : ℕ} (among : IsAmong cs j) where
@@ -250,8 +246,8 @@ module _ {greatest : ℕ} {shop : Shop} {w : List ℕ} {l : LayoutState} {hs es 
               in let op_k : IsOperation shop i k = omega arith
               in let at = place_of shop kept.kept.limits l kept.kept.laid i k op_k
               in let low = struck_low kept.kept j (its_word among) q
-              in let rises = raises.raised.rises q
-              in let order = raises.raised.order i k two (omega arith)
+              in let rises = raises.raised.raised.rises q
+              in let order = raises.raised.raised.order i k two (omega arith)
               in elim (cases_eq (get_or l.machines q 0) machine) [
                 | inr off ↦ grind (arith, ne_eqb)
                 | inl on ↦ (let all : floor_on machine (end_by hs l.times nexts j) (get_or l.machines q 0)
@@ -265,13 +261,16 @@ module _ {greatest : ℕ} {shop : Shop} {w : List ℕ} {l : LayoutState} {hs es 
                     in let from' = at.from in let to' = at.to
                     in let ends : end_by hs l.times nexts (job_at cs among.at) ≡ end_by hs l.times nexts j =
                     ap (end_by hs l.times nexts) among.is
+                    in let late = raises.raised.raised.reach q (place l i (k + 1))
+                    (free_late last t q + get_or l.times q 0) (omega arith, omega arith) (record {
+                      more = rw (at.job, at.step) two;
+                      next = rw (at.job, at.step) refl;
+                      ready = refl;
+                    }) (omega arith)
                     in elim (cases_eq q last) [
-                      | inr ne ↦ (let late = raises.raised.behind i k t.end two
-                          ((omega arith, omega arith), inr (ne, refl))
-                          (omega arith)
+                      | inr ne ↦ (let free = free_other last t ne refl
                           in let each = latest.each among.at among.within in omega arith)
-                      | inl is ↦ (let late = raises.raised.behind i k t.second two
-                          ((omega arith, omega arith), inl (is, refl)) (omega arith)
+                      | inl is ↦ (let free = free_last last t is refl
                           in let differs : job_at cs among.at ≡ t.job → ⊥ = λ same. (
                           let here : q ≡ place l j ((placing shop w).steps j) = is ∙ (its_place latest.last
                           ∙ ap (λ (x : ℕ). place l x ((placing shop w).steps x)) (sym same ∙ among.is))
@@ -281,12 +280,12 @@ module _ {greatest : ℕ} {shop : Shop} {w : List ℕ} {l : LayoutState} {hs es 
               ]
 
           other_raised : IsRaised l (IsOnMachine l (machine_of shop j ((placing shop w).steps j)))
-              ((place_next shop (placing shop w) j).free (machine_of shop j ((placing shop w).steps j)) + 1)
+              (AsksOwn ((place_next shop (placing shop w) j).free (machine_of shop j ((placing shop w).steps j)) + 1))
               (at_in (set hs (place l j ((placing shop w).steps j)) 0)) child_other
           other_raised = record {
             rises = λ q. elim (cases_lt 0 (get_or (set hs (place l j ((placing shop w).steps j)) 0) q 0)) [
               | inl some ↦ (let is = other_some q some in let low = struck_low kept.kept j (its_word among) q
-                  in let rises = raises.raised.rises q in omega arith)
+                  in let rises = raises.raised.raised.rises q in omega arith)
               | inr none ↦ omega arith
             ];
             rests = other_none;
@@ -296,10 +295,10 @@ module _ {greatest : ℕ} {shop : Shop} {w : List ℕ} {l : LayoutState} {hs es 
                 in let a = other_some (place l i k) waits in let b = other_some (place l i (k + 1)) (omega arith)
                 in let late = delayed i k two waits
                 in let low = struck_low kept.kept j (its_word among) (place l i k)
-                in let rises = raises.raised.rises (place l i k)
-                in let order = raises.raised.order i k two (omega arith)
+                in let rises = raises.raised.raised.rises (place l i k)
+                in let order = raises.raised.raised.order i k two (omega arith)
                 in omega arith;
-            reach = λ q here some.
+            reach = reach_own (λ q here some.
                 let a = other_some q some
                 in let m = machine_of shop j ((placing shop w).steps j)
                 in let own = kept.kept.laid.machines_at.at m q
@@ -309,7 +308,7 @@ module _ {greatest : ℕ} {shop : Shop} {w : List ℕ} {l : LayoutState} {hs es 
                 in let all : floor_on machine (end_by hs l.times nexts j) (get_or l.machines q 0)
                 ≡ end_by hs l.times nexts j = rw (eq-eqb (get_or l.machines q 0) machine on) refl
                 in let end = its_end among
-                in omega arith;
+                in omega arith);
           }
 
           pub child_low : {heads : List ℕ} → AreHeadsAt shop (place_next shop (placing shop w) j) l heads → (q : ℕ)

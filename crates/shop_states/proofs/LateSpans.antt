@@ -7,9 +7,10 @@ use Rattle.shop_bound.specs.Bound.{lb}
 use Rattle.shop_layout.specs.{HeadLimits.latest_end, Lanes.{lanes_on, rows_of}, Positions.LayoutState}
 use Rattle.shop_layout.proofs.LaneLimits.{blocks_within}
 use Rattle.shop_states.specs.{inner.{LaneHeads.AreHeadsAt, Watchers.floor_on}, declared.states.Candidate.Candidate}
-use Rattle.shop_states.specs.{inner.{Raises.IsInBlocks, Ceilings.AreChildCeilings}, declared.late_raises.Latest.Latest}
+use Rattle.shop_states.specs.{inner.Ceilings.AreChildCeilings, declared.late_raises.Latest.Latest}
+use Rattle.shop_states.specs.inner.Raises.{AsksNext, IsInBlocks, Raises}
 use Rattle.shop_states.specs.inner.{LaneRaises.Raise, Advances.IsAdvancing, LaneStates.{AreHeadsInLanes, IsKeptInLanes}}
-use Rattle.shop_states.specs.inner.Siblings.{AreLatest, AreSiblings, IsAmong, IsLateAt, RaisesBehind, end_by}
+use Rattle.shop_states.specs.inner.Siblings.{AreLatest, AreSiblings, IsAmong, end_by, free_late}
 use Rattle.shop_states.proofs.{CeilingLemmas.{IsCeiling, IsBelow, ceiling_of_spans}, ChildBounds.child-le}
 use Rattle.shop_states.proofs.{ChildRaises.{bounded_by_raise, covered_all}, ChildTargets.{child_heads, child_heads_are}}
 use Rattle.shop_states.proofs.{ChildTurns.{its_ahead, next_small}, FittingSpans.spans_each}
@@ -26,8 +27,8 @@ module _ {greatest : ℕ} {shop : Shop} {w : List ℕ} {l : LayoutState} {hs es 
     (siblings : AreSiblings shop w cs) {t : Latest} (latest : AreLatest (end_by hs l.times nexts) cs t)
     {from to : ℕ} (from_is : from ≡ get_or l.blocks (machine_of shop t.job ((placing shop w).steps t.job)) 0)
     (to_is : to ≡ get_or l.blocks (machine_of shop t.job ((placing shop w).steps t.job) + 1) 0) {now : Rows}
-    (raises : RaisesBehind l (IsLateAt (IsInBlocks from to) (get_or nexts t.job 0) t.end t.second) (rows_of l hs es)
-    now) where
+    (raises : Raises greatest l [] (IsInBlocks from to) (AsksNext l (free_late (get_or nexts t.job 0) t))
+    (rows_of l hs es) now) where
   small : (q : ℕ) → get_or now.heads q 0 ≤ latest_end shop + 1
   small = now_small kept siblings latest from_is to_is raises
 
@@ -59,7 +60,7 @@ module _ {greatest : ℕ} {shop : Shop} {w : List ℕ} {l : LayoutState} {hs es 
         in let risen = subst (λ (ys : List Lane). AreBeside (IsRisenLane raise.from raise.to 0)
         (lanes_on (rows_of l hs es) l m) ys) late_lanes
         (blocks_beside (IsRisen raise.from raise.to 0) (get_or l.blocks m 0) (get_or l.blocks (m + 1) 0) hs now.heads
-        l.times l.tails timed tailed raises.positions in_rows (λ q low high. record {
+        l.times l.tails timed tailed raises.raised.positions in_rows (λ q low high. record {
           some = λ waits. grind (arith, cases_eq);
           risen = λ waits. grind (arith, on_it);
         }))
@@ -68,8 +69,8 @@ module _ {greatest : ℕ} {shop : Shop} {w : List ℕ} {l : LayoutState} {hs es 
         b above (lanes_on now l m) risen (λ h some none. absurd (omega arith)) inside
         in let below = subst (λ (ys : List Lane). AreBeside (IsLaneBeside (IsBelow top)) ys ys) late_lanes
         (blocks_beside (IsBelow top) (get_or l.blocks m 0) (get_or l.blocks (m + 1) 0) now.heads now.heads
-        l.times l.tails (timed ∙ sym raises.positions) (tailed ∙ sym raises.positions) refl
-        (let long = raises.positions in let rows = in_rows in omega arith) (λ q low high. small q))
+        l.times l.tails (timed ∙ sym raises.raised.positions) (tailed ∙ sym raises.raised.positions) refl
+        (let long = raises.raised.positions in let rows = in_rows in omega arith) (λ q low high. small q))
         in ceiling_of_spans top b below all
 
     -- which no span of a child exceeds, but for those that begin before its operation ends
@@ -82,9 +83,9 @@ module _ {greatest : ℕ} {shop : Shop} {w : List ℕ} {l : LayoutState} {hs es 
           → span g g (lanes_on rows l m) ≤ c
       child_span c is g later =
           let served = blocks_beside (IsServedIn g) (get_or l.blocks m 0) (get_or l.blocks (m + 1) 0) now.heads
-          rows.heads l.times l.tails (timed ∙ sym raises.positions) (tailed ∙ sym raises.positions)
-          (heads.positions ∙ sym (raises.positions ∙ kept.kept.heads.positions))
-          (let long = raises.positions in let rows = in_rows in omega arith)
+          rows.heads l.times l.tails (timed ∙ sym raises.raised.positions) (tailed ∙ sym raises.raised.positions)
+          (heads.positions ∙ sym (raises.raised.positions ∙ kept.kept.heads.positions))
+          (let long = raises.raised.positions in let rows = in_rows in omega arith)
           (λ q low high above.
           let least = child_low kept siblings latest from_is to_is raises among heads q
           in let own = on_it q low high

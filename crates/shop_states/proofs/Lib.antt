@@ -1,3 +1,4 @@
+pub mod AskedHeads
 pub mod FittingSpans
 pub mod Followed
 pub mod JobLegs

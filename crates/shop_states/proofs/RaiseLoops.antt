@@ -1,56 +1,87 @@
 -- Raises one after another.
-use Rattle.std.proofs.Common.{rules, ◌≡◌, ℕ, ◌*◌, ◌≤◌, ◌<◌, ◌⊎◌, inl, inr, List, [], ◌∷◌, length, get_or, refl, sym}
+use Rattle.std.proofs.Common.{rules, ◌≡◌, ℕ, ◌≤◌, ◌<◌, ◌⊎◌, inl, inr, List, [], ◌∷◌, length, get_or, refl, sym}
 use Rattle.std.proofs.{Common.{◌∙◌, subst, arith}, lemmas.{Bool.{cases_eq, cases_lt}, List.get_or_past}}
-use Rattle.shop_lanes.specs.{Rows.Rows, Marks.positions_among}
+use Rattle.shop_lanes.specs.Rows.{Rows}
 use Rattle.shop_layout.specs.Positions.{LayoutState}
 use Rattle.shop_states.specs.inner.RisingLists.{IsIn, Rises}
-use Rattle.shop_states.specs.inner.Raises.{at_in, AreInRouteOrder, IsRaised, IsLeastRaise, IsRaisable, AreWaiting}
-use Rattle.shop_states.specs.inner.Raises.{Raises, IsFollowed, IsIndexed, IsPosition, IsInBlocks}
-use Rattle.shop_states.proofs.MarkedPositions.{IsBelow, below_is_in, below_rises, in_is_below}
+use Rattle.shop_states.specs.inner.Raises.{at_in, AreInRouteOrder, IsRaised, IsLeastRaise, IsRaisable}
+use Rattle.shop_states.specs.inner.Raises.{AreWaiting, Raises, IsFollowed, IsIndexed, IsPosition}
+use Rattle.shop_states.proofs.AskedHeads.{asks_less}
 
-weaker : (l : LayoutState) (A B : ℕ → Type 0) (e : ℕ) (old new : ℕ → ℕ) → ((q : ℕ) → B q → A q)
-    → IsRaised l A e old new → IsRaised l B e old new
-weaker l A B e old new part r = grind arith
+pub weaker : {l : LayoutState} (A B : ℕ → Type 0) {asks : ℕ → ℕ → ℕ → Type 0} {old new : ℕ → ℕ} → ((q : ℕ) → B q → A q)
+    → IsRaised l A asks old new → IsRaised l B asks old new
+weaker A B part r = asks_less r (λ p q v here. r.reach p q v (part p here))
+
+-- what waits after a raise waited before
+pub was_waiting : {l : LayoutState} {A : ℕ → Type 0} {asks : ℕ → ℕ → ℕ → Type 0} {a b : List ℕ}
+    → IsLeastRaise l A asks a b → (q : ℕ) → 0 < get_or b q 0 → 0 < get_or a q 0
+was_waiting {a = a} x q waits = elim (cases_lt 0 (get_or a q 0)) [
+  | inl some ↦ some
+  | inr none ↦ (let rests = x.raised.rests q (omega arith) in omega arith)
+]
 
 -- what was to come is still to come, and no less
-go_on : (l : LayoutState) (A B C : ℕ → Type 0) (e : ℕ) (a b : List ℕ) (other : ℕ → ℕ) → IsLeastRaise l A e a b
-    → ((q : ℕ) → A q → C q) → ((q : ℕ) → B q → C q) → IsRaised l C e (at_in a) other
-    → IsRaised l B e (at_in b) other
-go_on l A B C e a b other least in_a in_b raised = record {
-  rises = least.least other (weaker l C A e (at_in a) other in_a raised);
+pub go_on : {l : LayoutState} (A B C : ℕ → Type 0) {asks : ℕ → ℕ → ℕ → Type 0} {a b : List ℕ} (other : ℕ → ℕ)
+    → IsLeastRaise l A asks a b → ((q : ℕ) → A q → C q) → ((q : ℕ) → B q → C q) → IsRaised l C asks (at_in a) other
+    → IsRaised l B asks (at_in b) other
+go_on A B C other least in_a in_b raised = record {
+  rises = least.least other (weaker C A in_a raised);
   rests = λ q none. raised.rests q (let x = least.raised.rises q in omega arith);
   order = raised.order;
-  reach = λ q part waits. grind (arith, cases_eq);
+  reach = λ p q v here asked waits. raised.reach p q v (in_b p here) asked (was_waiting least p waits);
 }
 
-pub then_least : {l : LayoutState} {A B C : ℕ → Type 0} {e : ℕ} {a b c : List ℕ} → IsLeastRaise l A e a b
-    → IsLeastRaise l B e b c → ((q : ℕ) → C q → A q ⊎ B q) → ((q : ℕ) → A q → C q) → ((q : ℕ) → B q → C q)
-    → IsLeastRaise l C e a c
-then_least {l} {A} {B} {C} {e} {a} {b} x y split in_a in_b = record {
+pub then_least : {l : LayoutState} {A B C : ℕ → Type 0} {asks : ℕ → ℕ → ℕ → Type 0} {a b c : List ℕ}
+    → IsLeastRaise l A asks a b → IsLeastRaise l B asks b c → ((q : ℕ) → C q → A q ⊎ B q) → ((q : ℕ) → A q → C q)
+    → ((q : ℕ) → B q → C q) → IsLeastRaise l C asks a c
+then_least {A = A} {B} {C} x y split in_a in_b = record {
   positions = y.positions ∙ x.positions;
   raised = grind arith;
-  least = λ other raised. y.least other (go_on l A B C e a b other x in_a in_b raised);
+  least = λ other raised. y.least other (go_on A B C other x in_a in_b raised);
 }
 
-pub then_raises : {greatest : ℕ} {l : LayoutState} {nexts : List ℕ} {A B : ℕ → Type 0} (C : ℕ → Type 0) {e : ℕ}
-    {a b c : Rows}
-    → Raises greatest l nexts A e a b → Raises greatest l nexts B e b c → ((q : ℕ) → C q → A q ⊎ B q)
-    → ((q : ℕ) → A q → C q)
-    → ((q : ℕ) → B q → C q) → Raises greatest l nexts C e a c
-then_raises {l} {A} {B} C {e} {a} {b} {c} x y split in_a in_b = record {
+pub then_raises : {greatest : ℕ} {l : LayoutState} {nexts : List ℕ} {A B : ℕ → Type 0} (C : ℕ → Type 0)
+    {asks : ℕ → ℕ → ℕ → Type 0} {a b c : Rows} → Raises greatest l nexts A asks a b → Raises greatest l nexts B asks b c
+    → ((q : ℕ) → C q → A q ⊎ B q) → ((q : ℕ) → A q → C q) → ((q : ℕ) → B q → C q)
+    → Raises greatest l nexts C asks a c
+then_raises C x y split in_a in_b = record {
   raised = then_least x.raised y.raised split in_a in_b;
   times = y.times ∙ x.times;
   tails = y.tails ∙ x.tails;
   ends = grind arith;
 }
 
--- what can be raised at more positions can be raised at those that are left
-pub still_raisable : {greatest : ℕ} {l : LayoutState} {nexts : List ℕ} {A : ℕ → Type 0} (B : ℕ → Type 0)
-    {C : ℕ → Type 0} {e : ℕ} {a b : Rows}
-    → IsRaisable greatest l nexts a C e → Raises greatest l nexts A e a b → ((q : ℕ) → A q → C q)
-    → ((q : ℕ) → B q → C q)
-    → IsRaisable greatest l nexts b B e
-still_raisable {l} {A} B {C} {e} {a} {b} can x in_a in_b = record {
+-- nothing more is raised where all that is asked for is so already
+pub raises_none : (greatest : ℕ) (l : LayoutState) (nexts : List ℕ) (A : ℕ → Type 0) (asks : ℕ → ℕ → ℕ → Type 0)
+    (a : Rows) → AreInRouteOrder l (at_in a.heads)
+    → ((p q v : ℕ) → A p → asks p q v → 0 < get_or a.heads p 0 → v ≤ get_or a.heads q 0)
+    → Raises greatest l nexts A asks a a
+raises_none greatest l nexts A asks a order enough = grind arith
+
+-- what reaches more than was asked for is the least raise for that, too
+pub raises_more : {greatest : ℕ} {l : LayoutState} {nexts : List ℕ} {A B : ℕ → Type 0}
+    {asks more : ℕ → ℕ → ℕ → Type 0} {a b : Rows} → Raises greatest l nexts A asks a b
+    → ((other : ℕ → ℕ) → IsRaised l B more (at_in a.heads) other → IsRaised l A asks (at_in a.heads) other)
+    → ((p q v : ℕ) → B p → more p q v → 0 < get_or a.heads p 0 → v ≤ get_or b.heads q 0)
+    → Raises greatest l nexts B more a b
+raises_more x less enough = record {
+  raised = record {
+    positions = x.raised.positions;
+    raised = asks_less x.raised.raised enough;
+    least = λ other raised. x.raised.least other (less other raised);
+  };
+  times = x.times;
+  tails = x.tails;
+  ends = x.ends;
+}
+
+-- what is left to be raised can still be raised
+pub still_raisable : {greatest : ℕ} {l : LayoutState} {nexts : List ℕ} {A B C : ℕ → Type 0}
+    {asks less more : ℕ → ℕ → ℕ → Type 0} {a b : Rows} → IsRaisable greatest l nexts a C more
+    → Raises greatest l nexts A asks a b
+    → ((other : ℕ → ℕ) → IsRaised l C more (at_in a.heads) other → IsRaised l B less (at_in b.heads) other)
+    → IsRaisable greatest l nexts b B less
+still_raisable {l = l} can x left = record {
   firsts = grind arith;
   ends = (let y = x.ends.long in let z = can.ends in omega arith);
   indexed = subst (λ (k : ℕ). IsIndexed l k) (sym x.raised.positions) can.indexed;
@@ -58,19 +89,20 @@ still_raisable {l} {A} B {C} {e} {a} {b} can x in_a in_b = record {
   machines = can.machines ∙ sym x.raised.positions;
   times = x.times ∙ can.times;
   timed = can.timed ∙ sym x.raised.positions;
-  places = λ q waits. grind (arith, cases_eq);
+  places = λ q waits. can.places q (was_waiting x.raised q waits);
   order = x.raised.raised.order;
   other = can.other;
-  raised = go_on l A B C e a.heads b.heads can.other x.raised in_a in_b can.raised;
+  raised = left can.other can.raised;
   fits = can.fits;
   computable = can.computable;
 }
 
--- at no position
-pub raises_none : (greatest : ℕ) (l : LayoutState) (nexts : List ℕ) (A : ℕ → Type 0) (e : ℕ) (a : Rows)
-    → AreInRouteOrder l (at_in a.heads) → ((q : ℕ) → A q → 0 < get_or a.heads q 0 → e ≤ get_or a.heads q 0)
-    → Raises greatest l nexts A e a a
-raises_none greatest l nexts A e a order enough = grind arith
+pub raisable_less : {greatest : ℕ} {l : LayoutState} {nexts : List ℕ} {B C : ℕ → Type 0}
+    {less more : ℕ → ℕ → ℕ → Type 0} {a : Rows} → IsRaisable greatest l nexts a C more
+    → ((other : ℕ → ℕ) → IsRaised l C more (at_in a.heads) other → IsRaised l B less (at_in a.heads) other)
+    → IsRaisable greatest l nexts a B less
+raisable_less {greatest} {l} {nexts} {less = less} {a = a} can =
+    still_raisable can (raises_none greatest l nexts (λ q. ⊥) less a can.order (λ p q v none. absurd none))
 
 -- those marked that are no longer to come
 abbrev pub IsDone : List ℕ → List ℕ → ℕ → Type 0
@@ -81,17 +113,17 @@ pub record AreToCome (marks todo : List ℕ) (heads : List ℕ) : Type 0 where
   pub waits : (q : ℕ) → IsIn todo q → IsIn marks q × (0 < get_or heads q 0)
   pub rises : Rises todo
 
-pub record AreMarksRaised (greatest : ℕ) (l : LayoutState) (nexts marks : List ℕ) (e : ℕ) (todo : List ℕ)
-    (old now : Rows) : Type 0 where
-  pub raises : Raises greatest l nexts (IsDone marks todo) e old now
+pub record AreMarksRaised (greatest : ℕ) (l : LayoutState) (nexts marks : List ℕ) (asks : ℕ → ℕ → ℕ → Type 0)
+    (todo : List ℕ) (old now : Rows) : Type 0 where
+  pub raises : Raises greatest l nexts (IsDone marks todo) asks old now
   pub to_come : AreToCome marks todo old.heads
 
-module _ {greatest : ℕ} {l : LayoutState} {nexts marks : List ℕ} {e : ℕ} {old : Rows}
-    (can : IsRaisable greatest l nexts old (IsIn marks) e) where
-  pub marks_begin : AreWaiting old.heads marks → AreMarksRaised greatest l nexts marks e marks old old
+module _ {greatest : ℕ} {l : LayoutState} {nexts marks : List ℕ} {asks : ℕ → ℕ → ℕ → Type 0}
+    {old : Rows} (can : IsRaisable greatest l nexts old (IsIn marks) asks) where
+  pub marks_begin : AreWaiting old.heads marks → AreMarksRaised greatest l nexts marks asks marks old old
   marks_begin are = grind (arith, raises_none)
 
-  module _ {todo : List ℕ} {now : Rows} (so_far : AreMarksRaised greatest l nexts marks e todo old now) {q : ℕ}
+  module _ {todo : List ℕ} {now : Rows} (so_far : AreMarksRaised greatest l nexts marks asks todo old now) {q : ℕ}
       {rest : List ℕ} (popped : todo ≡ q ∷ rest) where
     is_in : IsIn todo q
     is_in = subst (λ (xs : List ℕ). IsIn xs q) (sym popped) (inl refl)
@@ -126,94 +158,25 @@ module _ {greatest : ℕ} {l : LayoutState} {nexts marks : List ℕ} {e : ℕ} {
     here_done : (r : ℕ) → r ≡ q → IsDone marks rest r
     here_done r f = grind arith
 
-    pub popped_raisable : IsRaisable greatest l nexts now (IsPosition q) e
+    pub popped_raisable : IsRaisable greatest l nexts now (IsPosition q) asks
     popped_raisable =
-        still_raisable (IsPosition q) can so_far.raises (λ r d. d.0) (λ r f. (here_done r f).0)
+        still_raisable can so_far.raises (λ other. go_on (IsDone marks todo) (IsPosition q) (IsIn marks) other
+        so_far.raises.raised (λ r d. d.0) (λ r f. (here_done r f).0))
 
-    pub marks_on : {new : Rows} → Raises greatest l nexts (IsPosition q) e now new
-        → AreMarksRaised greatest l nexts marks e rest old new
+    pub marks_on : {new : Rows} → Raises greatest l nexts (IsPosition q) asks now new
+        → AreMarksRaised greatest l nexts marks asks rest old new
     marks_on {new} raised = search (rules, then_raises, more_done, still_done, here_done, popped_to_come)
 
-    pub marks_past : e ≤ get_or now.heads q 0 → AreMarksRaised greatest l nexts marks e rest old now
+    pub marks_past : ((r v : ℕ) → asks q r v → v ≤ get_or now.heads r 0)
+        → AreMarksRaised greatest l nexts marks asks rest old now
     marks_past enough = marks_on
-        (raises_none greatest l nexts (IsPosition q) e now so_far.raises.raised.raised.order
-        (λ r f _. subst (λ (x : ℕ). e ≤ get_or now.heads x 0) (sym f) enough))
+        (raises_none greatest l nexts (IsPosition q) asks now so_far.raises.raised.raised.order
+        (λ p r v f asked _. enough r v (subst (λ (x : ℕ). asks x r v) f asked)))
 
   pub marks_end : {todo : List ℕ} {now : Rows} → todo ≡ []
-      → AreMarksRaised greatest l nexts marks e todo old now
-      → Raises greatest l nexts (IsIn marks) e old now
-  marks_end {todo} none so_far = record {
-    raised = record {
-      positions = so_far.raises.raised.positions;
-      raised = grind arith;
-      least = λ other raised. so_far.raises.raised.least other
-          (weaker l (IsIn marks) (IsDone marks todo) e (at_in old.heads) other (λ q d. d.0) raised);
-    };
-    times = so_far.raises.times;
-    tails = so_far.raises.tails;
-    ends = so_far.raises.ends;
-  }
-
--- what is marked in some blocks is all that is to be raised there
-module _ (old : Rows) {marks : List ℕ} (from to e : ℕ) (ordered : from ≤ to) (within : 8 * to ≤ length old.heads)
-    (are : marks ≡ positions_among old.heads from to e) where
-  marked_there : (q : ℕ) → IsIn marks q → IsBelow old.heads from to e q
-  marked_there q h = in_is_below old.heads from to e ordered within q (subst (λ (xs : List ℕ). IsIn xs q) are h)
-
-  pub marks_in : (q : ℕ) → IsIn marks q → IsInBlocks from to q
-  marks_in q h = (marked_there q h).there
-
-  pub marks_waiting : AreWaiting old.heads marks
-  marks_waiting = grind (arith, marked_there, below_rises)
-
-  pub marks_raisable : {greatest : ℕ} {l : LayoutState} {nexts : List ℕ}
-      → IsRaisable greatest l nexts old (IsInBlocks from to) e
-      → IsRaisable greatest l nexts old (IsIn marks) e
-  marks_raisable {greatest} {l} {nexts} can = grind (arith, weaker, marks_in)
-
-  pub marks_raised : {greatest : ℕ} {l : LayoutState} {nexts : List ℕ} {new : Rows}
-      → Raises greatest l nexts (IsIn marks) e old new
-      → Raises greatest l nexts (IsInBlocks from to) e old new
-  marks_raised {greatest} {l} {nexts} {new} x = record {
-    raised = record {
-      positions = x.raised.positions;
-      raised = grind (arith, cases_lt, below_is_in);
-      least = λ other raised. x.raised.least other
-          (weaker l (IsInBlocks from to) (IsIn marks) e (at_in old.heads) other marks_in raised);
-    };
-    times = x.times;
-    tails = x.tails;
-    ends = x.ends;
-  }
-
--- blocks after blocks
-module _ {greatest : ℕ} {l : LayoutState} {nexts : List ℕ} {first from : ℕ} (to behind : ℕ) {e : ℕ}
-    {old now : Rows} (raises : Raises greatest l nexts (IsInBlocks first from) e old now) (ordered : first ≤ from)
-    (on : from ≤ to) (within : to ≤ behind) where
-  pub blocks_raisable : IsRaisable greatest l nexts old (IsInBlocks first behind) e
-      → IsRaisable greatest l nexts now (IsInBlocks from to) e
-  blocks_raisable can =
-      still_raisable (IsInBlocks from to) can raises (λ q h. let a = h.0 in let b = h.1 in (omega arith, omega arith))
-      (λ q h. let a = h.0 in let b = h.1 in (omega arith, omega arith))
-
-  pub more_blocks : {new : Rows} → Raises greatest l nexts (IsInBlocks from to) e now new
-      → Raises greatest l nexts (IsInBlocks first to) e old new
-  more_blocks {new} raised =
-      then_raises (IsInBlocks first to) raises raised
-      (λ q h. let a = h.0 in let b = h.1 in elim (cases_lt q (8 * from)) [
-        | inl low ↦ inl (a, low)
-        | inr high ↦ inr (high, b)
-      ])
-      (λ q h. let a = h.0 in let b = h.1 in (omega arith, omega arith))
-      (λ q h. let a = h.0 in let b = h.1 in (omega arith, omega arith))
-
--- no blocks yet
-pub no_blocks : {greatest : ℕ} {l : LayoutState} {nexts : List ℕ} (first behind : ℕ) {e : ℕ} {old : Rows}
-    → IsRaisable greatest l nexts old (IsInBlocks first behind) e
-    → Raises greatest l nexts (IsInBlocks first first) e old old
-no_blocks {greatest} {l} {nexts} first behind {e} {old} can = grind (arith, raises_none)
-
-pub all_blocks : {greatest : ℕ} {l : LayoutState} {nexts : List ℕ} (first from behind : ℕ) {e : ℕ} {old now : Rows}
-    → from ≡ behind → Raises greatest l nexts (IsInBlocks first from) e old now
-    → Raises greatest l nexts (IsInBlocks first behind) e old now
-all_blocks {greatest} {l} {nexts} first from behind {e} {old} {now} same raises = grind arith
+      → AreMarksRaised greatest l nexts marks asks todo old now
+      → Raises greatest l nexts (IsIn marks) asks old now
+  marks_end {todo} none so_far = raises_more so_far.raises
+      (λ other. weaker (IsIn marks) (IsDone marks todo) (λ q d. d.0))
+      (λ p q v here. so_far.raises.raised.raised.reach p q v
+      (here, subst (λ (xs : List ℕ). IsIn xs p → ⊥) (sym none) (λ h. h)))

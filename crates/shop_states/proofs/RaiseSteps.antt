@@ -4,7 +4,7 @@ use Rattle.std.proofs.lemmas.{Bool.cases_lt, List.{get_or_default, get_or_past}}
 use Rattle.shop_lanes.specs.Rows.{Rows, with_head}
 use Rattle.shop_layout.specs.{declared.legs.Leg.Leg, Legs.{all_legs, end_of, leg_index, leg_of}, Lanes.rows_of}
 use Rattle.shop_layout.specs.Positions.{place_or, LayoutState, place}
-use Rattle.shop_states.specs.inner.Raises.{steps_of, IsPosition, IsRaisable, Raises}
+use Rattle.shop_states.specs.inner.Raises.{AsksOwn, steps_of, IsPosition, IsRaisable, Raises}
 use Rattle.shop_layout.proofs.RouteLegs.{index_known, leg_behind, leg_here}
 use Rattle.shop_states.proofs.{Followed.place_there, RaiseWalks.{IsRaisedUpTo, walk_begins, next_least, walk_on}}
 
@@ -22,7 +22,7 @@ pub record IsWalking (greatest : ℕ) (l : LayoutState) (p e t ready : ℕ) (old
   pub ends : new.ends ≡ old.ends
 
 module _ {greatest : ℕ} {l : LayoutState} {p e : ℕ} {old : Rows}
-    (can : IsRaisable greatest l [] old (IsPosition p) e) (some : 0 < get_or old.heads p 0) where
+    (can : IsRaisable greatest l [] old (IsPosition p) (AsksOwn e)) (some : 0 < get_or old.heads p 0) where
   pub begun : get_or old.heads p 0 ≤ e → {new : Rows}
       → new ≡ with_head old p e
       → {t ready time : ℕ} → t ≡ get_or l.steps p 0 + 1 → time ≡ get_or new.times p 0 → ready ≡ e + time
@@ -57,7 +57,7 @@ pub record IsFollowing (greatest : ℕ) (l : LayoutState) (p e index ready : ℕ
   pub walking : IsWalking greatest l p e step ready old new
 
 module _ {greatest : ℕ} {l : LayoutState} {p e : ℕ} {old : Rows}
-    (can : IsRaisable greatest l [] old (IsPosition p) e) (some : 0 < get_or old.heads p 0) where
+    (can : IsRaisable greatest l [] old (IsPosition p) (AsksOwn e)) (some : 0 < get_or old.heads p 0) where
   abbrev job : ℕ
   job = get_or l.jobs p 0
 
@@ -98,7 +98,7 @@ module _ {greatest : ℕ} {l : LayoutState} {p e : ℕ} {old : Rows}
 
       module _ {head : ℕ} (looked : head ≡ get_or now.heads leg.position greatest) where
         -- it ends where the head is great enough, or at the end of the route
-        pub ended_at : ready ≤ head → Raises greatest l [] (IsPosition p) e old now
+        pub ended_at : ready ≤ head → Raises greatest l [] (IsPosition p) (AsksOwn e) old now
         ended_at enough = grind (arith, stands, place_there, get_or_default)
 
         module _ (below : head < ready) where

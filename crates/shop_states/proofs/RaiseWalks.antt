@@ -2,9 +2,11 @@
 use Rattle.std.proofs.Common.{◌≡◌, ℕ, ◌+◌, ◌≤◌, ◌<◌, inl, inr, List, length, get_or, set, refl, sym, ◌∙◌, ap, arith}
 use Rattle.std.proofs.lemmas.{Bool.cases_eq, Grind.get_or-set_at, List.{get_or-set_other, length-set}}
 use Rattle.shop_layout.specs.Positions.{LayoutState, place}
-use Rattle.shop_states.specs.inner.Raises.{steps_of, at_in, IsIndexed, IsPlace, AreInRouteOrder, IsRaised, IsPosition}
+use Rattle.shop_states.specs.inner.Raises.{AreInRouteOrder, AsksOwn, IsIndexed, IsPlace, IsPosition, IsRaised, at_in}
+use Rattle.shop_states.{specs.inner.Raises.steps_of, proofs.AskedHeads.own_reached}
 
--- OperationId p was raised to e, and the route of job i from it on up to the step before t, which ends at `ready`.
+-- The head at position p was raised to e, and those of the route of job i behind it up to the step before t, which
+-- ends at `ready`.
 pub record IsRaisedUpTo (l : LayoutState) (p e i t ready : ℕ) (old new : List ℕ) : Type 0 where
   pub before : ℕ
   pub next : t ≡ before + 1
@@ -17,7 +19,8 @@ pub record IsRaisedUpTo (l : LayoutState) (p e i t ready : ℕ) (old new : List 
   pub waits : 0 < get_or new (place l i before) 0
   pub ready_is : ready ≡ get_or new (place l i before) 0 + get_or l.times (place l i before) 0
   pub reach : e ≤ get_or new p 0
-  pub least : (other : ℕ → ℕ) → IsRaised l (IsPosition p) e (at_in old) other → (q : ℕ) → get_or new q 0 ≤ other q
+  pub least : (other : ℕ → ℕ) → IsRaised l (IsPosition p) (AsksOwn e) (at_in old) other → (q : ℕ)
+      → get_or new q 0 ≤ other q
 
 module _ {l : LayoutState} {n : ℕ} (ix : IsIndexed l n) where
   pub apart : (j k i t : ℕ) → k < steps_of l j → t < steps_of l i → place l j k ≡ place l i t → (j ≡ i) × (k ≡ t)
@@ -31,11 +34,25 @@ module _ {l : LayoutState} {n : ℕ} (ix : IsIndexed l n) where
         → ready ≡ e + get_or l.times p 0 → AreInRouteOrder l (at_in old) → 0 < get_or old p 0 → get_or old p 0 ≤ e
         → IsRaisedUpTo l p e i t ready old (set old p e)
     walk_begins t ready at job step sum order waits below =
-        grind (arith, place_within, get_or-set_at, length-set, cases_eq, get_or-set_other, apart)
+        record {
+          before = get_or l.steps p 0;
+          next = step;
+          within = grind arith;
+          positions = length-set old p e;
+          rises = grind (arith, place_within, get_or-set_at, cases_eq, get_or-set_other);
+          rests = grind (arith, cases_eq, get_or-set_other);
+          order = grind (arith, place_within, get_or-set_at, cases_eq, get_or-set_other, apart);
+          waits = grind (arith, place_within, get_or-set_at);
+          ready_is = grind (arith, place_within, get_or-set_at);
+          reach = grind (arith, place_within, get_or-set_at);
+          least = λ other raised q.
+              let reach = own_reached raised p refl waits
+              in grind (arith, place_within, get_or-set_at, cases_eq, get_or-set_other);
+        }
 
     module _ {t ready : ℕ} {new : List ℕ} (so_far : IsRaisedUpTo l p e i t ready old new) where
       -- any raise has the next step wait until the one before it ends
-      pub next_least : (other : ℕ → ℕ) → IsRaised l (IsPosition p) e (at_in old) other → t < steps_of l i
+      pub next_least : (other : ℕ → ℕ) → IsRaised l (IsPosition p) (AsksOwn e) (at_in old) other → t < steps_of l i
           → ready ≤ other (place l i t)
       next_least other raised more =
           let b = so_far.before

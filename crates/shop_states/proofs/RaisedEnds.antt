@@ -2,22 +2,26 @@
 use Rattle.std.proofs.Common.{◌≡◌, ℕ, ◌+◌, ◌≤◌, ◌<◌, inl, inr, List, [], length, get_or, refl, sym, ◌∙◌, ap, arith}
 use Rattle.std.proofs.{Common.{cond, eqb}, lemmas.{Bool.{cases_eq, cases_lt, eq-eqb, le-ltb, lt-ltb}, List.get_or_past}}
 use Rattle.shop_lanes.specs.Rows.{Rows}
-use Rattle.shop_states.specs.inner.{Raises.SetsEndAt, LaneEnds.IsEndOf}
-use Rattle.shop_states.specs.inner.Raises.{steps_of, at_in, IsPosition, IsRaised, IsLeastRaise, IsRaisable, Raises}
+use Rattle.shop_states.{specs.inner.LaneEnds.IsEndOf, proofs.AskedHeads.own_reached}
+use Rattle.shop_states.specs.inner.Raises.{AsksOwn, IsLeastRaise, IsPosition, IsRaisable, IsRaised, Raises, SetsEndAt}
+use Rattle.shop_states.specs.inner.Raises.{at_in, steps_of}
 use Rattle.shop_layout.specs.Positions.{LayoutState, place}
 
 -- a head that is the first of its route is raised at its own position alone
-module _ {l : LayoutState} {p e : ℕ} {old new : List ℕ} (least : IsLeastRaise l (IsPosition p) e old new) (q : ℕ)
-    (first : (i k : ℕ) → k + 1 < steps_of l i → place l i (k + 1) ≡ q → get_or old (place l i k) 0 ≡ 0) where
+module _ {l : LayoutState} {p e : ℕ} {old new : List ℕ} (least : IsLeastRaise l (IsPosition p) (AsksOwn e) old new)
+    (q : ℕ) (first : (i k : ℕ) → k + 1 < steps_of l i → place l i (k + 1) ≡ q → get_or old (place l i k) 0 ≡ 0) where
   abbrev but : ℕ → ℕ → ℕ
   but v r = cond {A = ℕ} (eqb r q) v (get_or new r 0)
 
   at_q : (v r : ℕ) → r ≡ q → but v r ≡ v
   at_q v r e = rw (eq-eqb r q e) refl
 
+  own : 0 < get_or old p 0 → e ≤ get_or new p 0
+  own = own_reached least.raised p refl
+
   raised_but : (v : ℕ) → get_or old q 0 ≤ v → (get_or old q 0 ≡ 0 → v ≡ 0) → v ≤ get_or new q 0
-      → (q ≡ p → 0 < get_or old q 0 → e ≤ v) → IsRaised l (IsPosition p) e (at_in old) (but v)
-  raised_but v low none high enough = grind (arith, cases_eq, at_q, least)
+      → (q ≡ p → 0 < get_or old q 0 → e ≤ v) → IsRaised l (IsPosition p) (AsksOwn e) (at_in old) (but v)
+  raised_but v low none high enough = grind (arith, cases_eq, at_q, least, own)
 
   pub head_stays : (q ≡ p → ⊥) → get_or new q 0 ≡ get_or old q 0
   head_stays ne =
@@ -28,24 +32,27 @@ module _ {l : LayoutState} {p e : ℕ} {old new : List ℕ} (least : IsLeastRais
 
   pub head_is : q ≡ p → 0 < get_or old q 0 → get_or old q 0 ≤ e → get_or new q 0 ≡ e
   head_is f some below =
-      let reach = least.raised.reach q f some
+      let reach = own_reached least.raised q f some
       in let a = least.least (but e) (raised_but e below (λ z. absurd (omega arith)) reach (λ g s. omega arith)) q
       in let b = at_q e q refl in omega arith
 
 module _ {greatest : ℕ} {l : LayoutState} {nexts : List ℕ} {p e : ℕ} {old : Rows}
-    (can : IsRaisable greatest l nexts old (IsPosition p) e) (some : 0 < get_or old.heads p 0) where
+    (can : IsRaisable greatest l nexts old (IsPosition p) (AsksOwn e)) (some : 0 < get_or old.heads p 0) where
   pub raised_within : p < length old.heads
   raised_within = grind (arith, cases_lt, get_or_past)
 
+  pub raised_fits : e + get_or l.times p 0 ≤ greatest
+  raised_fits = let reach = own_reached can.raised p refl some in let fits = can.fits p (omega arith) in omega arith
+
 module _ {greatest : ℕ} {l : LayoutState} {nexts : List ℕ} {p e : ℕ} {old mid : Rows}
-    (can : IsRaisable greatest l nexts old (IsPosition p) e) (set : SetsEndAt l nexts p e old mid) where
+    (can : IsRaisable greatest l nexts old (IsPosition p) (AsksOwn e)) (set : SetsEndAt l nexts p e old mid) where
   -- with no ends to keep up
-  pub mid_raisable : IsRaisable greatest l [] mid (IsPosition p) e
+  pub mid_raisable : IsRaisable greatest l [] mid (IsPosition p) (AsksOwn e)
   mid_raisable = grind arith
 
   module _ (some : 0 < get_or old.heads p 0) (below : get_or old.heads p 0 ≤ e) {new : Rows}
-      (raised : Raises greatest l [] (IsPosition p) e mid new) where
-    least : IsLeastRaise l (IsPosition p) e old.heads new.heads
+      (raised : Raises greatest l [] (IsPosition p) (AsksOwn e) mid new) where
+    least : IsLeastRaise l (IsPosition p) (AsksOwn e) old.heads new.heads
     least = rw set.heads at raised.raised
 
     each : (j : ℕ) → j < length nexts → IsEndOf greatest nexts old j → IsEndOf greatest nexts new j
@@ -81,5 +88,5 @@ module _ {greatest : ℕ} {l : LayoutState} {nexts : List ℕ} {p e : ℕ} {old 
               ]))))
         ]
 
-    pub raised_with_ends : Raises greatest l nexts (IsPosition p) e old new
+    pub raised_with_ends : Raises greatest l nexts (IsPosition p) (AsksOwn e) old new
     raised_with_ends = grind (arith, least, each)

@@ -1,5 +1,5 @@
 -- The least raise of the heads by position, once an operation is placed, has the heads of what is left.
-use Rattle.std.proofs.Common.{rules, ◌≡◌, ℕ, zero, suc, ◌+◌, ◌-◌, ◌≤◌, ◌<◌, ◌^◌, inl, inr, List, length, get_or, set}
+use Rattle.std.proofs.Common.{◌≡◌, ℕ, zero, suc, ◌+◌, ◌-◌, ◌≤◌, ◌<◌, ◌^◌, inl, inr, List, length, get_or, set}
 use Rattle.std.proofs.{Common.{refl, sym, ◌∙◌, ap, subst, arith, cond, ltb}, lemmas.Grind.get_or-set_at}
 use Rattle.std.proofs.lemmas.{Bool.{cases_eq, cases_lt, lt-ltb, le-ltb}, List.{get_or-set_other, length-set}}
 use Rattle.shop_model.specs.{Limits.IsWithinLimits, Shop.{Shop, IsOperation, route_of, machine_of, time_of}}
@@ -9,8 +9,9 @@ use Rattle.shop_bound.{specs.Heads.{head_of, ready_after}, proofs.{HeadsRise.hea
 use Rattle.shop_bound.proofs.{HeadsStay.steps_rise, HeadTurns.{ready_first, ready_more}}
 use Rattle.shop_states.specs.inner.LaneHeads.{AreHeadsAt, AreStored}
 use Rattle.shop_states.specs.inner.Raises.{steps_of, at_in, AreFirst, IsFollowed, IsIndexed, IsPlace, AreInRouteOrder}
-use Rattle.shop_states.specs.inner.Raises.{IsRaised, IsLeastRaise, IsRaisable, IsOnMachine, HasBlocks}
+use Rattle.shop_states.specs.inner.Raises.{AsksOwn, IsRaised, IsLeastRaise, IsRaisable, IsOnMachine, HasBlocks}
 use Rattle.shop_layout.specs.Positions.{place_or, LayoutState, place, first_position, IsLaidOut}
+use Rattle.shop_states.proofs.AskedHeads.{own_reached, reach_own}
 use Rattle.shop_layout.proofs.LaidPlaces.{IsOperationAt, machines_rise, place_of, each_position, on_machine}
 
 module _ {shop : Shop} (limits : IsWithinLimits shop) {l : LayoutState} (laid : IsLaidOut shop l) where
@@ -48,30 +49,75 @@ module _ {shop : Shop} (limits : IsWithinLimits shop) {l : LayoutState} (laid : 
         (omega arith) in omega arith);
   }
 
-  pub is_place : (j k r : ℕ) → IsOperation shop j k → place l j k ≡ r → IsPlace l r
-  is_place j k r op at =
-      let a = place_of shop limits l laid j k op
-      in let job : get_or l.jobs r 0 ≡ j = ap (λ (x : ℕ). get_or l.jobs x 0) (sym at) ∙ a.job
-      in let step : get_or l.steps r 0 ≡ k = ap (λ (x : ℕ). get_or l.steps x 0) (sym at) ∙ a.step
-      in let known = IsOperation-job shop j k op
-      in let long = laid.routes (get_or l.jobs r 0)
-      in let same : length (route_of shop (get_or l.jobs r 0)) ≡ length (route_of shop j) =
-      ap (λ (x : ℕ). length (route_of shop x)) job
+  is_place : (j k : ℕ) → IsOperation shop j k → IsPlace l (place l j k)
+  is_place j k op =
+      let a = place_of shop limits l laid j k op in let known = IsOperation-job shop j k op
+      in let long = laid.routes (get_or l.jobs (place l j k) 0)
+      in let same : length (route_of shop (get_or l.jobs (place l j k) 0)) ≡ length (route_of shop j) =
+      ap (λ (x : ℕ). length (route_of shop x)) a.job
       in grind arith
 
-  -- the heads of what is placed
-  module _ (p : Placing) {hs : List ℕ} (are : AreHeadsAt shop p l hs) where
-    pub head_waits_at : (r : ℕ) → 0 < get_or hs r 0 → (o : IsOperationAt shop l r) × (p.steps o.job ≤ o.step)
-    head_waits_at r some = elim (each_position shop limits l laid r) [
-      | inl o ↦ elim (cases_lt o.step (p.steps o.job)) [
+  -- what waits is an operation that isn't placed
+  module _ {steps : ℕ → ℕ} {f : ℕ → ℕ → ℕ} {hs : List ℕ} (are : AreStored shop steps f l hs) where
+    waits_at : (r : ℕ) → 0 < get_or hs r 0 → (o : IsOperationAt shop l r) × (steps o.job ≤ o.step)
+    waits_at r some = elim (each_position shop limits l laid r) [
+      | inl o ↦ elim (cases_lt o.step (steps o.job)) [
         | inl before ↦ grind arith
         | inr opened ↦ (o, opened)
       ]
       | inr free ↦ (let a = are.padding r free in absurd (omega arith))
     ]
 
-    pub heads_in_order : AreInRouteOrder l (at_in hs)
-    heads_in_order i k two some = search (rules, operation_in, cases_lt, ready_more, place_of)
+    -- what is so of each operation that waits is so at its position
+    pub each_waiting : (P : ℕ → Type 0) → ((i k : ℕ) → IsOperation shop i k → steps i ≤ k → P (place l i k)) → (r : ℕ)
+        → 0 < get_or hs r 0 → P r
+    each_waiting P each r some = let w = waits_at r some in let o = w.0 in subst P o.at (each o.job o.step o.is w.1)
+
+    pub waits_place : (r : ℕ) → 0 < get_or hs r 0 → IsPlace l r
+    waits_place = each_waiting (IsPlace l) (λ i k op opened. is_place i k op)
+
+    pub fits_at : {greatest : ℕ} (g : ℕ → ℕ) → ((i k : ℕ) → IsOperation shop i k → steps i ≤ k
+        → g (place l i k) + time_of shop i k ≤ greatest) → (r : ℕ) → 0 < get_or hs r 0
+        → g r + get_or l.times r 0 ≤ greatest
+    fits_at {greatest} g fits = each_waiting (λ r. g r + get_or l.times r 0 ≤ greatest) (λ i k op opened.
+        let time = (place_of shop limits l laid i k op).time in let fit = fits i k op opened in omega arith)
+
+  -- heads can be raised where some raised heads fit
+  pub raisable_to : {steps : ℕ → ℕ} {f : ℕ → ℕ → ℕ} {greatest : ℕ} {nexts : List ℕ} {rows : Rows}
+      {among : ℕ → Type 0} {asks : ℕ → ℕ → ℕ → Type 0} → AreStored shop steps f l rows.heads → rows.times ≡ l.times
+      → AreFirst l nexts rows.heads → length nexts ≤ length rows.ends → greatest < 2 ^ 64
+      → AreInRouteOrder l (at_in rows.heads) → (other : ℕ → ℕ) → IsRaised l among asks (at_in rows.heads) other
+      → ((r : ℕ) → 0 < other r → other r + get_or l.times r 0 ≤ greatest)
+      → IsRaisable greatest l nexts rows among asks
+  raisable_to are times firsts ends computable order other raised fits = record {
+    firsts = firsts;
+    ends = ends;
+    indexed = indexed are.positions;
+    followed = followed are.positions;
+    machines = laid.machines_at.positions ∙ sym are.positions;
+    times = times;
+    timed = laid.positions.times ∙ sym are.positions;
+    places = waits_place are;
+    order = order;
+    other = other;
+    raised = raised;
+    fits = fits;
+    computable = computable;
+  }
+
+  pub in_order : (p : Placing) {steps : ℕ → ℕ} {hs : List ℕ} → AreStored shop steps (head_of shop p) l hs
+      → ((i : ℕ) → p.steps i ≤ steps i) → AreInRouteOrder l (at_in hs)
+  in_order p {steps} are rise i k two some =
+      let op = operation_in i (k + 1) two in let op_k : IsOperation shop i k = omega arith
+      in elim (cases_lt k (steps i)) [
+        | inl before ↦ (let none = are.placed i k op_k before in absurd (omega arith))
+        | inr opened ↦ (let low = rise i
+            in let x = are.waiting i k op_k opened
+            in let y = are.waiting i (k + 1) op (omega arith)
+            in let z = ready_more shop p i k (omega arith)
+            in let t = (place_of shop limits l laid i k op_k).time
+            in omega arith)
+      ]
 
   module _ {p : Placing} {j : ℕ} {q : Placing} (n : IsNext shop p j q) (next : IsOperation shop j (p.steps j)) where
     abbrev machine : ℕ
@@ -92,16 +138,6 @@ module _ {shop : Shop} (limits : IsWithinLimits shop) {l : LayoutState} (laid : 
         in grind (arith, length-set, cases_eq, get_or-set_other, steps_rise, get_or-set_at)
 
     module _ {old : List ℕ} (are : AreStored shop q.steps (head_of shop p) l old) where
-      -- what waits is an operation that isn't placed
-      pub waits_at : (r : ℕ) → 0 < get_or old r 0 → (o : IsOperationAt shop l r) × (q.steps o.job ≤ o.step)
-      waits_at r some = elim (each_position shop limits l laid r) [
-        | inl o ↦ elim (cases_lt o.step (q.steps o.job)) [
-          | inl before ↦ grind arith
-          | inr opened ↦ (o, opened)
-        ]
-        | inr free ↦ (let a = are.padding r free in absurd (omega arith))
-      ]
-
       -- the new head of what waits, and one more
       abbrev pub target : ℕ → ℕ
       target r = cond {A = ℕ} (ltb 0 (get_or old r 0))
@@ -118,29 +154,10 @@ module _ {shop : Shop} (limits : IsWithinLimits shop) {l : LayoutState} (laid : 
           (ap (λ (x : ℕ). head_of shop q x (get_or l.steps (place l i k) 0) + 1) a.job
           ∙ ap (λ (x : ℕ). head_of shop q i x + 1) a.step)
 
-      pub in_order : AreInRouteOrder l (at_in old)
-      in_order i k two some =
-          let op = operation_in i (k + 1) two
-          in let op_k : IsOperation shop i k = omega arith
-          in let w = waits_at (place l i k) some
-          in let o = w.0
-          in let a = place_of shop limits l laid i k op_k
-          in let b = place_of shop limits l laid o.job o.step o.is
-          in let job : o.job ≡ i = sym b.job ∙ (ap (λ (x : ℕ). get_or l.jobs x 0) o.at ∙ a.job)
-          in let step : o.step ≡ k = sym b.step ∙ (ap (λ (x : ℕ). get_or l.steps x 0) o.at ∙ a.step)
-          in let opened : q.steps i ≤ k = (let c : q.steps o.job ≡ q.steps i = ap q.steps job in let d = w.1
-          in let e = step in omega arith)
-          in let rises = steps_rise shop p j q n i
-          in let x = are.waiting i k op_k opened
-          in let y = are.waiting i (k + 1) op (omega arith)
-          in let z = ready_more shop p i k (omega arith)
-          in let t = a.time
-          in omega arith
-
       module _ {e : ℕ} (end : e ≡ q.free machine + 1) where
-        pub target_raised : IsRaised l (IsOnMachine l machine) e (at_in old) target
+        pub target_raised : IsRaised l (IsOnMachine l machine) (AsksOwn e) (at_in old) target
         target_raised = record {
-          rises = λ r. grind (arith, cases_eq, waits_at, target_at, heads_up);
+          rises = λ r. grind (arith, cases_eq, waits_at, target_at, heads_up, are);
           rests = target_none;
           order = λ i k two some.
               let op = operation_in i (k + 1) two
@@ -153,58 +170,36 @@ module _ {shop : Shop} (limits : IsWithinLimits shop) {l : LayoutState} (laid : 
                     in let t = (place_of shop limits l laid i k op_k).time
                     in omega arith)
               ];
-          reach = λ r here some.
-              let w = waits_at r some in let o = w.0
-              in let low = here.0 in let high = here.1
-              in let at = o.at
-              in let m = on_machine shop limits l laid machine o.job o.step (limits.on_machines j (p.steps j)) o.is
-              (omega arith) (omega arith)
-              in let free : q.free (machine_of shop o.job o.step) ≡ q.free machine = ap q.free m
-              in let b = target_at o.job o.step o.is w.1
-              in let f : target (place l o.job o.step) ≡ target r = ap target o.at
-              in omega arith;
+          reach = reach_own (λ r here some. each_waiting are
+              (λ x. IsOnMachine l machine x → e ≤ target x) (λ i k op opened there.
+              let m = on_machine shop limits l laid machine i k (limits.on_machines j (p.steps j)) op there.0 there.1
+              in let free = ap q.free m in let is = target_at i k op opened in omega arith) r some here);
         }
 
-        pub raisable : (greatest : ℕ) (nexts : List ℕ) (rows : Rows) → AreFirst l nexts rows.heads
-            → length nexts ≤ length rows.ends → rows.heads ≡ old → rows.times ≡ l.times → greatest < 2 ^ 64
+        pub raisable : {greatest : ℕ} {nexts : List ℕ} {rows : Rows} → rows.heads ≡ old → rows.times ≡ l.times
+            → AreFirst l nexts rows.heads → length nexts ≤ length rows.ends → greatest < 2 ^ 64
             → ((i k : ℕ) → IsOperation shop i k → q.steps i ≤ k → head_of shop q i k + time_of shop i k < greatest)
-            → IsRaisable greatest l nexts rows (IsOnMachine l machine) e
-        raisable greatest nexts rows firsts ends heads times computable fits =
-            let of : (hs : List ℕ) → hs ≡ old → IsRaised l (IsOnMachine l machine) e (at_in hs) target =
-            (λ hs is. subst (λ (xs : List ℕ). IsRaised l (IsOnMachine l machine) e (at_in xs) target) (sym is)
+            → IsRaisable greatest l nexts rows (IsOnMachine l machine) (AsksOwn e)
+        raisable {rows = rows} heads times firsts ends computable fits =
+            let stored : AreStored shop q.steps (head_of shop p) l rows.heads = rw heads are
+            in raisable_to stored times firsts ends computable (in_order p stored (steps_rise shop p j q n)) target
+            (subst (λ (xs : List ℕ). IsRaised l (IsOnMachine l machine) (AsksOwn e) (at_in xs) target) (sym heads)
             target_raised)
-            in record {
-              firsts = firsts;
-              ends = ends;
-              indexed = indexed (ap length heads ∙ are.positions);
-              followed = followed (ap length heads ∙ are.positions);
-              machines = laid.machines_at.positions ∙ sym (ap length heads ∙ are.positions);
-              times = times;
-              timed = laid.positions.times ∙ sym (ap length heads ∙ are.positions);
-              places = λ r some. grind (arith, waits_at, is_place);
-              order = subst (λ (xs : List ℕ). AreInRouteOrder l (at_in xs)) (sym heads) in_order;
-              other = target;
-              raised = of rows.heads heads;
-              fits = λ r some. elim (cases_eq (get_or old r 0) 0) [
-                | inl z ↦ (let a = target_none r z in absurd (omega arith))
-                | inr nz ↦ (let w = waits_at r (omega arith) in let o = w.0
-                    in let b = target_at o.job o.step o.is w.1
-                    in let f : target (place l o.job o.step) ≡ target r = ap target o.at
-                    in let t = (place_of shop limits l laid o.job o.step o.is).time
-                    in let u : get_or l.times (place l o.job o.step) 0 ≡ get_or l.times r 0 =
-                    ap (λ (x : ℕ). get_or l.times x 0) o.at
-                    in let h = fits o.job o.step o.is w.1
-                    in omega arith)
-              ];
-              computable = computable;
-            }
+            (λ r some. elim (cases_lt 0 (get_or old r 0)) [
+              | inl waits ↦ fits_at are target (λ i k op opened.
+                  let at = target_at i k op opened in let fit = fits i k op opened in omega arith) r waits
+              | inr none ↦ (let a = target_none r (omega arith) in absurd (omega arith))
+            ])
 
         -- heads that are raised are no lower than those of what is left
-        module _ {new : ℕ → ℕ} (up : IsRaised l (IsOnMachine l machine) e (at_in old) new) where
+        module _ {new : ℕ → ℕ} (up : IsRaised l (IsOnMachine l machine) (AsksOwn e) (at_in old) new) where
+          on_machine_reached : (r : ℕ) → IsOnMachine l machine r → 0 < get_or old r 0 → e ≤ new r
+          on_machine_reached = own_reached up
+
           -- a head is enough, where its step is ready no later
           free_enough : (i k : ℕ) → IsOperation shop i k → q.steps i ≤ k
               → q.free (machine_of shop i k) + 1 ≤ new (place l i k)
-          free_enough i k op opened = grind (arith, cases_eq, place_of)
+          free_enough i k op opened = grind (arith, cases_eq, place_of, on_machine_reached)
 
           -- step by step from the first that isn't placed
           ready_enough : (i d k : ℕ) → q.steps i + d ≡ k → IsOperation shop i k
@@ -227,16 +222,13 @@ module _ {shop : Shop} (limits : IsWithinLimits shop) {l : LayoutState} (laid : 
           pub target_least : (r : ℕ) → target r ≤ new r
           target_least r = elim (cases_eq (get_or old r 0) 0) [
             | inl z ↦ (let a = target_none r z in omega arith)
-            | inr nz ↦ (let w = waits_at r (omega arith) in let o = w.0
-                in let b = target_at o.job o.step o.is w.1
-                in let c = ready_enough o.job (o.step - q.steps o.job) o.step (let d = w.1 in omega arith) o.is
-                in let d = free_enough o.job o.step o.is w.1
-                in let f : target (place l o.job o.step) ≡ target r = ap target o.at
-                in let g : new (place l o.job o.step) ≡ new r = ap new o.at
-                in omega arith)
+            | inr nz ↦ each_waiting are (λ x. target x ≤ new x) (λ i k op opened.
+                let is = target_at i k op opened
+                in let c = ready_enough i (k - q.steps i) k (omega arith) op
+                in let d = free_enough i k op opened in omega arith) r (omega arith)
           ]
 
-        module _ {new : List ℕ} (least : IsLeastRaise l (IsOnMachine l machine) e old new) where
+        module _ {new : List ℕ} (least : IsLeastRaise l (IsOnMachine l machine) (AsksOwn e) old new) where
           pub raised : AreHeadsAt shop q l new
           raised = record {
             positions = least.positions ∙ are.positions;

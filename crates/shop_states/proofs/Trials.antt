@@ -9,8 +9,8 @@ use Rattle.shop_states.specs.{inner.Watchers.{AreSeen, Sees, Watches, floor_on},
 use Rattle.shop_states.specs.inner.{LaneEnds.{CanKeepEnds, IsEndOf, end_at}, Advances.{IsAdvancing, IsLeastAt}}
 use Rattle.shop_states.specs.inner.{LaneStates.{AreHeadsInLanes, IsKeptInLanes}, Ceilings.{AreChildCeilings, AreUnder}}
 use Rattle.shop_states.specs.inner.{MachineRaises.{AreEmpty, AreRaisesFit, TakesSpans}, ChildBounds.IsLeastAfter}
-use Rattle.shop_states.specs.inner.{Dispatches.IsDispatchOf, RaiseCalls.CanDelay}
-use Rattle.shop_states.specs.inner.{Raises.{HasBlocks, IsOnMachine, IsRaisable, Raises}, LaneRaises.{Raise, raise_of}}
+use Rattle.shop_states.specs.inner.{Dispatches.IsDispatchOf, LaneRaises.{Raise, raise_of}, RaiseCalls.CanDelay}
+use Rattle.shop_states.specs.inner.Raises.{AsksOwn, HasBlocks, IsOnMachine, IsRaisable, Raises}
 use Rattle.shop_states.proofs.{BoundsUpTo.IsBoundUpTo, RaiseSteps.put_is, FittingSpans.{span_within, spans_each}}
 use Rattle.shop_states.proofs.AdvanceSteps.{advanced, advanced_long, advanced_others, end_small, lifted_blocks}
 use Rattle.shop_states.proofs.{AdvanceSteps.{lifted_raisable, machine_here}, LaneFits.{AreSpansFit, spans_fit}}
@@ -63,15 +63,16 @@ module _ {greatest : ℕ} {shop : Shop} {w : List ℕ} {l : LayoutState} {hs es 
           pub trial_blocks : HasBlocks l (length hs') m
           trial_blocks = lifted_blocks j kept.kept fits its_place refl refl wrote on_its
 
-          pub trial_raisable : IsRaisable greatest l nexts (rows_of l hs' es') (IsOnMachine l m) e
+          pub trial_raisable : IsRaisable greatest l nexts (rows_of l hs' es') (IsOnMachine l m) (AsksOwn e)
           trial_raisable = rw end (lifted_raisable j kept.kept fits its_place refl refl wrote on_its
               (firsts j kept fits) (let a = kept.are_next.jobs in let b = kept.ends.jobs in omega arith))
 
           lifted_low : (q : ℕ) → get_or hs' q 0 ≤ get_or hs q 0
           lifted_low q = grind (arith, cases_eq, get_or-set_at, its_position, get_or-set_other)
 
-          module _ {new : Rows} (raising : Raises greatest l nexts (IsOnMachine l m) e (rows_of l hs' es') new) where
-            raising_sum : Raises greatest l nexts (IsOnMachine l m) (get_or hs x 0 + get_or l.times x 0)
+          module _ {new : Rows}
+              (raising : Raises greatest l nexts (IsOnMachine l m) (AsksOwn e) (rows_of l hs' es') new) where
+            raising_sum : Raises greatest l nexts (IsOnMachine l m) (AsksOwn (get_or hs x 0 + get_or l.times x 0))
                 (rows_of l hs' es') new
             raising_sum = grind arith
 

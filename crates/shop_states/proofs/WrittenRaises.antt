@@ -58,11 +58,11 @@ module _ {N : Type 0} (value : N → ℕ) (v : Vec (LaneRaise N) Global) {given 
     raised_written {greatest} {e} {nexts} {machines} {among} {now} done = both done.machines view
         (λ a b. HasRaised greatest l nexts among e rows now a b machines) done
 
-    pub behind_written : {at : ℕ → ℕ → Type 0} {now : Rows} {machines : List ℕ}
-        → HasRaisedBehind l at rows now (raises_in value given) (raises_in value new) machines
-        → HasRaisedBehind l at rows now old (raises_in value written) machines
-    behind_written {at} {now} {machines} done = both done.noted.long view
-        (λ a b. HasRaisedBehind l at rows now a b machines) done
+    pub behind_written : {greatest : ℕ} {among : ℕ → Type 0} {free : ℕ → ℕ} {now : Rows} {machines : List ℕ}
+        → HasRaisedBehind greatest l among free rows now (raises_in value given) (raises_in value new) machines
+        → HasRaisedBehind greatest l among free rows now old (raises_in value written) machines
+    behind_written {greatest} {among} {free} {now} {machines} done = both done.noted.long view
+        (λ a b. HasRaisedBehind greatest l among free rows now a b machines) done
 
     -- and the bound is passed on with one less
     pub spans_written : {least limit b : ℕ}

@@ -1,8 +1,9 @@
 // Raises heads of later operations on the routes of one machine's operations, as if that machine were free late, and
 // notes how far.
-ghost use Rattle.std.specs.Prelude.{◌<◌, slice_index};
+ghost use Rattle.std.specs.Prelude.{◌+◌, ◌≤◌, ◌<◌, [], slice_index};
 ghost use Rattle.shop_states.specs.inner.{LaneRaises.raises_in, LaidLanes.rows_in, RaiseCalls.CanNote};
-ghost use Rattle.shop_states.specs.inner.Siblings.{CanRaiseBehind, CanRaiseLate, HasRaisedBehind, IsEndAt, IsLateOn};
+ghost use Rattle.shop_states.specs.inner.Raises.{AsksNext, IsPosition, IsRaisable};
+ghost use Rattle.shop_states.specs.inner.Siblings.{CanRaiseLate, HasRaisedBehind, HasRaisedLate};
 
 use crate::dispatches::marks_end;
 use crate::lane_raises::{LaneRaise, see};
@@ -43,12 +44,13 @@ fn raise_behind<L: StateLanes, const NUMBERS: usize>(
     free: u64,
 )
     requires waits { 0 < slice_index (L.heads lanes.old) position }
-    requires can { CanRaiseBehind L.GREATEST routes.now (rows_in L.StateLanes routes.now lanes.old)
-        (IsEndAt position free) }
+    requires ends { free + slice_index routes.now.times position ≤ L.GREATEST }
+    requires can { IsRaisable L.GREATEST routes.now [] (rows_in L.StateLanes routes.now lanes.old)
+        (IsPosition position) (AsksNext routes.now (λ p. free)) }
     requires note { CanNote L.value NUMBERS routes.now.machines raises.old raised.old }
-    ensures { HasRaisedBehind routes.now (IsEndAt position free) (rows_in L.StateLanes routes.now lanes.old)
-        (rows_in L.StateLanes routes.now lanes.new) (raises_in L.value raises.old) (raises_in L.value raises.new)
-        raised.new }
+    ensures { HasRaisedBehind L.GREATEST routes.now (IsPosition position) (λ p. free)
+        (rows_in L.StateLanes routes.now lanes.old) (rows_in L.StateLanes routes.now lanes.new)
+        (raises_in L.value raises.old) (raises_in L.value raises.new) raised.new }
 {
     let ready = free + routes.time(position);
     let leg = routes.leg(routes.behind(position));
@@ -76,7 +78,7 @@ pub(crate) fn raise_late<L: StateLanes, const NUMBERS: usize>(
 )
     requires can { CanRaiseLate L.GREATEST routes.now (rows_in L.StateLanes routes.now lanes.old) late }
     requires note { CanNote L.value NUMBERS routes.now.machines raises.old raised.old }
-    ensures { HasRaisedBehind routes.now (IsLateOn late) (rows_in L.StateLanes routes.now lanes.old)
+    ensures { HasRaisedLate L.GREATEST routes.now late (rows_in L.StateLanes routes.now lanes.old)
         (rows_in L.StateLanes routes.now lanes.new) (raises_in L.value raises.old) (raises_in L.value raises.new)
         raised.new }
 {

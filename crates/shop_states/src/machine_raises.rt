@@ -3,7 +3,7 @@ ghost use Rattle.std.specs.Prelude.{◌≡◌, ◌+◌, ◌≤◌, ◌<◌, ◌^
 ghost use Rattle.shop_states.specs.inner.{LaidLanes.{HasRaisedIn, rows_in}, RaiseCalls.CanDelay};
 ghost use Rattle.shop_states.specs.inner.MachineRaises.{AreEmpty, CanTakeSpans, CanTakeSpansUnder, TakesSpans};
 ghost use Rattle.shop_states.specs.inner.{Raises.IsOnMachine, Watchers.AreKnown};
-ghost use Rattle.shop_states.specs.inner.Siblings.{BoundsRaises, CanRaiseLate, HasRaisedBehind, IsLateOn};
+ghost use Rattle.shop_states.specs.inner.Siblings.{BoundsRaises, CanRaiseLate, HasRaisedLate};
 
 use crate::dispatches::{Dispatch, MOST_MARKED};
 use crate::lane_bounds::{BoundRange, kept_ceiling, machine_bound, take_any_spans, take_spans_of};
@@ -131,7 +131,7 @@ impl<L: StateLanes> MachineRaises<L> {
         requires at_rest { AreEmpty self.old }
         requires can { CanRaiseLate L.GREATEST routes.now (rows_in L.StateLanes routes.now lanes.old) late }
         requires known { AreKnown routes.now.machines (length self.old) }
-        ensures { HasRaisedBehind routes.now (IsLateOn late) (rows_in L.StateLanes routes.now lanes.old)
+        ensures { HasRaisedLate L.GREATEST routes.now late (rows_in L.StateLanes routes.now lanes.old)
             (rows_in L.StateLanes routes.now lanes.new) self.old self.new result }
     {
         let mut raised = MachineSet::none();

@@ -22,7 +22,7 @@ pub(crate) fn place_none<L: StateLanes>(
         next_legs.new ready.new free.new }
 {
     let instance = laid_out.instance();
-    // called for its contract: it tells what the legs are laid out from
+    // called for its contract: the layout has the routes of this instance
     let _ = laid_out.grid();
     let mut first: usize = 0;
     for job in 0..next_legs.len() {

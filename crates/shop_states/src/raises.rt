@@ -2,7 +2,7 @@
 ghost use Rattle.std.specs.Prelude.{◌+◌, ◌≤◌, ◌<◌, ◌^◌, [], length, slice_index};
 ghost use Rattle.shop_states.specs.inner.{LaneRaises.raises_in, LaidLanes.{HasRaisedIn, RaisesIn, rows_in}};
 ghost use Rattle.shop_states.specs.inner.RaiseCalls.{CanDelay, CanNote, CanRaise};
-ghost use Rattle.shop_states.specs.inner.Raises.{AreWaiting, IsOnMachine, IsPosition, IsRaisable, SetsEndAt};
+ghost use Rattle.shop_states.specs.inner.Raises.{AreWaiting, AsksOwn, IsOnMachine, IsPosition, IsRaisable, SetsEndAt};
 ghost use Rattle.shop_states.specs.inner.{RisingLists.IsIn, Watchers.{Notes, Sees}, MachineRaises.AreListed};
 
 use crate::dispatches::{Dispatch, marks_end};
@@ -36,7 +36,7 @@ pub(crate) fn raise_route<L: StateLanes, const NUMBERS: usize>(
     requires waits { 0 < slice_index (L.heads lanes.old) position }
     requires below { slice_index (L.heads lanes.old) position ≤ end }
     requires raisable { IsRaisable L.GREATEST routes.now [] (rows_in L.StateLanes routes.now lanes.old)
-        (IsPosition position) end }
+        (IsPosition position) (AsksOwn end) }
     requires note { 0 < NUMBERS → CanNote L.value NUMBERS routes.now.machines raises.old raised.old }
     ensures raises { RaisesIn L.StateLanes routes.now [] (IsPosition position) end lanes.old lanes.new }
     ensures seen { 0 < NUMBERS → Sees routes.now.machines (IsPosition position) end (L.heads lanes.old)

@@ -12,7 +12,8 @@ use Rattle.shop_lanes.specs.Rows.{Rows}
 use Rattle.shop_layout.specs.Positions.{LayoutState}
 use Rattle.shop_states.specs.declared.{dispatches.Dispatch.Dispatch, lane_raises.LaneRaise.LaneRaise}
 use Rattle.shop_states.specs.inner.{Dispatches.AreDelayedOn, LaneRaises.{Raise, raises_in}, MachineRaises.AreListed}
-use Rattle.shop_states.specs.inner.{Raises.{HasBlocks, IsOnMachine, IsRaisable, Raises}, Watchers.{AreKnown, Sees}}
+use Rattle.shop_states.specs.inner.{Raises.{AsksOwn, HasBlocks, IsOnMachine, IsRaisable, Raises}, Watchers.AreKnown}
+use Rattle.shop_states.specs.inner.Watchers.{Sees}
 
 pub record CanNote {N : Type 0} (value : N → ℕ) (numbers : ℕ) (ms : List ℕ) (raises : List (LaneRaise N))
     (raised : List ℕ) : Type 0 where
@@ -24,19 +25,19 @@ pub record CanNote {N : Type 0} (value : N → ℕ) (numbers : ℕ) (ms : List �
 pub record CanRaise (greatest : ℕ) (l : LayoutState) (nexts : List ℕ) (among : ℕ → Type 0) (e : ℕ)
     (rows : Rows) : Type 0 where
   pub fits : e ≤ greatest
-  pub raisable : IsRaisable greatest l nexts rows among e
+  pub raisable : IsRaisable greatest l nexts rows among (AsksOwn e)
   pub jobs : length l.places ≤ length nexts
 
 pub record CanDelay (greatest : ℕ) (l : LayoutState) (nexts : List ℕ) (rows : Rows) (d : Dispatch) : Type 0 where
   pub machine : HasBlocks l (length rows.heads) d.machine
   pub delayed : AreDelayedOn l d.machine d.end rows.heads d.delayed
   pub fits : d.end ≤ greatest
-  pub raisable : IsRaisable greatest l nexts rows (IsOnMachine l d.machine) d.end
+  pub raisable : IsRaisable greatest l nexts rows (IsOnMachine l d.machine) (AsksOwn d.end)
   pub jobs : length l.places ≤ length nexts
 
 pub record HasRaised (greatest : ℕ) (l : LayoutState) (nexts : List ℕ) (among : ℕ → Type 0) (e : ℕ)
     (old new : Rows) (before after : List Raise) (listed_machines : List ℕ) : Type 0 where
-  pub raises : Raises greatest l nexts among e old new
+  pub raises : Raises greatest l nexts among (AsksOwn e) old new
   pub seen : Sees l.machines among e old.heads new.heads before after
   pub listed : AreListed after listed_machines
   pub machines : length after ≡ length before

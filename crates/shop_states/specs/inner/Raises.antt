@@ -1,9 +1,13 @@
 -- Heads by position that are raised.
 --     AreInRouteOrder l heads        a step that waits ends, from its head on, not after the head
 --                                    of the next step
---     IsRaised l among e old new     no head fell, the heads at some positions are at least e, and
---                                    routes are in order
---     IsLeastRaise l among e ..      the least heads that are raised
+--     asks p q v                     position p asks that the head at q be at least v; in particular:
+--     AsksOwn e p q v                position p asks that its own head be at least e
+--     AsksNext l free p q v          position p asks that the next head on its route be no earlier than an
+--                                    operation at p ends that begins at `free p`
+--     IsRaised l among asks old new  no head fell, routes are in order, and heads are as high as each position
+--                                    in `among` asks at which something waits
+--     IsLeastRaise l among asks ..   the least heads that are raised
 --     IsRaisable greatest l nexts .. some raised heads fit into lanes
 --     AreWaiting heads marks         marked positions, in order, at each of which something waits
 --     Raises greatest l nexts ..     heads are raised least, and the ends of next operations kept up
@@ -46,16 +50,25 @@ abbrev pub AreInRouteOrder : LayoutState → (ℕ → ℕ) → Type 0
 AreInRouteOrder l heads = (j k : ℕ) → k + 1 < steps_of l j → 0 < heads (place l j k)
     → heads (place l j k) + slice_index l.times (place l j k) ≤ heads (place l j (k + 1))
 
-pub record IsRaised (l : LayoutState) (among : ℕ → Type 0) (e : ℕ) (old new : ℕ → ℕ) : Type 0 where
+abbrev pub AsksOwn : ℕ → ℕ → ℕ → ℕ → Type 0
+AsksOwn e p q v = (q ≡ p) × (v ≡ e)
+
+pub record AsksNext (l : LayoutState) (free : ℕ → ℕ) (p q v : ℕ) : Type 0 where
+  pub more : slice_index l.steps p + 1 < steps_of l (slice_index l.jobs p)
+  pub next : q ≡ place l (slice_index l.jobs p) (slice_index l.steps p + 1)
+  pub ready : v ≡ free p + slice_index l.times p
+
+pub record IsRaised (l : LayoutState) (among : ℕ → Type 0) (asks : ℕ → ℕ → ℕ → Type 0) (old new : ℕ → ℕ) : Type 0 where
   pub rises : (q : ℕ) → old q ≤ new q
   pub rests : (q : ℕ) → old q ≡ 0 → new q ≡ 0
   pub order : AreInRouteOrder l new
-  pub reach : (q : ℕ) → among q → 0 < old q → e ≤ new q
+  pub reach : (p q v : ℕ) → among p → asks p q v → 0 < old p → v ≤ new q
 
-pub record IsLeastRaise (l : LayoutState) (among : ℕ → Type 0) (e : ℕ) (old new : List ℕ) : Type 0 where
+pub record IsLeastRaise (l : LayoutState) (among : ℕ → Type 0) (asks : ℕ → ℕ → ℕ → Type 0) (old new : List ℕ)
+    : Type 0 where
   pub positions : length new ≡ length old
-  pub raised : IsRaised l among e (at_in old) (at_in new)
-  pub least : (other : ℕ → ℕ) → IsRaised l among e (at_in old) other → (q : ℕ) → slice_index new q ≤ other q
+  pub raised : IsRaised l among asks (at_in old) (at_in new)
+  pub least : (other : ℕ → ℕ) → IsRaised l among asks (at_in old) other → (q : ℕ) → slice_index new q ≤ other q
 
 -- next operations are the first of their routes that wait
 pub record AreFirst (l : LayoutState) (nexts heads : List ℕ) : Type 0 where
@@ -66,7 +79,7 @@ pub record AreFirst (l : LayoutState) (nexts heads : List ℕ) : Type 0 where
 
 -- some raise fits into lanes, and so do the ends of next operations
 pub record IsRaisable (greatest : ℕ) (l : LayoutState) (nexts : List ℕ) (rows : Rows)
-    (among : ℕ → Type 0) (e : ℕ) : Type 0 where
+    (among : ℕ → Type 0) (asks : ℕ → ℕ → ℕ → Type 0) : Type 0 where
   pub firsts : AreFirst l nexts rows.heads
   pub ends : length nexts ≤ length rows.ends
   pub indexed : IsIndexed l (length rows.heads)
@@ -77,7 +90,7 @@ pub record IsRaisable (greatest : ℕ) (l : LayoutState) (nexts : List ℕ) (row
   pub places : (q : ℕ) → 0 < slice_index rows.heads q → IsPlace l q
   pub order : AreInRouteOrder l (at_in rows.heads)
   pub other : ℕ → ℕ
-  pub raised : IsRaised l among e (at_in rows.heads) other
+  pub raised : IsRaised l among asks (at_in rows.heads) other
   pub fits : (q : ℕ) → 0 < other q → other q + slice_index l.times q ≤ greatest
   pub computable : greatest < 2 ^ 64
 
@@ -87,9 +100,9 @@ pub record KeepsEnds (greatest : ℕ) (nexts : List ℕ) (old new : Rows) : Type
   pub none : nexts ≡ [] → new.ends ≡ old.ends
   pub each : (j : ℕ) → j < length nexts → IsEndOf greatest nexts old j → IsEndOf greatest nexts new j
 
-pub record Raises (greatest : ℕ) (l : LayoutState) (nexts : List ℕ) (among : ℕ → Type 0) (e : ℕ)
-    (old new : Rows) : Type 0 where
-  pub raised : IsLeastRaise l among e old.heads new.heads
+pub record Raises (greatest : ℕ) (l : LayoutState) (nexts : List ℕ) (among : ℕ → Type 0)
+    (asks : ℕ → ℕ → ℕ → Type 0) (old new : Rows) : Type 0 where
+  pub raised : IsLeastRaise l among asks old.heads new.heads
   pub times : new.times ≡ old.times
   pub tails : new.tails ≡ old.tails
   pub ends : KeepsEnds greatest nexts old new

@@ -1,78 +1,42 @@
 -- What the children of a word have in common: heads behind the operations of one machine are raised
 -- as if that machine were free late.
---     IsRaisedBehind l at old new    no head fell, routes are in order, and what follows a position
---                                    that waits, and whose machine is free from e on by `at`, begins
---                                    no earlier than an operation there ends that begins at e
---     CanRaiseBehind greatest l ..   some heads that are raised so fit into lanes
---     RaisesBehind l at old new      heads are raised so, and as little as that allows
---     HasRaisedBehind l at ..        heads are raised so, and how far they rose is noted for listed machines
---     IsEndAt p e                    the machine of position p alone counts, free from e on
+--     HasRaisedBehind greatest l ..  heads are raised behind each of these positions, as if the operation there
+--                                    began at `free`, and how far they rose is noted for listed machines
 --     job_at cs i                    the job of candidate i
 --     IsAmong cs j                   one of the candidates is job j
 --     end_by heads times nexts j     when the next operation of job j ends
 --     CanEnd greatest l heads ..     that can be told
 --     AreLatest ends cs latest       of these candidates the one that ends last, with its end, and
 --                                    the latest end of the others
---     IsLateAt among x end second    these positions count: their machine is free from `end` on, for x
---                                    from `second` on
---     IsLateOn late                  positions of a late machine count so
---     CanRaiseLate greatest l ..     some heads that are raised so fit into lanes, where that
---                                    machine's blocks are
+--     free_late x latest p           when the machine is free for position p: at the latest end, or for x, the
+--                                    position of the operation that ends last, at the latest end of the others
+--     CanRaiseLate greatest l ..     a late machine's blocks are among the positions; heads can be raised behind
+--                                    its operations; and these, if they begin when it is free for them, end
+--                                    within lanes
+--     HasRaisedLate greatest l ..    heads are raised behind the operations of a late machine, and how far they
+--                                    rose is noted
 --     AreSiblings shop w cs          the word goes on with each candidate, all on one machine
 --     CanBoundChildren greatest ..   lanes and next operations are those of some word of this bound,
 --                                    which goes on with these candidates
 --     BoundsRaises l rows old cs ..  each number is at least `least` and the spans that begin within
 --                                    the raise of its machine; b is at least each number
 use Rattle.std.specs.Prelude.{◌≡◌, ℕ, ◌+◌, ◌*◌, ◌≤◌, ◌<◌, ◌^◌, ◌⊎◌, List, [], ◌∷◌, ◌++◌, length, slice_index}
-use Rattle.std.specs.Prelude.{slice_index_or}
+use Rattle.std.specs.Prelude.{slice_index_or, ◌==◌, if◌then◌else◌}
 use Rattle.shop_lanes.specs.{Rows.Rows, Spans.spans_between}
 use Rattle.shop_model.specs.{Shop.{Shop, machine_of}, Word.{IsWord, placing}}
 use Rattle.shop_bound.specs.Bound.{lb}
-use Rattle.shop_layout.specs.{Lanes.lanes_on, Positions.{LayoutState, place}}
-use Rattle.shop_states.specs.inner.Raises.{AreInRouteOrder, IsFollowed, IsInBlocks, IsIndexed, IsPlace, at_in, steps_of}
+use Rattle.shop_layout.specs.{Lanes.lanes_on, Positions.LayoutState}
+use Rattle.shop_states.specs.inner.Raises.{AsksNext, IsInBlocks, IsRaisable, Raises}
 use Rattle.shop_states.specs.{declared.late_raises.LateMachine.LateMachine, declared.states.Candidate.Candidate}
 use Rattle.shop_states.specs.{inner.LaneRaises.{Raise, raise_of}, declared.late_raises.Latest.Latest}
 use Rattle.shop_states.specs.inner.Watchers.{Watches, no_floor}
 use Rattle.shop_states.specs.{inner.LaneStates.IsKeptInLanes, inner.MachineRaises.{AreEmpty, AreListed}}
 
-pub record IsRaisedBehind (l : LayoutState) (at : ℕ → ℕ → Type 0) (old new : ℕ → ℕ) : Type 0 where
-  pub rises : (q : ℕ) → old q ≤ new q
-  pub rests : (q : ℕ) → old q ≡ 0 → new q ≡ 0
-  pub order : AreInRouteOrder l new
-  pub behind : (j k e : ℕ) → k + 1 < steps_of l j → at (place l j k) e → 0 < old (place l j k)
-      → e + slice_index l.times (place l j k) ≤ new (place l j (k + 1))
-
-pub record CanRaiseBehind (greatest : ℕ) (l : LayoutState) (rows : Rows) (at : ℕ → ℕ → Type 0) : Type 0 where
-  pub indexed : IsIndexed l (length rows.heads)
-  pub followed : IsFollowed l (length rows.heads)
-  pub machines : length l.machines ≡ length rows.heads
-  pub times : rows.times ≡ l.times
-  pub timed : length l.times ≡ length rows.heads
-  pub places : (q : ℕ) → 0 < slice_index rows.heads q → IsPlace l q
-  pub order : AreInRouteOrder l (at_in rows.heads)
-  pub other : ℕ → ℕ
-  pub raised : IsRaisedBehind l at (at_in rows.heads) other
-  pub fits : (q : ℕ) → 0 < other q → other q + slice_index l.times q ≤ greatest
-  pub ends : (q e : ℕ) → at q e → 0 < slice_index rows.heads q → e + slice_index l.times q ≤ greatest
-  pub computable : greatest < 2 ^ 64
-
-pub record RaisesBehind (l : LayoutState) (at : ℕ → ℕ → Type 0) (old new : Rows) : Type 0 where
-  pub positions : length new.heads ≡ length old.heads
-  pub raised : IsRaisedBehind l at (at_in old.heads) (at_in new.heads)
-  pub least : (other : ℕ → ℕ) → IsRaisedBehind l at (at_in old.heads) other → (q : ℕ)
-      → slice_index new.heads q ≤ other q
-  pub times : new.times ≡ old.times
-  pub tails : new.tails ≡ old.tails
-  pub ends : new.ends ≡ old.ends
-
-pub record HasRaisedBehind (l : LayoutState) (at : ℕ → ℕ → Type 0) (old new : Rows) (before after : List Raise)
-    (raised : List ℕ) : Type 0 where
-  pub raises : RaisesBehind l at old new
+pub record HasRaisedBehind (greatest : ℕ) (l : LayoutState) (among : ℕ → Type 0) (free : ℕ → ℕ) (old new : Rows)
+    (before after : List Raise) (raised : List ℕ) : Type 0 where
+  pub raises : Raises greatest l [] among (AsksNext l free) old new
   pub noted : Watches no_floor l.machines old.heads new.heads before after
   pub listed : AreListed after raised
-
-abbrev pub IsEndAt : ℕ → ℕ → ℕ → ℕ → Type 0
-IsEndAt p free q e = (q ≡ p) × (e ≡ free)
 
 abbrev pub job_at : List Candidate → ℕ → ℕ
 job_at cs i = (slice_index_or cs i (record { job = 0; own = 0 })).job
@@ -99,18 +63,22 @@ pub record AreLatest (ends : ℕ → ℕ) (cs : List Candidate) (t : Latest) : T
   pub others : (i : ℕ) → i < length cs → (job_at cs i ≡ t.job → ⊥) → ends (job_at cs i) ≤ t.second
   pub second : (t.second ≡ 0) ⊎ ((j : ℕ) × (IsAmong cs j × ((j ≡ t.job → ⊥) × (t.second ≡ ends j))))
 
-abbrev pub IsLateAt : (ℕ → Type 0) → ℕ → ℕ → ℕ → ℕ → ℕ → Type 0
-IsLateAt among x end second q e = among q × (((q ≡ x) × (e ≡ second)) ⊎ ((q ≡ x → ⊥) × (e ≡ end)))
-
-abbrev pub IsLateOn : LateMachine → ℕ → ℕ → Type 0
-IsLateOn late = IsLateAt (IsInBlocks late.from late.behind) late.last late.latest.end late.latest.second
+abbrev pub free_late : ℕ → Latest → ℕ → ℕ
+free_late x latest p = if p == x then latest.second else latest.end
 
 pub record CanRaiseLate (greatest : ℕ) (l : LayoutState) (rows : Rows) (late : LateMachine) : Type 0 where
   pub ordered : late.from ≤ late.behind
   pub within : 8 * late.behind ≤ length rows.heads
   pub second : late.latest.second ≤ late.latest.end
   pub fits : late.latest.end ≤ greatest
-  pub can : CanRaiseBehind greatest l rows (IsLateOn late)
+  pub ends : (q : ℕ) → IsInBlocks late.from late.behind q → 0 < slice_index rows.heads q
+      → free_late late.last late.latest q + slice_index l.times q ≤ greatest
+  pub can : IsRaisable greatest l [] rows (IsInBlocks late.from late.behind)
+      (AsksNext l (free_late late.last late.latest))
+
+abbrev pub HasRaisedLate : ℕ → LayoutState → LateMachine → Rows → Rows → List Raise → List Raise → List ℕ → Type 0
+HasRaisedLate greatest l late =
+    HasRaisedBehind greatest l (IsInBlocks late.from late.behind) (free_late late.last late.latest)
 
 pub record AreSiblings (shop : Shop) (w : List ℕ) (cs : List Candidate) : Type 0 where
   pub fits : (i : ℕ) → i < length cs → IsWord shop (w ++ job_at cs i ∷ [])

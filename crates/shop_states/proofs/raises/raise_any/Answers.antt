@@ -1,11 +1,11 @@
 use Rattle.std.proofs.Common.{◌≡◌, ◌+◌, get_or, min, arith}
-use Rattle.shop_states.proofs.MarkedRaises.{blocks_begin, blocks_end, blocks_on, marks_can_raise, marks_wait}
+use Rattle.shop_states.proofs.MarkedRaises.{blocks_end, delayed_begin, delayed_on, marks_can_raise, marks_wait}
 use Rattle.shop_states.proofs.{MarkedRaises.{raised_begins, raised_ends, raised_on}, RaisedMachines.note_on}
 use Rattle.shop_states.proofs.raises.raise_any.Goals as goal
 
 pub loop-from-init : goal.loop-from-init
 loop-from-init g c = record {
-  blocks = grind (arith, blocks_begin);
+  blocks = grind (arith, delayed_begin);
   marked = grind arith;
   noted = λ some. (let note = c.requires.note some in (grind (arith, raised_begins), grind arith));
 }
@@ -32,7 +32,7 @@ loop-from-preserved g c =
     in let more = c.marks_end.ensures in let over = c.if-from-behind.false
     in let next : c.marks_end.result ≡ min (c.marks_end-from.result + 8) behind = omega arith
     in record {
-      blocks = rw moved at (blocks_on c.requires.can so.blocks so.marked
+      blocks = rw moved at (delayed_on c.requires.can so.blocks so.marked
           (rw c.routes-routes.ensures at c.raise_marked.ensures.raises));
       marked = grind arith;
       noted = λ some.
@@ -45,8 +45,8 @@ returns-clause-raises g c =
     let so = c.loop-from.invariant
     in let up = so.blocks.within in let least = c.marks_end-from.ensures in let read = c.block-behind.ensures
     in let over = c.if-from-behind.true
-    in blocks_end c.requires.can (omega arith) (blocks_on c.requires.can so.blocks so.marked
-    (rw c.routes-routes.ensures at c.raise_marked.ensures.raises))
+    in blocks_end (delayed_on c.requires.can so.blocks so.marked
+    (rw c.routes-routes.ensures at c.raise_marked.ensures.raises)) (omega arith)
 
 pub returns-clause-noted : goal.returns-clause-noted
 returns-clause-noted g c = λ some.

@@ -1,6 +1,6 @@
 use Rattle.std.proofs.Common.{◌≤◌, ◌∙◌, ℕ, arith, get_or, refl, subst, sym}
 use Rattle.shop_states.specs.inner.{Raises.IsPosition, RisingLists.IsIn}
-use Rattle.shop_states.proofs.{RaisedEnds.{mid_raisable, raised_with_ends}, RaisedMachines.note_on}
+use Rattle.shop_states.proofs.{RaisedEnds.{mid_raisable, raised_fits, raised_with_ends}, RaisedMachines.note_on}
 use Rattle.shop_states.proofs.RaiseLoops.{marks_begin, popped_here, popped_within, popped_waits, popped_raisable}
 use Rattle.shop_states.proofs.{RaiseLoops.{marks_on, marks_past, marks_end}, Watching.{sees_both, sees_long, sees_none}}
 use Rattle.shop_states.proofs.raises.raise_marked.Goals as goal
@@ -25,7 +25,9 @@ pub set_end_at-requires-clause-known : goal.set_end_at-requires-clause-known
 set_end_at-requires-clause-known g c = grind (arith, popped_waits)
 
 pub set_end_at-requires-clause-fits : goal.set_end_at-requires-clause-fits
-set_end_at-requires-clause-fits g c = grind (arith, popped_waits)
+set_end_at-requires-clause-fits g c = raised_fits
+    (popped_raisable c.requires.can.raisable c.loop-position.invariant.raised c.in-Some.ensures)
+    (popped_waits c.requires.can.raisable c.loop-position.invariant.raised c.in-Some.ensures)
 
 pub raise_route-requires-clause-waits : goal.raise_route-requires-clause-waits
 raise_route-requires-clause-waits g c = grind (arith, popped_waits)
@@ -68,7 +70,7 @@ loop-position-preserved g c =
     record {
       raised =
           marks_past c.requires.can.raisable c.loop-position.invariant.raised c.in-Some.ensures
-          (let a = c.head.ensures in let b = c.if-head-end.false in omega arith);
+          (λ r v asked. rw (asked.0, asked.1) (let a = c.head.ensures in let b = c.if-head-end.false in omega arith));
       noted = c.loop-position.invariant.noted;
     }
 

@@ -1,11 +1,11 @@
 use Rattle.std.proofs.Common.{◌≡◌, ◌<◌, length}
 use Rattle.shop_states.specs.inner.{LaidLanes.rows_in, LaneRaises.raises_in, MachineRaises.AreListed, RisingLists.IsIn}
-use Rattle.shop_states.{specs.inner.Watchers.Sees, proofs.RaiseLoops.AreMarksRaised}
+use Rattle.shop_states.{specs.inner.{Raises.AsksOwn, Watchers.Sees}, proofs.RaiseLoops.AreMarksRaised}
 use Rattle.shop_states.proofs.raises.raise_marked.Given as goal
 
 abbrev pub invariant-loop-position : goal.invariant-loop-position
 invariant-loop-position g l = record {
-  raised : AreMarksRaised g.L.StateLanes.GREATEST l.ahead.routes l.ahead.next.now l.fn.marks l.end l.todo
+  raised : AreMarksRaised g.L.StateLanes.GREATEST l.ahead.routes l.ahead.next.now l.fn.marks (AsksOwn l.end) l.todo
       (rows_in g.L.StateLanes l.ahead.routes l.fn.lanes) (rows_in g.L.StateLanes l.ahead.routes l.lanes);
   noted : 0 < g.row.NUMBERS → record {
     seen : Sees l.ahead.routes.machines (IsIn l.fn.marks) l.end (g.L.StateLanes.heads l.fn.lanes)

@@ -1,5 +1,6 @@
 use Rattle.std.proofs.{Common.{refl, arith}, lemmas.List.length-map}
-use Rattle.shop_states.{specs.inner.LaneRaises.raise_in, proofs.{RaisedMachines.lengths_in, RaisedEnds.raised_within}}
+use Rattle.shop_states.{specs.inner.LaneRaises.raise_in, proofs.RaisedMachines.lengths_in}
+use Rattle.shop_states.proofs.RaisedEnds.{raised_fits, raised_within}
 use Rattle.shop_states.proofs.RaiseSteps.{begun_following, ended_at, followed, is_there, leg_fits, leg_known}
 use Rattle.shop_states.proofs.{RaiseSteps.{leg_machine, position_up_to, put_is, read_there}, Watching.notes_first}
 use Rattle.shop_states.proofs.Watching.{notes_next, sees_first, sees_long, sees_next}
@@ -127,3 +128,12 @@ behind-index-requires-clause-known g c = (c.requires.raisable.places c.args.posi
 
 pub set_head-requires-clause-in_range : goal.set_head-requires-clause-in_range
 set_head-requires-clause-in_range g c = raised_within c.requires.raisable c.requires.waits
+
+pub set_head-requires-clause-fits : goal.set_head-requires-clause-fits
+set_head-requires-clause-fits g c =
+    let fits = raised_fits c.requires.raisable c.requires.waits in omega arith
+
+pub overflow_add-ready : goal.overflow_add-ready
+overflow_add-ready g c =
+    let fits = raised_fits c.requires.raisable c.requires.waits in let time = c.time.ensures
+    in let computable = c.requires.raisable.computable in omega arith

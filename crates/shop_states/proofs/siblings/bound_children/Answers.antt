@@ -56,7 +56,7 @@ take_ceilings-requires-clause-can g c =
     in let on = rw c.routes-routes.ensures at c.machine-machine.ensures
     in let late = rw c.routes-routes.ensures at c.raise_late-raised.ensures
     in let kept = c.requires.can.kept.kept
-    in let long = late.raises.positions in let heads = kept.heads.positions
+    in let long = late.raises.raised.positions in let heads = kept.heads.positions
     in let times = kept.laid.positions.times in let tails = kept.laid.positions.tails
     in record {
       listed = c.raise_late-raised.ensures.listed;

@@ -2,8 +2,8 @@ use Rattle.std.proofs.Common.{arith, ◌≡◌, ℕ, List, refl, subst}
 use Rattle.shop_model.specs.Shop.{Shop}
 use Rattle.shop_layout.specs.{Lanes.rows_of, Positions.LayoutState}
 use Rattle.shop_states.specs.{declared.states.Candidate.Candidate, inner.Candidates.AreCandidatesOf}
-use Rattle.shop_states.{specs.inner.LaneStates.IsKeptInLanes, proofs.{KeptRoom.{long_kept, slot_of}, ReadStates.kept_read}}
-use Rattle.shop_states.proofs.AskedStates.{kept_of, listed_there}
+use Rattle.shop_states.{specs.inner.LaneStates.IsKeptInLanes, proofs.AskedStates.{kept_of, listed_there}}
+use Rattle.shop_states.proofs.{KeptRoom.{long_kept, slot_of}, ReadStates.kept_read}
 use Rattle.shop_states.proofs.dispatchers.Dispatcher.list_candidates.Goals as goal
 
 gathered : (greatest : ℕ) (shop : Shop) (l read : LayoutState) → read ≡ l → (heads ends nexts : List ℕ)

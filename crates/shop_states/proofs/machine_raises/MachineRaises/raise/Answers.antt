@@ -1,5 +1,5 @@
 use Rattle.std.proofs.Common.{◌≤◌, arith, ap, length}
-use Rattle.shop_states.proofs.MarkedRaises.{all_marked, blocks_begin, marks_can_raise, marks_wait, raised_begins}
+use Rattle.shop_states.proofs.MarkedRaises.{all_marked, delayed_begin, marks_can_raise, marks_wait, raised_begins}
 use Rattle.shop_states.proofs.{MarkedRaises.{raised_ends, raised_on}, RaisedMachines.can_note}
 use Rattle.shop_states.proofs.WrittenRaises.{few_written, raised_written}
 use Rattle.shop_states.proofs.machine_raises.MachineRaises.raise.Goals as goal
@@ -29,11 +29,11 @@ raise_marked-requires-clause-note g c = λ noted.
     c.self.view_is c.self.invariant.0 c.requires.at_rest c.requires.known c.none-raised.ensures noted (λ one. small))
 
 pub raise_marked-requires-clause-marks : goal.raise_marked-requires-clause-marks
-raise_marked-requires-clause-marks g c = marks_wait c.requires.can (blocks_begin c.requires.can) c.requires.can.delayed
+raise_marked-requires-clause-marks g c = marks_wait c.requires.can (delayed_begin c.requires.can) c.requires.can.delayed
 
 pub raise_marked-requires-clause-can : goal.raise_marked-requires-clause-can
 raise_marked-requires-clause-can g c = rw c.routes-routes.ensures
-    (marks_can_raise c.requires.can (blocks_begin c.requires.can) c.requires.can.delayed)
+    (marks_can_raise c.requires.can (delayed_begin c.requires.can) c.requires.can.delayed)
 
 pub invariant_of-self : goal.invariant_of-self
 invariant_of-self g c = few_written g.L.StateLanes.value c.self.inside.raises c.raise_any.new.raises
@@ -67,5 +67,5 @@ returns g c =
     c.as_mut_slice-raises.ensures.value c.self.view_is (raised_ends c.requires.can
     (all_marked c.args.grid.now c.args.dispatch.machine c.fixed_blocks_each-each.result
     c.fixed_blocks_each-each.ensures.even (omega arith) (omega arith) c.requires.can.machine.known)
-    (raised_on c.requires.can (blocks_begin c.requires.can) c.requires.can.delayed (raised_begins c.requires.can)
+    (raised_on c.requires.can (delayed_begin c.requires.can) c.requires.can.delayed (raised_begins c.requires.can)
     (rw c.routes-routes.ensures at noted)) noted.listed)
