@@ -12,7 +12,7 @@ use Rattle.shop_nodes.specs.Halts.{open_child, word_at}
 use Rattle.shop_nodes.specs.declared.halts.{Open.Open, Waiting.{Waiting, TheVariants.{Child, Rest}}}
 use Rattle.shop_tree.specs.{declared.walk_states.{WalkStates.WalkStates, Branching.Branching}, inner.Opens.AreChildren}
 use Rattle.shop_tree.specs.{inner.Held.{IsHeldOf, IsKept, Kept, held, opens_in}, declared.held.Held.Held}
-use Rattle.shop_tree.specs.inner.{Slots.{AreBounded, IsBranchingOf, IsStateIn, KeepSlots, Lists}, Tried.HasGiven}
+use Rattle.shop_tree.specs.inner.{Slots.{AreBounded, IsBranchingOf, IsStateIn, Lists}, Tried.HasGiven}
 use Rattle.shop_tree.{specs.inner.Tried.HasPutChildren, proofs.{StripLemmas.{at_kid, many}, TrialLemmas.IsChildBelow}}
 use Rattle.shop_states.specs.inner.WordStates.{KnowsChild}
 
@@ -79,36 +79,31 @@ put_given {S} is shop limit word old mid new n from e put (inr (child, (state, a
           (subst (λ (w : List ℕ). IsHeldOf is w state) word_is at.own) put.states;
     }
 
--- slots that are kept in two steps
-pub kept_then : {L N : Type 0} {g : Ghosts L N} {r s t : WalkStates L N} → KeepSlots g s t
-    → s.dispatcher.laid_out ≡ r.dispatcher.laid_out → KeepSlots g r t
-kept_then kept same = record { states = kept.states; laid_out = kept.laid_out ∙ same }
-
 -- what is known of the current word, once a trial left its state
-module _ {L N : Type 0} {g : Ghosts L N} {s t : WalkStates L N} {b : Branching}
+module _ {L N : Type 0} {g : Ghosts L N} {s t : WalkStates L N g} {b : Branching}
     (same : t.dispatcher.laid_out ≡ s.dispatcher.laid_out) where
-  pub branching_stays : t.current.value ≡ s.current.value → IsBranchingOf g s b → IsBranchingOf g t b
+  pub branching_stays : t.current.value ≡ s.current.value → IsBranchingOf s b → IsBranchingOf t b
   branching_stays current at = record {
     state = rw (same, current) at.state;
     bound = rw same at.bound;
     listed = rw same at.listed;
   }
 
-  pub bounded_stays : {top : ℕ} → t.dispatcher.ceilings ≡ s.dispatcher.ceilings → AreBounded g s b top
-      → AreBounded g t b top
+  pub bounded_stays : {top : ℕ} → t.dispatcher.ceilings ≡ s.dispatcher.ceilings → AreBounded s b top
+      → AreBounded t b top
   bounded_stays {top} kept at = record {
     settled = rw same at.settled;
     known = λ k c within. rw (same, kept) (at.known k c within);
   }
 
 -- children that were bounded together
-pub bounded_together : {L N : Type 0} {g : Ghosts L N} {s : WalkStates L N} {b : Branching}
-    (t : WalkStates L N) → IsBranchingOf g s b → (answer : Option ℕ)
-    → IfSome answer (λ top. (w : List ℕ) (limit others : ℕ) → IsStateIn g s w
-    → b.bound ≡ lb s.dispatcher.laid_out.asked w → Lists g s w limit b.candidates.now others
+pub bounded_together : {L N : Type 0} {g : Ghosts L N} {s : WalkStates L N g} {b : Branching}
+    (t : WalkStates L N g) → IsBranchingOf s b → (answer : Option ℕ)
+    → IfSome answer (λ top. (w : List ℕ) (limit others : ℕ) → IsStateIn s w
+    → b.bound ≡ lb s.dispatcher.laid_out.asked w → Lists s w limit b.candidates.now others
     → Settles s.dispatcher.laid_out.asked w b.bound top b.candidates.now
     × All (λ c. KnowsChild s.dispatcher.laid_out t.dispatcher.ceilings w c.job) b.candidates.now)
-    → t.dispatcher.laid_out ≡ s.dispatcher.laid_out → IfSome answer (AreBounded g t b)
+    → t.dispatcher.laid_out ≡ s.dispatcher.laid_out → IfSome answer (AreBounded t b)
 bounded_together t at None bounded same = tt
 bounded_together {b = b} t at (Some top) bounded same =
     let of = bounded b.word.now b.limit b.closed at.state at.bound at.listed

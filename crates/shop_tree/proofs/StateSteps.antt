@@ -28,16 +28,16 @@ module _ {L N : Type 0} {g : Ghosts L N} {v w : Walker L N g} (s : StandsAs v w)
   best_same : w.best ≡ v.best
   best_same = ap (λ (t : Stage). t.walk.best) s.stage
 
-  candidates_stand : {n : ℕ} → Lists g v.states v.path.items v.best v.candidates.items n
-      → Lists g w.states w.path.items w.best w.candidates.items n
+  candidates_stand : {n : ℕ} → Lists v.states v.path.items v.best v.candidates.items n
+      → Lists w.states w.path.items w.best w.candidates.items n
   candidates_stand h = rw (s.laid_out, s.candidates, path_same, best_same) h
 
-  state_stands : IsStateIn g v.states v.path.items → IsStateIn g w.states w.path.items
+  state_stands : IsStateIn v.states v.path.items → IsStateIn w.states w.path.items
   state_stands h = grind (arith, path_same)
 
 -- and where its candidates were gathered
 pub still_at : {L N : Type 0} {g : Ghosts L N} {v : Walker L N g} (w : Walker L N g) {b : ℕ} → StandsAt v b
-    → stage_of w ≡ stage_of v → HasStates w → IsStateIn g w.states w.path.items → StandsAt w b
+    → stage_of w ≡ stage_of v → HasStates w → IsStateIn w.states w.path.items → StandsAt w b
 still_at {v} w at same states state = record {
   bound = at.bound ∙ sym (ap (λ (t : Stage). lb t.shop t.word) same);
   below = (let a = at.below in let e : w.best ≡ v.best = ap (λ (t : Stage). t.walk.best) same
@@ -49,7 +49,7 @@ still_at {v} w at same states state = record {
 
 -- a walk that went on stands at the word that it took
 pub reached : {L N : Type 0} {g : Ghosts L N} (v w : Walker L N g) (b : ℕ) → HasGone (stage_of v) (stage_of w) b
-    → HasStates w → IsStateIn g w.states w.path.items → HasReached v w b
+    → HasStates w → IsStateIn w.states w.path.items → HasReached v w b
 reached v w b gone states state = grind (arith, gone)
 
 -- what is told of a walk that went on, and of one that didn't
@@ -75,10 +75,10 @@ listed_stand {v} {w} s at = record {
 
 -- so they are, once they were listed
 pub listed_at : {L N : Type 0} {g : Ghosts L N} {v w : Walker L N g} {b n : ℕ} → StandsAt v b
-    → stage_of w ≡ stage_of v → w.stack.items ≡ v.stack.items → w.states.dispatcher.laid_out ≡ v.states.dispatcher.laid_out
-    → w.states.current.value ≡ v.states.current.value
-    → length w.path.items < w.operations
-    → Lists g v.states w.path.items w.best w.candidates.items n → IsListedAt w b n
+    → stage_of w ≡ stage_of v → w.stack.items ≡ v.stack.items
+    → w.states.dispatcher.laid_out ≡ v.states.dispatcher.laid_out
+    → w.states.current.value ≡ v.states.current.value → length w.path.items < w.operations
+    → Lists v.states w.path.items w.best w.candidates.items n → IsListedAt w b n
 listed_at {g = g} {v} {w} {n = n} at stage stack same current short lists =
     let word : w.path.items ≡ v.path.items = ap (λ (t : Stage). t.word) stage
     in record {

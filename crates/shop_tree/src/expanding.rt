@@ -14,7 +14,7 @@ use shop_model::{SharedWord, Word};
 use std::alloc::{AllocError as NoMemory, Global};
 
 /// The most states that a word's children may take from other words. If none is left, children that are walked later
-/// are filled from their words.
+/// have none until their turns come.
 const MOST_WANTED: usize = 3;
 
 impl<'l, 'a, L: StateLanes> Walker<'l, 'a, L> {
@@ -25,10 +25,10 @@ impl<'l, 'a, L: StateLanes> Walker<'l, 'a, L> {
         requires short { length self.old.path.items < self.old.operations }
         requires held { AreHeld (IsStateOf L.StateLanes self.old.states.dispatcher.laid_out)
             (self.old.path.items ++ job ∷ []) self.old.stack.items }
-        requires state { IsStateIn L.StateLanes self.old.states (self.old.path.items ++ job ∷ []) }
+        requires state { IsStateIn self.old.states (self.old.path.items ++ job ∷ []) }
         ensures stage { stage_of self.new ≡ gone_on (stage_of self.old) job }
         ensures states { HasStates self.new }
-        ensures state { IsStateIn L.StateLanes self.new.states self.new.path.items }
+        ensures state { IsStateIn self.new.states self.new.path.items }
     {
         self.budget -= 1;
         self.path.push(job).unwrap();

@@ -3,8 +3,7 @@ ghost use Rattle.std.specs.Prelude.{◌≡◌, ℕ, ◌≤◌, List, [], ◌∷�
 ghost use Rattle.shop_model.specs.Word.{IsWord};
 ghost use Rattle.shop_states.specs.{States.{HasSoleCandidate, IsOfSomeWord}, inner.WordStates.{IsSlot, IsStateOf}};
 ghost use Rattle.shop_nodes.specs.Branching.{conflict};
-ghost use Rattle.shop_tree.specs.inner.Held.{IsHeldOf};
-ghost use Rattle.shop_tree.specs.inner.Slots.{CanTake, HasTaken, HaveStayed, HoldSlots, IsStateIn, KeepSlots, Lists};
+ghost use Rattle.shop_tree.specs.inner.Held.{AreSlots, IsHeldOf};
 
 mod trials;
 
@@ -39,9 +38,12 @@ pub(crate) struct WalkStates<'l, 'a, L: StateLanes> {
     spare: Vec<Box<State<L>>>,
     /// how many more states the walk may allocate
     unmade: usize,
+    pub ghost slots: { AreSlots (IsSlot L.StateLanes dispatcher.laid_out) current.value trial.value spare.items },
 }
 
 impl<'l, 'a, L: StateLanes> WalkStates<'l, 'a, L> {
+    ghost use Rattle.shop_tree.specs.inner.Slots.{CanTake, HasTaken, HaveStayed, IsStateIn, Lists};
+
     /// Makes the current state and the trial's. Allows at most `most` further states, for waiting children, which are
     /// allocated when they are needed. Fails with `NoMemory` if memory runs out.
     pub(crate) fn new(
@@ -49,7 +51,6 @@ impl<'l, 'a, L: StateLanes> WalkStates<'l, 'a, L> {
         laid_out: LaidOut<'l, 'a, L>,
         most: usize,
     ) -> Result<WalkStates<'l, 'a, L>, NoMemory>
-        ensures sound { IfOk result (HoldSlots L.StateLanes) }
         ensures laid_out { IfOk result (λ s. s.dispatcher.laid_out ≡ laid_out.entry) }
     {
         let dispatcher = Dispatcher::new(alloc, laid_out)?;
@@ -64,10 +65,9 @@ impl<'l, 'a, L: StateLanes> WalkStates<'l, 'a, L> {
 
     /// Fills the current state from the word `path`.
     pub(crate) fn fill(&mut self, path: &[u16])
-        requires sound { HoldSlots L.StateLanes self.old }
         requires word { IsWord self.old.dispatcher.laid_out.asked path.now }
-        ensures sound { KeepSlots L.StateLanes self.old self.new }
-        ensures state { IsStateIn L.StateLanes self.new path.now }
+        ensures laid_out { self.new.dispatcher.laid_out ≡ self.old.dispatcher.laid_out }
+        ensures state { IsStateIn self.new path.now }
     {
         self.dispatcher.fill(path, &mut self.current);
     }
@@ -75,12 +75,10 @@ impl<'l, 'a, L: StateLanes> WalkStates<'l, 'a, L> {
     /// Replaces `candidates` by the current word's candidates with `own` below `limit`. Returns how many are left out.
     #[inline(always)]
     pub(crate) fn list_candidates(&mut self, limit: u64, candidates: &mut Vec<Candidate>) -> usize
-        requires sound { HoldSlots L.StateLanes self.old }
-        requires state { IsOfSomeWord (IsStateIn L.StateLanes self.old) }
+        requires state { IsOfSomeWord (IsStateIn self.old) }
         requires room { length self.old.dispatcher.laid_out.asked.jobs ≤ vec_capacity candidates.old }
-        ensures sound { KeepSlots L.StateLanes self.old self.new }
-        ensures listed { (w : List ℕ) → IsStateIn L.StateLanes self.old w
-            → Lists L.StateLanes self.old w limit candidates.new.items result }
+        ensures laid_out { self.new.dispatcher.laid_out ≡ self.old.dispatcher.laid_out }
+        ensures listed { (w : List ℕ) → IsStateIn self.old w → Lists self.old w limit candidates.new.items result }
         ensures room { vec_capacity candidates.old ≤ vec_capacity candidates.new }
         ensures current { self.new.current.value ≡ self.old.current.value }
     {
@@ -90,12 +88,10 @@ impl<'l, 'a, L: StateLanes> WalkStates<'l, 'a, L> {
 
     /// Dispatches, in the current state, the next operation of `job`, the only job in the conflict set.
     pub(crate) fn strike(&mut self, job: u16)
-        requires sound { HoldSlots L.StateLanes self.old }
-        requires sole { HasSoleCandidate self.old.dispatcher.laid_out.asked (IsStateIn L.StateLanes self.old) job }
-        ensures sound { KeepSlots L.StateLanes self.old self.new }
-        ensures state { (w : List ℕ) → IsStateIn L.StateLanes self.old w
-            → conflict self.old.dispatcher.laid_out.asked w ≡ job ∷ []
-            → IsStateIn L.StateLanes self.new (w ++ job ∷ []) }
+        requires sole { HasSoleCandidate self.old.dispatcher.laid_out.asked (IsStateIn self.old) job }
+        ensures laid_out { self.new.dispatcher.laid_out ≡ self.old.dispatcher.laid_out }
+        ensures state { (w : List ℕ) → IsStateIn self.old w → conflict self.old.dispatcher.laid_out.asked w ≡ job ∷ []
+            → IsStateIn self.new (w ++ job ∷ []) }
     {
         self.dispatcher.strike(&mut self.current, job);
     }
@@ -109,10 +105,9 @@ impl<'l, 'a, L: StateLanes> WalkStates<'l, 'a, L> {
         bound: u64,
         limit: u64,
     ) -> Option<u64>
-        requires sound { HoldSlots L.StateLanes self.old }
-        requires can { CanTake L.StateLanes self.old candidate bound }
-        ensures sound { KeepSlots L.StateLanes self.old self.new }
-        ensures taken { HasTaken L.StateLanes self.old candidate bound limit result self.new.current.value }
+        requires can { CanTake self.old candidate bound }
+        ensures laid_out { self.new.dispatcher.laid_out ≡ self.old.dispatcher.laid_out }
+        ensures taken { HasTaken self.old candidate bound limit result self.new.current.value }
     {
         let state = &mut self.current;
         self.dispatcher
@@ -126,9 +121,8 @@ impl<'l, 'a, L: StateLanes> WalkStates<'l, 'a, L> {
 
     /// Keeps `state`, if there is one, as a spare state. Fails with `NoMemory` if memory runs out.
     pub(crate) fn give_back(&mut self, state: Option<Box<State<L>>>) -> Result<(), NoMemory>
-        requires sound { HoldSlots L.StateLanes self.old }
         requires slot { IsHeldOf (λ _ s. IsSlot L.StateLanes self.old.dispatcher.laid_out s) [] state }
-        ensures sound { KeepSlots L.StateLanes self.old self.new }
+        ensures laid_out { self.new.dispatcher.laid_out ≡ self.old.dispatcher.laid_out }
         ensures stayed { OnOk result (HaveStayed self.old self.new) }
     {
         let Some(state) = state else {
@@ -145,11 +139,10 @@ impl<'l, 'a, L: StateLanes> WalkStates<'l, 'a, L> {
         state: Option<Box<State<L>>>,
         word: &[u16],
     ) -> Result<(), NoMemory>
-        requires sound { HoldSlots L.StateLanes self.old }
         requires word { IsWord self.old.dispatcher.laid_out.asked word.now }
         requires state { IsHeldOf (IsStateOf L.StateLanes self.old.dispatcher.laid_out) word.now state }
-        ensures sound { KeepSlots L.StateLanes self.old self.new }
-        ensures state { OnOk result (IsStateIn L.StateLanes self.new word.now) }
+        ensures laid_out { self.new.dispatcher.laid_out ≡ self.old.dispatcher.laid_out }
+        ensures state { OnOk result (IsStateIn self.new word.now) }
     {
         let Some(state) = state else {
             self.fill(word);
@@ -164,8 +157,6 @@ impl<'l, 'a, L: StateLanes> WalkStates<'l, 'a, L> {
     /// memory runs out.
     #[inline(always)]
     fn spare_state(&mut self, alloc: Global) -> Result<Option<Box<State<L>>>, NoMemory>
-        requires sound { HoldSlots L.StateLanes self.old }
-        ensures sound { KeepSlots L.StateLanes self.old self.new }
         ensures slot { IfOk result (IsHeldOf (λ _ s. IsSlot L.StateLanes self.old.dispatcher.laid_out s) []) }
         ensures stayed { HaveStayed self.old self.new }
     {
@@ -178,8 +169,6 @@ impl<'l, 'a, L: StateLanes> WalkStates<'l, 'a, L> {
     /// Allocates a state; returns `None` if the walk may allocate no more. Fails with `NoMemory` if memory runs out.
     #[inline(never)]
     fn new_state(&mut self, alloc: Global) -> Result<Option<Box<State<L>>>, NoMemory>
-        requires sound { HoldSlots L.StateLanes self.old }
-        ensures sound { KeepSlots L.StateLanes self.old self.new }
         ensures slot { IfOk result (IsHeldOf (λ _ s. IsSlot L.StateLanes self.old.dispatcher.laid_out s) []) }
         ensures stayed { HaveStayed self.old self.new }
     {
@@ -193,8 +182,6 @@ impl<'l, 'a, L: StateLanes> WalkStates<'l, 'a, L> {
     /// Takes out the trial's state, and puts a spare or new one in its place. Returns `None` if neither can be had.
     /// Fails with `NoMemory` if memory runs out.
     pub(crate) fn take_trial(&mut self, alloc: Global) -> Result<Option<Box<State<L>>>, NoMemory>
-        requires sound { HoldSlots L.StateLanes self.old }
-        ensures sound { KeepSlots L.StateLanes self.old self.new }
         ensures taken { IfOk result (IsHeldOf (λ _ s. s ≡ self.old.trial.value) []) }
         ensures current { self.new.current.value ≡ self.old.current.value }
         ensures dispatcher { self.new.dispatcher ≡ self.old.dispatcher }

@@ -3,7 +3,7 @@ ghost use Rattle.std.specs.Prelude.{◌≡◌, ◌≤◌, ◌<◌, ◌^◌, leng
 ghost use Rattle.shop_model.specs.Shop.{operation_count};
 ghost use Rattle.shop_nodes.specs.Nodes.{IsNode, AreNodes};
 ghost use Rattle.shop_states.specs.inner.WordStates.{IsStateOf};
-ghost use Rattle.shop_tree.specs.{Searches.Searches, inner.Slots.HoldSlots};
+ghost use Rattle.shop_tree.specs.Searches.{Searches};
 
 use crate::held::{Held, copy_waiting};
 use crate::walk_states::WalkStates;
@@ -39,7 +39,6 @@ pub(crate) struct Walker<'l, 'a, L: StateLanes> {
     pub(crate) stripped: usize,
     pub ghost counted: { operations ≡ operation_count instance.now },
     pub ghost same_shop: { states.dispatcher.laid_out.asked ≡ instance.now },
-    pub ghost slots: { HoldSlots L.StateLanes states },
     pub ghost room: { length instance.now.jobs ≤ vec_capacity candidates },
     pub ghost path_room: { operation_count instance.now ≤ vec_capacity path },
 }

@@ -3,7 +3,7 @@
 -- Of a walker:
 --     walked w            what it carries, before anything is left
 --     stage_of w          where it stands: what waits is told without states
---     HasStates w         so it is with its stack
+--     HasStates w         each child on its stack has its own state, if any
 --     StandsAs v w        w stands where v stood, with the same current state
 --     StandsAt w b        its word has bound b, which is below the best; all that waits, and its states, are in order
 --     IsListedAt w b n    so, its word isn't full, and its candidates are at hand, but for n others
@@ -48,12 +48,12 @@ pub record StandsAt {L N : Type 0} {g : Ghosts L N} (w : Walker L N g) (b : ℕ)
   pub below : b < w.best
   pub in_order : IsInOrder (stage_of w)
   pub states : HasStates w
-  pub state : IsStateIn g w.states w.path.items
+  pub state : IsStateIn w.states w.path.items
 
 pub record IsListedAt {L N : Type 0} {g : Ghosts L N} (w : Walker L N g) (b n : ℕ) : Type 0 where
   pub at : StandsAt w b
   pub short : length w.path.items < w.operations
-  pub candidates : Lists g w.states w.path.items w.best w.candidates.items n
+  pub candidates : Lists w.states w.path.items w.best w.candidates.items n
 
 pub record HasReached {L N : Type 0} {g : Ghosts L N} (v w : Walker L N g) (b : ℕ) : Type 0 where
   pub followed : HasFollowed (stage_of v) (stage_of w)

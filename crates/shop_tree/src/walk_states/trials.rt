@@ -2,9 +2,8 @@
 // bounded together first, settled ones go on the stack without a trial.
 ghost use Rattle.std.specs.Prelude.{◌≡◌, ℕ, ◌≤◌, false, IsTrue, List, [], ◌∷◌, ◌++◌, All, IfOk, IfSome, OnOk, length};
 ghost use Rattle.shop_states.specs.{States.IsOfSomeWord, inner.WordStates.{IsCandidate, IsSlot, IsStateOf}};
-ghost use Rattle.shop_tree.specs.inner.Slots.{AreBounded, CanTake, CanTakeKnown, HasPutAll, HasTaken};
-ghost use Rattle.shop_tree.specs.inner.Slots.{HoldSlots, IsBranchingOf, IsStateIn, KeepSlots};
-ghost use Rattle.shop_tree.specs.inner.Tried.{AreSlotsFrom, HasGiven, HasPutTried};
+ghost use Rattle.shop_tree.specs.inner.Slots.{AreBounded, CanTake, CanTakeKnown, HasPutAll, HasTaken, IsBranchingOf};
+ghost use Rattle.shop_tree.specs.inner.{Slots.IsStateIn, Tried.{AreSlotsFrom, HasGiven, HasPutTried}};
 
 use super::{Branching, WalkStates};
 use crate::held::{Held, bare_top, put, strip_top};
@@ -25,10 +24,9 @@ impl<'l, 'a, L: StateLanes> WalkStates<'l, 'a, L> {
         bound: u64,
         limit: u64,
     ) -> Option<u64>
-        requires sound { HoldSlots L.StateLanes self.old }
-        requires can { CanTake L.StateLanes self.old candidate bound }
-        ensures sound { KeepSlots L.StateLanes self.old self.new }
-        ensures taken { HasTaken L.StateLanes self.old candidate bound limit result self.new.trial.value }
+        requires can { CanTake self.old candidate bound }
+        ensures laid_out { self.new.dispatcher.laid_out ≡ self.old.dispatcher.laid_out }
+        ensures taken { HasTaken self.old candidate bound limit result self.new.trial.value }
         ensures current { is_last ≡ false → self.new.current.value ≡ self.old.current.value }
     {
         if is_last {
@@ -45,11 +43,10 @@ impl<'l, 'a, L: StateLanes> WalkStates<'l, 'a, L> {
     /// best bounded together. Uses up the trial's state.
     #[inline(always)]
     fn bound_children(&mut self, branching: &Branching<'_>) -> Option<u64>
-        requires sound { HoldSlots L.StateLanes self.old }
-        requires branching { IsBranchingOf L.StateLanes self.old branching.now }
-        ensures sound { KeepSlots L.StateLanes self.old self.new }
-        ensures branching { IsBranchingOf L.StateLanes self.new branching.now }
-        ensures bounded { IfSome result (AreBounded L.StateLanes self.new branching.now) }
+        requires branching { IsBranchingOf self.old branching.now }
+        ensures laid_out { self.new.dispatcher.laid_out ≡ self.old.dispatcher.laid_out }
+        ensures branching { IsBranchingOf self.new branching.now }
+        ensures bounded { IfSome result (AreBounded self.new branching.now) }
     {
         if !branching.is_together {
             return None;
@@ -65,10 +62,8 @@ impl<'l, 'a, L: StateLanes> WalkStates<'l, 'a, L> {
     /// bound if it is below `limit`. `bound` is the bound of the current word.
     #[inline(never)]
     pub(crate) fn try_child(&mut self, candidate: Candidate, bound: u64, limit: u64) -> Option<u64>
-        requires sound { HoldSlots L.StateLanes self.old }
-        requires can { CanTakeKnown L.StateLanes self.old candidate bound }
-        ensures sound { KeepSlots L.StateLanes self.old self.new }
-        ensures taken { HasTaken L.StateLanes self.old candidate bound limit result self.new.trial.value }
+        requires can { CanTakeKnown self.old candidate bound }
+        ensures taken { HasTaken self.old candidate bound limit result self.new.trial.value }
         ensures dispatcher { self.new.dispatcher ≡ self.old.dispatcher }
         ensures current { self.new.current.value ≡ self.old.current.value }
     {
@@ -80,13 +75,12 @@ impl<'l, 'a, L: StateLanes> WalkStates<'l, 'a, L> {
     /// Dispatches the candidate of `branching` with this `job`, whose child's bound is known already, in the current
     /// state itself. Returns whether the current state is the child's now: false if no candidate has this job.
     pub(crate) fn dispatch_settled(&mut self, job: u16, branching: &Branching<'_>) -> bool
-        requires sound { HoldSlots L.StateLanes self.old }
-        requires can { All (λ c. IsOfSomeWord (λ w. IsStateIn L.StateLanes self.old w
+        requires can { All (λ c. IsOfSomeWord (λ w. IsStateIn self.old w
             × IsCandidate self.old.dispatcher.laid_out w c)) branching.now.candidates.now }
-        ensures sound { KeepSlots L.StateLanes self.old self.new }
-        ensures state { IsTrue result → (w : List ℕ) → IsStateIn L.StateLanes self.old w
+        ensures laid_out { self.new.dispatcher.laid_out ≡ self.old.dispatcher.laid_out }
+        ensures state { IsTrue result → (w : List ℕ) → IsStateIn self.old w
             → All (IsCandidate self.old.dispatcher.laid_out w) branching.now.candidates.now
-            → IsStateIn L.StateLanes self.new (w ++ job ∷ []) }
+            → IsStateIn self.new (w ++ job ∷ []) }
     {
         let candidates = branching.candidates;
         for index in 0..candidates.len() {
@@ -112,10 +106,9 @@ impl<'l, 'a, L: StateLanes> WalkStates<'l, 'a, L> {
         from: usize,
         child: Open,
     ) -> Result<(), NoMemory>
-        requires sound { HoldSlots L.StateLanes self.old }
         requires slots { AreSlotsFrom (IsSlot L.StateLanes self.old.dispatcher.laid_out) from stack.old.items }
         requires from { from ≤ length stack.old.items }
-        ensures sound { KeepSlots L.StateLanes self.old self.new }
+        ensures laid_out { self.new.dispatcher.laid_out ≡ self.old.dispatcher.laid_out }
         ensures put { OnOk result (HasPutTried from child self.old.trial.value stack.old.items stack.new.items) }
         ensures current { OnOk result (self.new.current.value ≡ self.old.current.value) }
         ensures dispatcher { OnOk result (self.new.dispatcher ≡ self.old.dispatcher) }
@@ -139,11 +132,9 @@ impl<'l, 'a, L: StateLanes> WalkStates<'l, 'a, L> {
         stack: &mut Vec<Held<State<L>>>,
         branching: &Branching<'_>,
     ) -> Result<usize, NoMemory>
-        requires sound { HoldSlots L.StateLanes self.old }
-        requires branching { IsBranchingOf L.StateLanes self.old branching.now }
-        ensures sound { KeepSlots L.StateLanes self.old self.new }
-        ensures children { IfOk result
-            (HasPutAll L.StateLanes self.old branching.now stack.old.items stack.new.items) }
+        requires branching { IsBranchingOf self.old branching.now }
+        ensures laid_out { self.new.dispatcher.laid_out ≡ self.old.dispatcher.laid_out }
+        ensures children { IfOk result (HasPutAll self.old branching.now stack.old.items stack.new.items) }
     {
         if let Some(top) = self.bound_children(branching) {
             // `settle_candidates` isn't inlined, and reads its record from memory. It gets a copy, so that the record
@@ -182,9 +173,8 @@ impl<'l, 'a, L: StateLanes> WalkStates<'l, 'a, L> {
         from: usize,
         branching: &Branching<'_>,
     ) -> Result<(), NoMemory>
-        requires sound { HoldSlots L.StateLanes self.old }
-        requires branching { IsBranchingOf L.StateLanes self.old branching.now }
-        ensures sound { KeepSlots L.StateLanes self.old self.new }
+        requires branching { IsBranchingOf self.old branching.now }
+        ensures laid_out { self.new.dispatcher.laid_out ≡ self.old.dispatcher.laid_out }
         ensures given { OnOk result (HasGiven (IsStateOf L.StateLanes self.old.dispatcher.laid_out)
             branching.now.word.now from stack.old.items stack.new.items) }
     {
@@ -219,12 +209,10 @@ impl<'l, 'a, L: StateLanes> WalkStates<'l, 'a, L> {
         branching: &Branching<'_>,
         top: u64,
     ) -> Result<usize, NoMemory>
-        requires sound { HoldSlots L.StateLanes self.old }
-        requires branching { IsBranchingOf L.StateLanes self.old branching.now }
-        requires bounded { AreBounded L.StateLanes self.old branching.now top }
-        ensures sound { KeepSlots L.StateLanes self.old self.new }
-        ensures children { IfOk result
-            (HasPutAll L.StateLanes self.old branching.now stack.old.items stack.new.items) }
+        requires branching { IsBranchingOf self.old branching.now }
+        requires bounded { AreBounded self.old branching.now top }
+        ensures laid_out { self.new.dispatcher.laid_out ≡ self.old.dispatcher.laid_out }
+        ensures children { IfOk result (HasPutAll self.old branching.now stack.old.items stack.new.items) }
     {
         let bound = branching.bound;
         let limit = branching.limit;

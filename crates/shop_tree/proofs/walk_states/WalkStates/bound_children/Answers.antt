@@ -22,7 +22,7 @@ returns-clause-bounded g c =
     let s = c.args.self.now in let b = c.args.branching.now in let shop = s.dispatcher.laid_out.asked
     in let is = IsStateOf g.L.StateLanes s.dispatcher.laid_out
     in let bounded = subst (λ now. IfSome c.bound_children.result (λ top. (w : List ℕ) (limit others : ℕ)
-    → is w now → b.bound ≡ lb shop w → Lists g.L.StateLanes s w limit b.candidates.now others
+    → is w now → b.bound ≡ lb shop w → Lists s w limit b.candidates.now others
     → Settles shop w b.bound top b.candidates.now
     × All (λ c'. KnowsChild s.dispatcher.laid_out c.bound_children.new.self.ceilings w c'.job)
     b.candidates.now)) c.deref.ensures c.bound_children.ensures.bounded

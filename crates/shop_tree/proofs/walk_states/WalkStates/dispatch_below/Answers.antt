@@ -1,4 +1,4 @@
-use Rattle.std.proofs.Common.{refl}
+use Rattle.std.proofs.Common.{ap}
 use Rattle.shop_tree.proofs.walk_states.WalkStates.dispatch_below.Goals as goal
 
 pub dispatch_below-requires : goal.dispatch_below-requires
@@ -13,15 +13,19 @@ dispatch_below-requires g c =
       };
     }
 
-pub returns-clause-sound : goal.returns-clause-sound
-returns-clause-sound g c = rw c.dispatch_below.ensures.same (record {
-  states = record {
-    current_is = c.dispatch_below.ensures.slot;
-    trial_is = c.requires.sound.trial_is;
-    spare_are = c.requires.sound.spare_are;
-  };
-  laid_out = refl;
-})
+pub invariant_of-self : goal.invariant_of-self
+invariant_of-self g c =
+    let old = c.args.self.now.slots
+    in rw c.dispatch_below.ensures.same (record {
+      slots = record {
+        current_is = c.dispatch_below.ensures.slot;
+        trial_is = old.trial_is;
+        spare_are = old.spare_are;
+      };
+    })
+
+pub returns-clause-laid_out : goal.returns-clause-laid_out
+returns-clause-laid_out g c = ap (λ d. d.laid_out) c.dispatch_below.ensures.same
 
 pub returns-clause-taken : goal.returns-clause-taken
 returns-clause-taken g c = rw c.deref_mut.ensures.value at c.dispatch_below.ensures.dispatched

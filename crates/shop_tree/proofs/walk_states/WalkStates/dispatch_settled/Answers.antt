@@ -1,19 +1,20 @@
-use Rattle.std.proofs.Common.{ap, subst, sym}
+use Rattle.std.proofs.Common.{ap}
 use Rattle.shop_states.specs.declared.states.Candidate.{Candidate}
-use Rattle.shop_tree.specs.inner.Slots.{HoldSlots}
 use Rattle.shop_tree.proofs.walk_states.WalkStates.dispatch_settled.Goals as goal
 
-pub returns-then-candidate-job-clause-sound : goal.returns-then-candidate-job-clause-sound
-returns-then-candidate-job-clause-sound g c =
-    let old = subst (HoldSlots g.L.StateLanes) (sym c.loop-index.invariant) c.requires.sound
+pub invariant_of-self : goal.invariant_of-self
+invariant_of-self g c =
+    let old = c.loop-index.self.slots
     in record {
-      states = record {
+      slots = record {
         current_is = c.dispatch_settled.ensures.slot;
         trial_is = old.trial_is;
         spare_are = old.spare_are;
       };
-      laid_out = ap (λ s. s.dispatcher.laid_out) c.loop-index.invariant;
     }
+
+pub returns-then-candidate-job-clause-laid_out : goal.returns-then-candidate-job-clause-laid_out
+returns-then-candidate-job-clause-laid_out g c = ap (λ s. s.dispatcher.laid_out) c.loop-index.invariant
 
 pub dispatch_settled-requires : goal.dispatch_settled-requires
 dispatch_settled-requires g c =

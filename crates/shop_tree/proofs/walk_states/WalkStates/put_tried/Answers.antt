@@ -12,7 +12,8 @@ returns-clause-put g c =
       | then-free-eq0+in_ok-give_back w ↦ rw w.self-is w.in_ok-give_back.ensures.stayed.trial
       | else-free-eq0 w ↦ rw w.self-is refl
     ]
-    in let room : (stripped : Option (Box (State g.row.L.Denot g.row.L-Number.Denot))) × HasStripped c.args.from old mid stripped =
+    in let room : (stripped : Option (Box (State g.row.L.Denot g.row.L-Number.Denot)))
+    × HasStripped c.args.from old mid stripped =
     elim c.if-free-eq0.branch [
       | then-free-eq0+in_ok-give_back w ↦ rw w.stack-is (w.strip_top-state.result, w.strip_top-state.ensures)
       | else-free-eq0 w ↦ rw w.stack-is (None, inl (refl, refl))

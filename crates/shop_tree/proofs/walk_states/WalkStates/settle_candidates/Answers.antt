@@ -5,7 +5,7 @@ use Rattle.shop_bound.specs.Bound.{lb}
 use Rattle.shop_states.specs.declared.states.Candidate.{Candidate}
 use Rattle.shop_tree.{specs.inner.Tried.{AreSlotsFrom, HasPutChildren}, proofs.AddLemmas.conflict_few}
 use Rattle.shop_tree.proofs.{StripLemmas.{are_slots, many, tried_kept}, SiblingLemmas.{bounded_stays, branching_stays}}
-use Rattle.shop_tree.proofs.{SiblingLemmas.{kept_then, put_given, settled_bound, settled_child}, TrialLemmas.IsTrying}
+use Rattle.shop_tree.proofs.{SiblingLemmas.{put_given, settled_bound, settled_child}, TrialLemmas.IsTrying}
 use Rattle.shop_tree.proofs.TrialLemmas.{trying_begins, next_own, next_fits, turn_counted, turn_kept, told_high}
 use Rattle.shop_tree.proofs.TrialLemmas.{all_tried}
 use Rattle.shop_states.specs.inner.WordStates.{IsCandidate, IsSlot, IsStateOf}
@@ -24,7 +24,6 @@ loop-index-init g c = record {
   branching = c.requires.branching;
   bounded = c.requires.bounded;
   more = omega arith;
-  sound = c.requires.sound;
   same = refl;
 }
 
@@ -68,7 +67,6 @@ loop-index-preserved-in_ok-put g c =
       branching = now.branching;
       bounded = now.bounded;
       more = now.more;
-      sound = now.sound;
       same = now.same;
     }
 
@@ -92,22 +90,23 @@ loop-index-preserved-else-least-limit g c =
       branching = now.branching;
       bounded = now.bounded;
       more = (let a = now.more in omega arith);
-      sound = now.sound;
       same = now.same;
     }
 
-pub try_child-requires-clause-can : goal.try_child-requires-clause-can
-try_child-requires-clause-can g c =
+pub try_child-requires : goal.try_child-requires
+try_child-requires g c =
     let now = c.loop-index.invariant in let word = c.args.branching.now.word.now in let i = c.loop-index.index
     in let some : 0 < i = (let a = c.loop-index-test.true in omega arith)
     in let none : Candidate = record { job = 0; own = 0 }
     in let within : i - 1 < length c.args.branching.now.candidates.now = (let a = now.trying.within in omega arith)
     in record {
-      word = word;
-      is = ((now.branching.state, next_own some now.trying), now.bounded.known (i - 1) none within);
-      fits = next_fits some now.trying
-          (word_of now.branching.state);
-      bound_is = now.branching.bound;
+      can = record {
+        word = word;
+        is = ((now.branching.state, next_own some now.trying), now.bounded.known (i - 1) none within);
+        fits = next_fits some now.trying
+            (word_of now.branching.state);
+        bound_is = now.branching.bound;
+      };
     }
 
 pub loop-index-preserved-in_default : goal.loop-index-preserved-in_default
@@ -120,7 +119,7 @@ loop-index-preserved-in_default g c =
     in let high = told_high at.limit (lb (d.asked) (word ++ job ∷ [])) c.try_child.result
     c.in_default.is (c.try_child.ensures.taken.bounded word (now.branching.state, next_own some now.trying)
     now.branching.bound)
-    in let left = c.try_child.new.self.current.value in let same = c.try_child.ensures.sound.laid_out
+    in let left = c.try_child.new.self.current.value in let same = ap (λ x. x.laid_out) c.try_child.ensures.dispatcher
     in let state = subst (λ s. IsStateOf g.L.StateLanes d word s) (sym c.try_child.ensures.current) now.branching.state
     in record {
       kids = now.kids;
@@ -129,19 +128,16 @@ loop-index-preserved-in_default g c =
       branching = branching_stays same c.try_child.ensures.current now.branching;
       bounded = bounded_stays same (ap (λ x. x.ceilings) c.try_child.ensures.dispatcher) now.bounded;
       more = (let a = now.more in omega arith);
-      sound = c.try_child.ensures.sound.states;
       same = same ∙ now.same;
     }
 
-pub put_tried-requires-clause-sound : goal.put_tried-requires-clause-sound
-put_tried-requires-clause-sound g c = c.try_child.ensures.sound.states
-
 pub put_tried-requires-clause-slots : goal.put_tried-requires-clause-slots
 put_tried-requires-clause-slots g c =
-    let now = c.loop-index.invariant in let d = c.loop-index.self.dispatcher.laid_out in let slot = IsSlot g.L.StateLanes
+    let now = c.loop-index.invariant in let d = c.loop-index.self.dispatcher.laid_out
+    in let slot = IsSlot g.L.StateLanes
     in let a = c.len-from.ensures in let b = c.args.stack.now.ok.0
     in subst (λ x. AreSlotsFrom (slot x) c.len-from.result c.loop-index.stack.items)
-    (sym c.try_child.ensures.sound.laid_out)
+    (sym (ap (λ x. x.laid_out) c.try_child.ensures.dispatcher))
     (are_slots c.args.stack.now.items now.kids c.len-from.result (omega arith) c.loop-index.stack.items now.stack
     (IsStateOf g.L.StateLanes d) _ now.trying.states (slot d) (λ w s. slot_of))
 
@@ -160,7 +156,7 @@ loop-index-preserved g c =
     in let e : c.len-from.result ≡ length c.args.stack.now.items =
     (let a = c.len-from.ensures in let b = c.args.stack.now.ok.0 in omega arith)
     in let left = c.put_tried.new.self.current.value
-    in let same = c.put_tried.ensures.sound.laid_out ∙ c.try_child.ensures.sound.laid_out
+    in let same = c.put_tried.ensures.laid_out ∙ ap (λ x. x.laid_out) c.try_child.ensures.dispatcher
     in let current = c.in_ok-put_tried.ensures.current ∙ c.try_child.ensures.current
     in let state = subst (IsStateOf g.L.StateLanes d word) (sym current) now.branching.state
     in let kept = tried_kept some now.trying e now.stack c.in_ok-put_tried.ensures.put c.in-Some.is
@@ -177,7 +173,6 @@ loop-index-preserved g c =
       bounded = bounded_stays same (ap (λ x. x.ceilings)
           (c.in_ok-put_tried.ensures.dispatcher ∙ c.try_child.ensures.dispatcher)) now.bounded;
       more = now.more;
-      sound = c.put_tried.ensures.sound.states;
       same = same ∙ now.same;
     }
 
@@ -203,16 +198,15 @@ put-requires g c = let now = c.loop-index.invariant in let a = c.len-from.ensure
     in let long = many c.args.stack.now.items now.kids c.len-from.result (omega arith)
     c.loop-index.stack.items now.stack in omega arith
 
-pub returns-in_err-put_tried-clause-sound : goal.returns-in_err-put_tried-clause-sound
-returns-in_err-put_tried-clause-sound g c = kept_then c.put_tried.ensures.sound
-    (c.try_child.ensures.sound.laid_out ∙ c.loop-index.invariant.same)
+pub returns-in_err-put_tried-clause-laid_out : goal.returns-in_err-put_tried-clause-laid_out
+returns-in_err-put_tried-clause-laid_out g c = c.put_tried.ensures.laid_out
+    ∙ (ap (λ x. x.laid_out) c.try_child.ensures.dispatcher ∙ c.loop-index.invariant.same)
 
-pub returns-in_err-give_current-clause-sound : goal.returns-in_err-give_current-clause-sound
-returns-in_err-give_current-clause-sound g c = kept_then c.give_current.ensures.sound c.loop-index.invariant.same
+pub returns-in_err-give_current-clause-laid_out : goal.returns-in_err-give_current-clause-laid_out
+returns-in_err-give_current-clause-laid_out g c = c.give_current.ensures.laid_out ∙ c.loop-index.invariant.same
 
-pub returns-clause-sound : goal.returns-clause-sound
-returns-clause-sound g c = kept_then c.give_current.ensures.sound c.loop-index.invariant.same
+pub returns-clause-laid_out : goal.returns-clause-laid_out
+returns-clause-laid_out g c = c.give_current.ensures.laid_out ∙ c.loop-index.invariant.same
 
-pub returns-in_err-put-clause-sound : goal.returns-in_err-put-clause-sound
-returns-in_err-put-clause-sound g c =
-    record { states = c.loop-index.invariant.sound; laid_out = c.loop-index.invariant.same }
+pub returns-in_err-put-clause-laid_out : goal.returns-in_err-put-clause-laid_out
+returns-in_err-put-clause-laid_out g c = c.loop-index.invariant.same

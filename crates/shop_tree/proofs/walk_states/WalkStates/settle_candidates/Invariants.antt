@@ -1,5 +1,5 @@
 use Rattle.std.proofs.Common.{◌≡◌, ◌≤◌, ◌++◌, List, map}
-use Rattle.shop_tree.specs.{inner.Held.{Kept, held}, inner.Slots.{AreBounded, HoldSlots, IsBranchingOf}}
+use Rattle.shop_tree.specs.{inner.Held.{Kept, held}, inner.Slots.{AreBounded, IsBranchingOf}}
 use Rattle.shop_tree.proofs.TrialLemmas.{IsTrying}
 use Rattle.shop_states.specs.inner.WordStates.{IsCandidate, IsStateOf}
 use Rattle.shop_states.specs.declared.states.State.{State}
@@ -13,9 +13,8 @@ invariant-loop-index g l = record {
       (IsCandidate l.self.dispatcher.laid_out l.branching.word.now)
       l.self.dispatcher.laid_out.asked l.branching.limit l.branching.word.now
       l.branching.candidates.now l.index kids l.closed l.self.current.value;
-  branching : IsBranchingOf g.L.StateLanes l.self l.branching;
-  bounded : AreBounded g.L.StateLanes l.self l.branching l.top;
+  branching : IsBranchingOf l.self l.branching;
+  bounded : AreBounded l.self l.branching l.top;
   more : l.branching.closed ≤ l.closed;
-  sound : HoldSlots g.L.StateLanes l.self;
   same : l.self.dispatcher.laid_out ≡ l.fn.self.dispatcher.laid_out;
 }

@@ -1,4 +1,4 @@
-use Rattle.std.proofs.{Common.{refl, rules, sym}, lemmas.Bool.true≢false}
+use Rattle.std.proofs.{Common.{ap, rules, sym}, lemmas.Bool.true≢false}
 use Rattle.shop_tree.proofs.walk_states.WalkStates.try_candidate.Goals as goal
 
 pub dispatch_in_copy-requires-clause-can : goal.dispatch_in_copy-requires-clause-can
@@ -11,27 +11,30 @@ dispatch_in_copy-requires-clause-can g c =
       bound_is = can.bound_is;
     }
 
-pub returns-then-is_last-clause-sound : goal.returns-then-is_last-clause-sound
-returns-then-is_last-clause-sound g c =
-    let kept = c.dispatch_below-child.ensures.sound
+pub invariant_of-self : goal.invariant_of-self
+invariant_of-self g c =
+    let kept = c.dispatch_below-child.new.self.slots
     in record {
-      states = record {
-        current_is = rw c.swap.ensures.x_after kept.states.trial_is;
-        trial_is = rw c.swap.ensures.y_after kept.states.current_is;
-        spare_are = kept.states.spare_are;
+      slots = record {
+        current_is = rw c.swap.ensures.x_after kept.trial_is;
+        trial_is = rw c.swap.ensures.y_after kept.current_is;
+        spare_are = kept.spare_are;
       };
-      laid_out = kept.laid_out;
     }
 
-pub returns-clause-sound : goal.returns-clause-sound
-returns-clause-sound g c = rw c.dispatch_in_copy.ensures.same (record {
-  states = record {
-    current_is = c.requires.sound.current_is;
-    trial_is = c.dispatch_in_copy.ensures.slot;
-    spare_are = c.requires.sound.spare_are;
-  };
-  laid_out = refl;
-})
+pub invariant_of-self-2 : goal.invariant_of-self-2
+invariant_of-self-2 g c =
+    let old = c.args.self.now.slots
+    in rw c.dispatch_in_copy.ensures.same (record {
+      slots = record {
+        current_is = old.current_is;
+        trial_is = c.dispatch_in_copy.ensures.slot;
+        spare_are = old.spare_are;
+      };
+    })
+
+pub returns-clause-laid_out : goal.returns-clause-laid_out
+returns-clause-laid_out g c = ap (λ d. d.laid_out) c.dispatch_in_copy.ensures.same
 
 pub returns-clause-taken : goal.returns-clause-taken
 returns-clause-taken g c = rw c.deref.ensures at c.dispatch_in_copy.ensures.dispatched

@@ -2,7 +2,7 @@ use Rattle.std.proofs.Common.{◌≡◌, ◌<◌, ◌-◌, [], ◌∷◌, ◌++�
 use Rattle.shop_model.proofs.WordLengths.{word_length}
 use Rattle.shop_bound.specs.Bound.{lb}
 use Rattle.shop_tree.{specs.inner.Tried.{AreSlotsFrom, HasPutChildren}, proofs.StripLemmas.{are_slots, many}}
-use Rattle.shop_tree.proofs.{StripLemmas.tried_kept, AddLemmas.conflict_few, SiblingLemmas.kept_then}
+use Rattle.shop_tree.proofs.{StripLemmas.tried_kept, AddLemmas.conflict_few}
 use Rattle.shop_tree.proofs.TrialLemmas.{IsTrying, next_own, next_fits, turn_counted, told_high, still_wanted}
 use Rattle.shop_tree.proofs.TrialLemmas.{all_tried, trying_begins}
 use Rattle.shop_states.specs.inner.WordStates.{IsCandidate, IsSlot, IsStateOf}
@@ -25,8 +25,7 @@ loop-index-init g c =
       trying = trying_begins branching.listed branching.state;
       bound = branching.bound;
       more = omega arith;
-      sound = c.bound_children.ensures.sound.states;
-      same = c.bound_children.ensures.sound.laid_out;
+      same = c.bound_children.ensures.laid_out;
     }
 
 pub overflow_add-closed : goal.overflow_add-closed
@@ -37,17 +36,18 @@ overflow_add-closed g c =
     in let limits = limits_of (now.trying.wanted some)
     in let b = conflict_few (d.asked) word in let e = limits.jobs in omega arith
 
-pub try_candidate-requires-clause-can : goal.try_candidate-requires-clause-can
-try_candidate-requires-clause-can g c =
+pub try_candidate-requires : goal.try_candidate-requires
+try_candidate-requires g c =
     let now = c.loop-index.invariant in let word = c.args.branching.now.word.now
     in let some : 0 < c.loop-index.index = (let a = c.loop-index-test.true in omega arith)
     in let state = now.trying.wanted some
     in record {
-      word = word;
-      is = (state, next_own some now.trying);
-      fits = next_fits some now.trying
-          (word_of state);
-      bound_is = now.bound;
+      can = record {
+        word = word;
+        is = (state, next_own some now.trying);
+        fits = next_fits some now.trying (word_of state);
+        bound_is = now.bound;
+      };
     }
 
 pub loop-index-preserved-in_default-try_candidate : goal.loop-index-preserved-in_default-try_candidate
@@ -59,8 +59,9 @@ loop-index-preserved-in_default-try_candidate g c =
     in let job = (get_or cs (i - 1) (record { job = 0; own = 0 })).job
     in let state = now.trying.wanted some
     in let high = told_high at.limit (lb (d.asked) (word ++ job ∷ [])) c.try_candidate.result
-    c.in_default-try_candidate.is (c.try_candidate.ensures.taken.bounded word (state, next_own some now.trying) now.bound)
-    in let left = c.try_candidate.new.self.current.value in let same = c.try_candidate.ensures.sound.laid_out
+    c.in_default-try_candidate.is
+    (c.try_candidate.ensures.taken.bounded word (state, next_own some now.trying) now.bound)
+    in let left = c.try_candidate.new.self.current.value in let same = c.try_candidate.ensures.laid_out
     in record {
       kids = now.kids;
       stack = now.stack;
@@ -68,19 +69,16 @@ loop-index-preserved-in_default-try_candidate g c =
           (still_wanted (IsStateOf g.L.StateLanes d word) i c.try_candidate.ensures.current state));
       bound = now.bound ∙ ap (λ x. lb (x.asked) word) (sym same);
       more = (let a = now.more in omega arith);
-      sound = c.try_candidate.ensures.sound.states;
       same = same ∙ now.same;
     }
 
-pub put_tried-requires-clause-sound : goal.put_tried-requires-clause-sound
-put_tried-requires-clause-sound g c = c.try_candidate.ensures.sound.states
-
 pub put_tried-requires-clause-slots : goal.put_tried-requires-clause-slots
 put_tried-requires-clause-slots g c =
-    let now = c.loop-index.invariant in let d = c.loop-index.self.dispatcher.laid_out in let slot = IsSlot g.L.StateLanes
+    let now = c.loop-index.invariant in let d = c.loop-index.self.dispatcher.laid_out
+    in let slot = IsSlot g.L.StateLanes
     in let a = c.len-from.ensures in let b = c.args.stack.now.ok.0
     in subst (λ x. AreSlotsFrom (slot x) c.len-from.result c.loop-index.stack.items)
-    (sym c.try_candidate.ensures.sound.laid_out)
+    (sym c.try_candidate.ensures.laid_out)
     (are_slots c.args.stack.now.items now.kids c.len-from.result (omega arith) c.loop-index.stack.items now.stack
     (IsStateOf g.L.StateLanes d) _ now.trying.states (slot d) (λ w s. slot_of))
 
@@ -105,7 +103,7 @@ loop-index-preserved g c =
     (c.try_candidate.ensures.taken.state word (state, next_own some now.trying))
     (word_of state) left
     (still_wanted (is word) i (λ f. c.in_ok-put_tried.ensures.current ∙ c.try_candidate.ensures.current f) state)
-    in let same = c.put_tried.ensures.sound.laid_out ∙ c.try_candidate.ensures.sound.laid_out
+    in let same = c.put_tried.ensures.laid_out ∙ c.try_candidate.ensures.laid_out
     in record {
       kids = kept.kids;
       stack = kept.stack;
@@ -114,7 +112,6 @@ loop-index-preserved g c =
           c.loop-index.closed left) (sym same) kept.trying;
       bound = now.bound ∙ ap (λ x. lb (x.asked) word) (sym same);
       more = now.more;
-      sound = c.put_tried.ensures.sound.states;
       same = same ∙ now.same;
     }
 
@@ -130,6 +127,6 @@ returns-clause-children g c =
       more = now.more;
     }
 
-pub returns-in_err-put_tried-clause-sound : goal.returns-in_err-put_tried-clause-sound
-returns-in_err-put_tried-clause-sound g c = kept_then c.put_tried.ensures.sound
-    (c.try_candidate.ensures.sound.laid_out ∙ c.loop-index.invariant.same)
+pub returns-in_err-put_tried-clause-laid_out : goal.returns-in_err-put_tried-clause-laid_out
+returns-in_err-put_tried-clause-laid_out g c =
+    c.put_tried.ensures.laid_out ∙ (c.try_candidate.ensures.laid_out ∙ c.loop-index.invariant.same)

@@ -1,6 +1,6 @@
 use Rattle.std.proofs.Common.{◌≡◌, ◌≤◌, ◌++◌, List, map}
 use Rattle.shop_bound.specs.Bound.{lb}
-use Rattle.shop_tree.{specs.inner.{Held.{Kept, held}, Slots.HoldSlots}, proofs.TrialLemmas.IsTrying}
+use Rattle.shop_tree.{specs.inner.Held.{Kept, held}, proofs.TrialLemmas.IsTrying}
 use Rattle.shop_states.specs.inner.WordStates.{IsCandidate, IsStateOf}
 use Rattle.shop_states.specs.declared.states.State.{State}
 use Rattle.shop_tree.proofs.walk_states.WalkStates.try_candidates.Given as goal
@@ -15,6 +15,5 @@ invariant-loop-index g l = record {
       l.branching.candidates.now l.index kids l.closed l.self.current.value;
   bound : l.branching.bound ≡ lb l.self.dispatcher.laid_out.asked l.branching.word.now;
   more : l.branching.closed ≤ l.closed;
-  sound : HoldSlots g.L.StateLanes l.self;
   same : l.self.dispatcher.laid_out ≡ l.fn.self.dispatcher.laid_out;
 }

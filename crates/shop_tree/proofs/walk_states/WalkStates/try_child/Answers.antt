@@ -1,4 +1,3 @@
-use Rattle.std.proofs.Common.{refl}
 use Rattle.shop_tree.proofs.walk_states.WalkStates.try_child.Goals as goal
 
 pub dispatch_in_copy-requires-clause-can : goal.dispatch_in_copy-requires-clause-can
@@ -11,15 +10,16 @@ dispatch_in_copy-requires-clause-can g c =
       bound_is = can.bound_is;
     }
 
-pub returns-clause-sound : goal.returns-clause-sound
-returns-clause-sound g c = rw c.dispatch_in_copy.ensures.same (record {
-  states = record {
-    current_is = c.requires.sound.current_is;
-    trial_is = c.dispatch_in_copy.ensures.slot;
-    spare_are = c.requires.sound.spare_are;
-  };
-  laid_out = refl;
-})
+pub invariant_of-self : goal.invariant_of-self
+invariant_of-self g c =
+    let old = c.args.self.now.slots
+    in rw c.dispatch_in_copy.ensures.same (record {
+      slots = record {
+        current_is = old.current_is;
+        trial_is = c.dispatch_in_copy.ensures.slot;
+        spare_are = old.spare_are;
+      };
+    })
 
 pub returns-clause-taken : goal.returns-clause-taken
 returns-clause-taken g c = rw c.deref.ensures at c.dispatch_in_copy.ensures.dispatched

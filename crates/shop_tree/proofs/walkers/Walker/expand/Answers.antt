@@ -13,7 +13,7 @@ branch-self-requires g c =
     in let a = c.len.ensures in let b = self.path.ok.0 in let t = c.loop-self-test.true
     in record {
       listed = listed_at at (refl {a = stage_of self}) (refl {a = self.stack.items})
-          c.list_candidates-closed.ensures.sound.laid_out c.list_candidates-closed.ensures.current
+          c.list_candidates-closed.ensures.laid_out c.list_candidates-closed.ensures.current
           (omega arith)
           (c.list_candidates-closed.ensures.listed self.path.items at.state);
     }
@@ -28,7 +28,7 @@ go_on-requires-clause-listed g c =
     let self = c.loop-self.self in let at = c.loop-self.invariant.at
     in let a = c.len.ensures in let b = self.path.ok.0 in let t = c.loop-self-test.true
     in listed_at at (refl {a = stage_of self}) (refl {a = self.stack.items})
-    c.list_candidates-closed.ensures.sound.laid_out c.list_candidates-closed.ensures.current
+    c.list_candidates-closed.ensures.laid_out c.list_candidates-closed.ensures.current
     (omega arith)
     (c.list_candidates-closed.ensures.listed self.path.items at.state)
 

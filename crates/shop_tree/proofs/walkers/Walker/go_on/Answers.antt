@@ -12,12 +12,14 @@ use Rattle.shop_states.specs.inner.WordStates.{IsStateOf}
 use Rattle.shop_states.proofs.AskedStates.{limits_of, word_of, sole_of}
 use Rattle.shop_tree.proofs.walkers.Walker.go_on.Goals as goal
 
-pub strike-requires-clause-sole : goal.strike-requires-clause-sole
-strike-requires-clause-sole g c = record {
-  word = c.args.self.now.path.items;
-  is = c.requires.listed.at.state;
-  sole = sole_listed c.args.self.now.candidates.items c.index-candidate.result.now _ c.requires.one
-      c.index-candidate.ensures c.if-closed-eq0.true c.requires.listed.candidates;
+pub strike-requires : goal.strike-requires
+strike-requires g c = record {
+  sole = record {
+    word = c.args.self.now.path.items;
+    is = c.requires.listed.at.state;
+    sole = sole_listed c.args.self.now.candidates.items c.index-candidate.result.now _ c.requires.one
+        c.index-candidate.ensures c.if-closed-eq0.true c.requires.listed.candidates;
+  };
 }
 
 pub take_job-requires-clause-held : goal.take_job-requires-clause-held
@@ -26,7 +28,7 @@ take_job-requires-clause-held g c =
     in held_on (IsStateOf g.L.StateLanes e) self.instance.now self.best self.path.items
     c.index-candidate.result.now.job self.stack.items c.requires.listed.at.in_order
     (subst (λ x. AreHeld (IsStateOf g.L.StateLanes x) self.path.items self.stack.items)
-    (sym c.strike.ensures.sound.laid_out) c.requires.listed.at.states)
+    (sym c.strike.ensures.laid_out) c.requires.listed.at.states)
 
 pub take_job-requires-clause-state : goal.take_job-requires-clause-state
 take_job-requires-clause-state g c = c.strike.ensures.state c.args.self.now.path.items c.requires.listed.at.state
@@ -51,21 +53,19 @@ returns-then-closed-eq0 g c =
     (subst (λ (b : ℕ). HasGone (stage_of self) (gone_on (stage_of self) job) b) (sym at.bound) gone))
     c.take_job.ensures.states c.take_job.ensures.state
 
-pub dispatch_below-requires-clause-can : goal.dispatch_below-requires-clause-can
-dispatch_below-requires-clause-can g c =
+pub dispatch_below-requires : goal.dispatch_below-requires
+dispatch_below-requires g c =
     let self = c.args.self.now in let d = self.states.dispatcher.laid_out in let word = self.path.items
     in let cand = c.index-candidate.result.now
     in let one = one_listed self.candidates.items cand _ c.requires.one c.index-candidate.ensures
     in let at = c.requires.listed.at
     in record {
-      word = word;
-      is = (
-        at.state,
-        alone_own one c.requires.listed.candidates,
-      );
-      fits = alone_fits one c.requires.listed.candidates
-          (word_of at.state);
-      bound_is = at.bound ∙ ap (λ (x : Shop). lb x word) (sym self.same_shop);
+      can = record {
+        word = word;
+        is = (at.state, alone_own one c.requires.listed.candidates);
+        fits = alone_fits one c.requires.listed.candidates (word_of at.state);
+        bound_is = at.bound ∙ ap (λ (x : Shop). lb x word) (sym self.same_shop);
+      };
     }
 
 pub overflow_add-closed : goal.overflow_add-closed
@@ -96,7 +96,7 @@ close-requires-clause-closed g c =
 pub close-requires-clause-states : goal.close-requires-clause-states
 close-requires-clause-states g c = let self = c.args.self.now
     in let held = subst (λ x. AreHeld (IsStateOf g.L.StateLanes x) self.path.items self.stack.items)
-    (sym c.dispatch_below.ensures.sound.laid_out) c.requires.listed.at.states
+    (sym c.dispatch_below.ensures.laid_out) c.requires.listed.at.states
     in held
 
 pub put_rest-requires : goal.put_rest-requires
@@ -117,7 +117,7 @@ take_job-requires-2-clause-held g c =
     in let longer = held_on is self.instance.now self.best self.path.items c.index-candidate.result.now.job
     self.stack.items at.in_order at.states
     in subst (λ x. AreHeld (IsStateOf g.L.StateLanes x) next c.put_rest.new.stack.items)
-    (sym c.dispatch_below.ensures.sound.laid_out) (subst (λ hs. AreHeld is next hs) (sym c.in_ok-put_rest.ensures)
+    (sym c.dispatch_below.ensures.laid_out) (subst (λ hs. AreHeld is next hs) (sym c.in_ok-put_rest.ensures)
     (states_rest self.stack.items is next c.len.result c.args.closed longer))
 
 pub take_job-requires-2-clause-state : goal.take_job-requires-2-clause-state
@@ -125,9 +125,9 @@ take_job-requires-2-clause-state g c =
     let self = c.args.self.now in let word = self.path.items in let cand = c.index-candidate.result.now
     in let one = one_listed self.candidates.items cand _ c.requires.one c.index-candidate.ensures
     in let is = IsStateOf g.L.StateLanes in let after = c.dispatch_below.new.self.current.value
-    in subst (λ x. is x (word ++ cand.job ∷ []) after) (sym c.dispatch_below.ensures.sound.laid_out)
-    (told_state (is self.states.dispatcher.laid_out (word ++ cand.job ∷ []) after) c.in-Some.bound c.dispatch_below.result
-    c.in-Some.is (c.dispatch_below.ensures.taken.state word
+    in subst (λ x. is x (word ++ cand.job ∷ []) after) (sym c.dispatch_below.ensures.laid_out)
+    (told_state (is self.states.dispatcher.laid_out (word ++ cand.job ∷ []) after) c.in-Some.bound
+    c.dispatch_below.result c.in-Some.is (c.dispatch_below.ensures.taken.state word
     (c.requires.listed.at.state, alone_own one c.requires.listed.candidates)))
 
 pub returns : goal.returns

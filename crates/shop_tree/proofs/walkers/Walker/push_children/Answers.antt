@@ -55,7 +55,8 @@ returns-clause-branched g c =
     in omega arith)
     in let place : c.len-below.result ≡ length self.stack.items = (let a = c.len-below.ensures
     in let b = self.stack.ok.0 in omega arith)
-    in let before = put.stack ∙ ap (λ (hs : List (Held (State g.row.L.Denot g.row.L-Number.Denot))). hs ++ map held put.kids)
+    in let before = put.stack
+    ∙ ap (λ (hs : List (Held (State g.row.L.Denot g.row.L-Number.Denot))). hs ++ map held put.kids)
     c.in_ok-put_rest.ensures
     in let stack = c.set_rest_below.new.stack.items
     in on_ok _ (HasBranched (stage_of self) (record (stage_of self) { stack = waiting_in stack }))
@@ -67,15 +68,17 @@ returns-clause-branched g c =
 pub returns-clause-states : goal.returns-clause-states
 returns-clause-states g c = grind (arith, on_ok, held_branched)
 
-pub try_candidates-requires-clause-branching : goal.try_candidates-requires-clause-branching
-try_candidates-requires-clause-branching g c =
-    let self = c.args.self.now in let at = c.requires.listed.at in let s = self.states in let g' = g.L.StateLanes
+pub try_candidates-requires : goal.try_candidates-requires
+try_candidates-requires g c =
+    let self = c.args.self.now in let at = c.requires.listed.at in let s = self.states
     in let word = sym c.as_slice.ensures.value
     in record {
-      state = subst (IsStateIn g' s) word at.state;
-      bound = at.bound ∙ (ap (λ x. lb x self.path.items) (sym self.same_shop)
-          ∙ ap (lb s.dispatcher.laid_out.asked) word);
-      listed = subst (λ v. Lists g' s v self.best c.as_slice-2.result.now c.args.closed) word
-          (subst (λ cs. Lists g' s self.path.items self.best cs c.args.closed) (sym c.as_slice-2.ensures.value)
-          c.requires.listed.candidates);
+      branching = record {
+        state = subst (IsStateIn s) word at.state;
+        bound = at.bound ∙ (ap (λ x. lb x self.path.items) (sym self.same_shop)
+            ∙ ap (lb s.dispatcher.laid_out.asked) word);
+        listed = subst (λ v. Lists s v self.best c.as_slice-2.result.now c.args.closed) word
+            (subst (λ cs. Lists s self.path.items self.best cs c.args.closed) (sym c.as_slice-2.ensures.value)
+            c.requires.listed.candidates);
+      };
     }

@@ -27,6 +27,6 @@ expand-requires g c = record {
     below = (let a = c.if-node-self.false in omega arith);
     in_order = rw c.requires.empty (record { each = tt; rising = tt });
     states = rw c.requires.empty (All-nil _);
-    state = subst (IsStateIn g.L.StateLanes c.fill.new.self) c.as_slice.ensures.value c.fill.ensures.state;
+    state = subst (IsStateIn c.fill.new.self) c.as_slice.ensures.value c.fill.ensures.state;
   };
 }

@@ -43,9 +43,9 @@ expand-requires g c =
         bound = rw went own.bound;
         below = (let a = c.if-child-self.false in omega arith);
         in_order = rw went (went_in_order (stage_of self) o c.requires.on);
-        states = rw (c.go_on_in.ensures.sound.laid_out, went) (held_below (IsStateOf g.L.StateLanes d)
+        states = rw (c.go_on_in.ensures.laid_out, went) (held_below (IsStateOf g.L.StateLanes d)
             self.instance.now self.best word hs o c.requires.on c.requires.states);
-        state = subst (IsStateIn g.L.StateLanes c.go_on_in.new.self) c.as_slice.ensures.value
+        state = subst (IsStateIn c.go_on_in.new.self) c.as_slice.ensures.value
             c.in_ok-go_on_in.ensures.state;
       };
     }
