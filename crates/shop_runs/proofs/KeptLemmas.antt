@@ -203,8 +203,3 @@ pub few_each : (nodes : List Node) (leasts : List Least) (n : ℕ) → AreLeasts
 few_each nodes leasts n told le =
     subst (AreFewEach n) (sym told) (few_more (length (reverse nodes)) n (leasts_of (reverse nodes))
     (let a = length-reverse nodes in omega arith) (leasts_few (reverse nodes)))
-
--- the last one, too
-pub last_few : (n : ℕ) (xs : List Least) (l : Least) → 0 < length xs → l ≡ get_or xs (length xs - 1) l
-    → AreFewEach n (reverse xs) → l.more < n
-last_few n xs l some is few = (subst (AreFewEach n) (last_first xs l some is) few).0

@@ -14,6 +14,7 @@ use Rattle.shop_states.specs.declared.states.State.{State}
 pub record HasCome {L N : Type 0} {g : Ghosts L N} (first now : Walker L N g) : Type 0 where
   pub walk : stack_walk (stage_of now) ≡ stack_walk (stage_of first)
   pub in_order : IsInOrder (stage_of now)
+  pub fewer : turns_left (stage_of now) ≤ turns_left (stage_of first)
   pub spent : now.budget ≤ first.budget
   pub shop : now.instance.now ≡ first.instance.now
   pub states : HasStates now
@@ -34,15 +35,16 @@ module _ {L N : Type 0} {g : Ghosts L N} (w : Walker L N g) (rest : List (Held (
     as_before = ap (λ ws. record (stage_of w) { stack = ws })
         (waiting_pushed rest w.stack.items h is ∙ ap (λ y. waiting_in rest ++ y ∷ []) top)
 
+    pub fewer_turns : {t : Stage} → IsTurn below x t → turns_left t < turns_left (stage_of w)
+    fewer_turns {t} turn = subst (λ s. turns_left t < turns_left s) (sym as_before) turn.fewer
+
     pub comes_on : {first : Walker L N g} (now : Walker L N g) → HasCome first w → IsTurn below x (stage_of now)
         → HasStates now → HasCome first now
     comes_on now old turn states = record {
       walk = turn.walk ∙ (ap stack_walk (sym as_before) ∙ old.walk);
       in_order = turn.in_order;
+      fewer = (let a = fewer_turns turn in let b = old.fewer in omega arith);
       spent = (let a = turn.spent in let b = old.spent in omega arith);
       shop = turn.shop ∙ old.shop;
       states = states;
     }
-
-    pub fewer_turns : {t : Stage} → IsTurn below x t → turns_left t < turns_left (stage_of w)
-    fewer_turns {t} turn = subst (λ s. turns_left t < turns_left s) (sym as_before) turn.fewer

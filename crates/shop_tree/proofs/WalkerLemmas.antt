@@ -9,15 +9,15 @@ use Rattle.shop_nodes.specs.{Branching.branch, Nodes.words_of, Pieces.walk_told,
 use Rattle.shop_nodes.specs.Halts.{open_child, word_at, last_of, waiting_words, stack_words, IsClosed}
 use Rattle.shop_nodes.specs.declared.{nodes.Node.Node, halts.{Open.Open, Waiting.TheVariants.Rest}}
 use Rattle.shop_nodes.proofs.HighWalks.{high-taken, none-walked}
-use Rattle.shop_tree.specs.inner.{Opens.AreChildren, Walkers.{node_walk, spent_one, stack_walk, turns_left, Stage}}
-use Rattle.shop_tree.specs.inner.Walkers.{HasExpanded, HasWalked, HasWalkedUpTo, IsInOrder, IsTurn, on_top}
+use Rattle.shop_tree.specs.inner.{Opens.AreChildren, Walkers.{node_walk, spent_one, stack_walk, turns_left, walk_on}}
+use Rattle.shop_tree.specs.inner.Walkers.{HasExpanded, HasWalked, HasWalkedUpTo, IsInOrder, IsTurn, Stage, on_top}
 use Rattle.shop_tree.{specs.inner.Searching.{walk_stack, opening_walk}, proofs.OpenLemmas.{popped, replaced, walk-top}}
 use Rattle.shop_tree.proofs.{TurnLemmas.{below_waits, child_walks}, ExpandLemmas.{ends_closed, enters, cuts}}
 
 -- turns over plain numbers
-one_spent : (b jobs jobs' new rest one : ℕ) → 0 < b → jobs' ≡ jobs → one ≡ rest + 1
-    → new ≤ (b - 1) * (jobs + 2) + rest + jobs + 1 → new < b * (jobs + 2) + one
-one_spent b jobs jobs' new rest one some same top few = grind arith
+one_spent : (b jobs rest one : ℕ) → 0 < b → one ≡ rest + 1
+    → (b - 1) * (jobs + 2) + rest + jobs + 1 < b * (jobs + 2) + one
+one_spent b jobs rest one some same = grind arith
 
 one_less : (b b' jobs rest one : ℕ) → b' ≤ b → one ≡ rest + 1
     → b' * (jobs + 2) + rest < b * (jobs + 2) + one
@@ -50,20 +50,17 @@ went_to s o = record s { word = word_at s.word o; walk = spent_one s.walk }
 pub went_in_order : (s : Stage) (o : Open) → IsInOrder (on_top s (open_child o)) → IsInOrder (went_to s o)
 went_in_order s o on = below_waits s.shop s.walk.best s.word s.stack o on
 
-pub turn_expanded : (s t : Stage) (o : Open) → IsInOrder (on_top s (open_child o)) → 0 < s.walk.budget
-    → o.bound < s.walk.best → HasExpanded (went_to s o) t → IsTurn s (open_child o) t
-turn_expanded s t o on some below e =
+pub went_walk : (s : Stage) (o : Open) → IsInOrder (on_top s (open_child o)) → 0 < s.walk.budget
+    → o.bound < s.walk.best → walk_on (went_to s o) ≡ stack_walk (on_top s (open_child o))
+went_walk s o on some below =
     let own = (popped s.stack (open_child o) on).own.bound
-    in record {
-      walk = e.walk ∙ child_walks s.shop s.walk.best s.word s.stack o on s.walk (spent_one s.walk)
-          (enters s.shop s.walk (word_at s.word o) some (omega arith));
-      in_order = e.in_order;
-      fewer = one_spent s.walk.budget (length s.shop.jobs) (length t.shop.jobs) (turns_left t) (length s.stack)
-          (length (s.stack ++ open_child o ∷ [])) some (ap (λ (x : Shop). length x.jobs) e.shop)
-          (length_push s.stack (open_child o)) e.fewer;
-      shop = e.shop;
-      spent = (let a = e.spent in omega arith);
-    }
+    in child_walks s.shop s.walk.best s.word s.stack o on s.walk (spent_one s.walk)
+    (enters s.shop s.walk (word_at s.word o) some (omega arith))
+
+pub went_turns : (s : Stage) (o : Open) → 0 < s.walk.budget
+    → turns_left (went_to s o) + length s.shop.jobs + 1 < turns_left (on_top s (open_child o))
+went_turns s o some = one_spent s.walk.budget (length s.shop.jobs) (length s.stack)
+    (length (s.stack ++ open_child o ∷ [])) some (length_push s.stack (open_child o))
 
 -- the last of the last ones
 last_last : {A : Type 0} (xs : List A) (n m : ℕ) → n ≤ m → m ≤ length xs → drop n (last_of m xs) ≡ last_of (m - n) xs
@@ -177,10 +174,10 @@ ends_counted s (suc n) is short kids ordered some =
 abbrev pub at_node : Stage → Node → Stage
 at_node s node = record s { word = node.word; walk = spent_one s.walk }
 
-pub node_expanded : (s m t : Stage) (node : Node) → s.stack ≡ [] → 0 < s.walk.budget
-    → lb s.shop node.word < s.walk.best → HasExpanded (at_node s node) m → HasWalked m t (stack_walk m)
+pub node_walked : (s t : Stage) (node : Node) → s.stack ≡ [] → 0 < s.walk.budget
+    → lb s.shop node.word < s.walk.best → HasWalked (at_node s node) t (walk_on (at_node s node))
     → HasWalked s t (node_walk s node)
-node_expanded s m t node empty some below e h = grind (arith, enters)
+node_walked s t node empty some below h = grind (arith, enters)
 
 -- one more node was walked
 pub nodes_on : (s m t : Stage) (nodes : List Node) (k : ℕ) (node : Node) → node ≡ get_or nodes k node → k < length nodes

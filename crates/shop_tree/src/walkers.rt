@@ -65,8 +65,10 @@ impl<L: StateLanes> Drop for Walker<'_, '_, L> {
 impl<'l, 'a, L: StateLanes> Walker<'l, 'a, L> {
     ghost use Rattle.shop_nodes.specs.declared.halts.Waiting.TheVariants.{Rest};
     ghost use Rattle.shop_nodes.specs.Halts.{open_child, halted_words, AreHalted, stack_words, word_at};
-    ghost use Rattle.shop_tree.specs.inner.{Walkers.IsTurn, StateWalkers.{stage_of, HasStates}, Held.IsHeldOf};
-    ghost use Rattle.shop_tree.specs.inner.Walkers.{on_top, stack_walk, node_walk, IsInOrder, HasWalked, HasWalkedUpTo};
+    ghost use Rattle.std.specs.Prelude.{MatchOption};
+    ghost use Rattle.shop_tree.specs.inner.StateWalkers.{stage_of, HasReachedFrom, HasStates, StandsAt};
+    ghost use Rattle.shop_tree.specs.inner.{Held.IsHeldOf, Walkers.{IsTurn, on_top, stack_walk, node_walk, walk_on}};
+    ghost use Rattle.shop_tree.specs.inner.Walkers.{IsInOrder, HasWalked, HasWalkedUpTo};
 
     /// Makes a walk for pieces of `instance`, over its layout, with at most `most` states for waiting children. Fails
     /// with `NoMemory` if memory runs out.
@@ -98,30 +100,28 @@ impl<'l, 'a, L: StateLanes> Walker<'l, 'a, L> {
         })
     }
 
-    /// Takes `child`, which lay on top of the stack, and expands its word if its bound is below the best makespan.
-    /// Fails with `NoMemory` if memory runs out.
-    fn walk_open(
-        &mut self,
-        alloc: Global,
-        child: Open,
-        state: Option<Box<State<L>>>,
-    ) -> Result<(), NoMemory>
+    /// Takes `child`, which lay on top of the stack. If its bound is below the best makespan, goes on to its word and
+    /// returns the bound; else gives its state back and returns `None`. Fails with `NoMemory` if memory runs out.
+    #[inline(always)]
+    fn reach(&mut self, child: Open, state: Option<Box<State<L>>>) -> Result<Option<u64>, NoMemory>
         requires some { 0 < self.old.budget }
         requires on { IsInOrder (on_top (stage_of self.old) (open_child child)) }
         requires state { IsHeldOf (IsStateOf L.StateLanes self.old.states.dispatcher.laid_out)
             (word_at self.old.path.items child) state }
         requires states { HasStates self.old }
-        ensures turn { OnOk result (IsTurn (stage_of self.old) (open_child child) (stage_of self.new)) }
-        ensures states { OnOk result (HasStates self.new) }
+        ensures { IfOk result (λ told. MatchOption told
+            (IsTurn (stage_of self.old) (open_child child) (stage_of self.new) × HasStates self.new)
+            (HasReachedFrom (on_top (stage_of self.old) (open_child child)) self.new)) }
     {
         self.budget -= 1;
         if child.bound >= self.best {
-            return self.states.give_back(state);
+            self.states.give_back(state)?;
+            return Ok(None);
         }
         self.path.truncate(child.depth as usize);
         self.path.push(child.job).unwrap();
         self.states.go_on_in(state, self.path.as_slice())?;
-        self.expand(alloc, child.bound)
+        Ok(Some(child.bound))
     }
 
     /// Spends the budget on `count` closed children, one unit each. Puts the children left over back on the stack.
@@ -145,27 +145,51 @@ impl<'l, 'a, L: StateLanes> Walker<'l, 'a, L> {
         Ok(())
     }
 
-    /// Walks the waiting children on the stack, depth first, as long as the budget lasts. Fails with `NoMemory` if
-    /// memory runs out.
-    fn walk_stack(&mut self, alloc: Global) -> Result<(), NoMemory>
+    /// Takes waiting children off the stack, as long as the budget lasts, up to the first whose bound is below the best
+    /// makespan. Goes on to its word and returns the bound; returns `None` if the stack or the budget ends first. Fails
+    /// with `NoMemory` if memory runs out.
+    #[inline(always)]
+    fn reach_next(&mut self) -> Result<Option<u64>, NoMemory>
         requires in_order { IsInOrder (stage_of self.old) }
         requires states { HasStates self.old }
-        ensures walked { OnOk result
-            (HasWalked (stage_of self.old) (stage_of self.new) (stack_walk (stage_of self.old))) }
-        ensures states { OnOk result (HasStates self.new) }
+        ensures { IfOk result (λ told. MatchOption told
+            (HasWalked (stage_of self.old) (stage_of self.new) (stack_walk (stage_of self.old)) × HasStates self.new)
+            (HasReachedFrom (stage_of self.old) self.new)) }
     {
         while self.budget > 0 {
             let Some(held) = self.stack.pop() else {
-                return Ok(());
+                return Ok(None);
             };
             match held.waiting {
                 Waiting::Child { job, depth, bound } => {
-                    self.walk_open(alloc, Open { depth, job, bound }, held.state)?
+                    let child = Open { depth, job, bound };
+                    if let Some(bound) = self.reach(child, held.state)? {
+                        return Ok(Some(bound));
+                    }
                 }
                 Waiting::Rest { depth, count } => self.count_closed(depth, count)?,
             }
         }
-        Ok(())
+        Ok(None)
+    }
+
+    /// Expands the current word, whose bound `bound` is below the best makespan, then walks the waiting children on the
+    /// stack, depth first, as long as the budget lasts. Fails with `NoMemory` if memory runs out.
+    fn walk_from(&mut self, alloc: Global, bound: u64) -> Result<(), NoMemory>
+        requires at { StandsAt self.old bound }
+        ensures walked { OnOk result
+            (HasWalked (stage_of self.old) (stage_of self.new) (walk_on (stage_of self.old))) }
+        ensures states { OnOk result (HasStates self.new) }
+    {
+        let mut bound = bound;
+        loop {
+            // its one call, so that the whole walk is compiled as one function
+            self.expand(alloc, bound)?;
+            let Some(next) = self.reach_next()? else {
+                return Ok(());
+            };
+            bound = next;
+        }
     }
 
     /// Takes `node` and walks the tree below it, as long as the budget lasts. Fails with `NoMemory` if memory runs out.
@@ -185,8 +209,7 @@ impl<'l, 'a, L: StateLanes> Walker<'l, 'a, L> {
         self.instance.keeps_limits();
         node.word.write_to(&mut self.path)?;
         self.states.fill(self.path.as_slice());
-        self.expand(alloc, node.bound)?;
-        self.walk_stack(alloc)
+        self.walk_from(alloc, node.bound)
     }
 
     /// Walks the tree below each of `nodes` in order, as long as the budget lasts. Returns how many were taken. Fails

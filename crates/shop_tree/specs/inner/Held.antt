@@ -8,7 +8,7 @@
 --     bound_of x                      the bound of an open child that waits, and 0 of closed ones
 --     with_held_rest stack depth n    the stack with n closed children of a word of `depth` entries on top, if any
 --     HasSetRestBelow i depth n m ..  n closed children at place i, below some kids, become m
---     AreSlots slot current ..        the current, the trial's and the spare states are room for states
+--     AreSlots slot current ..        the current state, the trial's and the spare ones are slots
 use Rattle.std.specs.Prelude.{◌≡◌, ℕ, zero, suc, [], ◌∷◌, ◌++◌, Option, Some, None, List, length, map, take, All}
 use Rattle.std.specs.Global.{Box}
 use Rattle.shop_nodes.specs.declared.halts.{Open.Open, Waiting.{Waiting, TheVariants.{Child, Rest}}}

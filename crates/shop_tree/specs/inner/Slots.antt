@@ -1,4 +1,4 @@
--- What the states of a walk hold. `g` reads lanes as numbers.
+-- What the states of a walk hold.
 --     HaveStayed old new      the dispatcher, the current state and the trial's are the same
 --     IsStateIn s w           the current state is that of word w
 --     Lists s w limit cs n    the candidates of w with own numbers below the limit are cs, and there are n others

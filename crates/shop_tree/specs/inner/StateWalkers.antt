@@ -7,16 +7,17 @@
 --     StandsAs v w        w stands where v stood, with the same current state
 --     StandsAt w b        its word has bound b, which is below the best; all that waits, and its states, are in order
 --     IsListedAt w b n    so, its word isn't full, and its candidates are at hand, but for n others
+--     HasReachedFrom s w b  the walk went on from stage s to a child that waited there, with bound b, and took it
 --     HasReached v w b    the walk went on from v's word to one with bound b, and took it
 --     HasGoneOn v w told  the walk went on from v's word to a child with the bound that is told, or had nowhere to go
-use Rattle.std.specs.Prelude.{◌≡◌, ℕ, ◌<◌, Option, Some, None, List, [], All, length}
+use Rattle.std.specs.Prelude.{◌≡◌, ℕ, ◌+◌, ◌≤◌, ◌<◌, Option, Some, None, List, [], All, length}
 use Rattle.shop_bound.specs.Bound.{lb}
 use Rattle.shop_nodes.specs.Walking.{Walk}
 use Rattle.shop_lanes.specs.declared.state_lanes.StateLanes.{Ghosts}
 use Rattle.shop_states.specs.inner.WordStates.{IsStateOf}
 use Rattle.shop_tree.specs.declared.{held.Held.Held, walkers.Walker.Walker}
 use Rattle.shop_tree.specs.inner.{Held.{IsHeld, waiting_in}, Slots.{IsStateIn, Lists}}
-use Rattle.shop_tree.specs.inner.Walkers.{Stage, HasExpanded, HasFollowed, IsInOrder}
+use Rattle.shop_tree.specs.inner.Walkers.{Stage, HasExpanded, HasFollowed, IsInOrder, stack_walk, turns_left, walk_on}
 
 abbrev pub AreHeld : {S : Type 0} → (List ℕ → S → Type 0) → List ℕ → List (Held S) → Type 0
 AreHeld is word hs = All (IsHeld is word) hs
@@ -49,6 +50,13 @@ pub record StandsAt {L N : Type 0} {g : Ghosts L N} (w : Walker L N g) (b : ℕ)
   pub in_order : IsInOrder (stage_of w)
   pub states : HasStates w
   pub state : IsStateIn w.states w.path.items
+
+pub record HasReachedFrom {L N : Type 0} {g : Ghosts L N} (s : Stage) (w : Walker L N g) (b : ℕ) : Type 0 where
+  pub walk : walk_on (stage_of w) ≡ stack_walk s
+  pub fewer : turns_left (stage_of w) + length s.shop.jobs + 1 < turns_left s
+  pub shop : w.instance.now ≡ s.shop
+  pub spent : w.budget ≤ s.walk.budget
+  pub at : StandsAt w b
 
 pub record IsListedAt {L N : Type 0} {g : Ghosts L N} (w : Walker L N g) (b n : ℕ) : Type 0 where
   pub at : StandsAt w b

@@ -6,7 +6,8 @@ pub dispatch_settled-requires : goal.dispatch_settled-requires
 dispatch_settled-requires g c =
     let at = c.requires.branching
     in record {
-      can = λ k e within. record { word = c.args.branching.now.word.now; is = (at.state, own_each at.listed k e within) };
+      can = λ k e within.
+          record { word = c.args.branching.now.word.now; is = (at.state, own_each at.listed k e within) };
     }
 
 pub returns-clause-given : goal.returns-clause-given

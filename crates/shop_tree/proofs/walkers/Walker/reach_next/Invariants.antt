@@ -1,5 +1,5 @@
 use Rattle.shop_tree.{specs.inner.{StateWalkers.stage_of, Walkers.turns_left}, proofs.PopLemmas.HasCome}
-use Rattle.shop_tree.proofs.walkers.Walker.walk_stack.Given as goal
+use Rattle.shop_tree.proofs.walkers.Walker.reach_next.Given as goal
 
 abbrev pub invariant-loop-self : goal.invariant-loop-self
 invariant-loop-self g l = HasCome l.fn.self l.self
