@@ -1,5 +1,5 @@
 -- The lists of the machines one after another, each down the columns of its blocks.
-use Rattle.std.proofs.Common.{◌≡◌, ℕ, ◌+◌, ◌-◌, ◌*◌, ◌/◌, ◌%◌, ◌^◌, ◌≤◌, ◌<◌, List, [], ◌∷◌, ◌++◌, length, get_or, sym}
+use Rattle.std.proofs.Common.{◌≡◌, ℕ, ◌+◌, ◌-◌, ◌*◌, ◌/◌, ◌%◌, ◌≤◌, ◌<◌, List, [], ◌∷◌, ◌++◌, length, get_or, sym}
 use Rattle.std.proofs.{Common.{◌∙◌, ap, arith}, lemmas.{Bool.cases_eq, Grind.div_ceil_times, List.get_or_append_left}}
 use Rattle.std.proofs.{lemmas.List.{get_or_default, get_or_past, length-append}, Math.Seq.get_or-append_seam}
 use Rattle.std.specs.Int.{div_ceil}

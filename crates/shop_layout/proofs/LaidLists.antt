@@ -3,7 +3,7 @@ use Rattle.std.proofs.Common.{◌≡◌, ℕ, zero, suc, ◌+◌, ◌-◌, ◌*�
 use Rattle.std.proofs.{Common.arith, lemmas.{Bool.{cases_eq, cases_lt}, List.{get_or-map, get_or_past, get_or_default}}}
 use Rattle.std.{proofs.lemmas.List.length-map, specs.List.All}
 use Rattle.shop_model.specs.{Limits.IsWithinLimits, Shop.Shop}
-use Rattle.shop_layout.specs.{declared.slots.Slot.Slot, Slots.{AreMachineSlots, AreSlotsOf}, inner.Layings.place_after}
+use Rattle.shop_layout.specs.{declared.slots.Slot.Slot, Slots.{AreMachineSlots, AreSlotsOf}}
 use Rattle.shop_layout.specs.inner.Layings.{AreCells, AreNoted, ArePlaces, AreShorter, HasRoutes, IsInRows, no_slot}
 use Rattle.shop_layout.specs.Positions.{AreMachinesOf, IsLaidOut, LayoutState}
 use Rattle.shop_layout.proofs.{ApartSlots.slots_few, Ranks.rank_at, SlotFacts.slots_are_operations}
@@ -87,7 +87,6 @@ module _ (shop : Shop) (limits : IsWithinLimits shop) (lists : List (List Slot))
   pub laid_out : (rows : List (List ℕ)) → ArePlaces shop lists blocks shop.machines rows → (l : LayoutState)
       → l.jobs ≡ map (λ s. s.job) cells → l.steps ≡ map (λ s. s.step) cells → l.times ≡ map (λ s. s.time) cells
       → l.tails ≡ map (λ s. s.tail) cells → l.places ≡ rows → l.blocks ≡ blocks
-      → AreMachinesOf blocks shop.machines l.machines → l.following ≡ map (place_after (length cells) rows) cells
-      → IsLaidOut shop l
-  laid_out rows placed l jobs steps times tails places is machines following =
+      → AreMachinesOf blocks shop.machines l.machines → IsLaidOut shop l
+  laid_out rows placed l jobs steps times tails places is machines =
       grind (arith, column, length-map, cells_known, get_or-map)

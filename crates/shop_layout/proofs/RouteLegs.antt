@@ -28,7 +28,7 @@ module _ (rows : List (Vec ℕ Global)) (j : ℕ) (row : Vec ℕ Global) (places
 
 module _ (l : LayoutState) where
   abbrev legs_on : List ℕ → List Leg
-  legs_on = route_legs l.machines l.times (length l.following)
+  legs_on = route_legs l.machines l.times (length l.jobs)
 
   route_long : (places : List ℕ) → length (legs_on places) ≡ length places + 1
   route_long places = grind (arith, length-append, length-map)
@@ -58,21 +58,21 @@ module _ (l : LayoutState) where
     leg_here k d here =
         let long = route_long places
         in get_or-flat_map legs_on l.places j k [] d known (omega arith)
-        ∙ (get_or_append_left (map (leg_of l.machines l.times) places) (end_of (length l.following) ∷ []) d k
+        ∙ (get_or_append_left (map (leg_of l.machines l.times) places) (end_of (length l.jobs) ∷ []) d k
         (omega (arith, here, length-map places (leg_of l.machines l.times)))
         ∙ get_or-map (leg_of l.machines l.times) places k 0 d here)
 
     -- behind them stands the end of the route
     pub leg_behind : (k : ℕ) (d : Leg) → k ≡ length (get_or l.places j [])
-        → get_or (all_legs l) (leg_index l j k) d ≡ end_of (length l.following)
+        → get_or (all_legs l) (leg_index l j k) d ≡ end_of (length l.jobs)
     leg_behind k d last =
         let long = route_long places
         in get_or-flat_map legs_on l.places j k [] d known (omega arith)
-        ∙ get_or_push (map (leg_of l.machines l.times) places) (end_of (length l.following)) d k
+        ∙ get_or_push (map (leg_of l.machines l.times) places) (end_of (length l.jobs)) d k
         (length-map places (leg_of l.machines l.times) ∙ sym last)
 
   pub behind_is : {firsts behind : List ℕ}
-      → AreFirsts (route_legs l.machines l.times (length l.following)) l.places firsts
+      → AreFirsts (route_legs l.machines l.times (length l.jobs)) l.places firsts
       → AreBehind l.jobs l.steps firsts behind → length (all_legs l) < 2 ^ 64 → IsBehind l behind
   behind_is {firsts} {behind} begin are small = grind (arith, index_known)
 

@@ -17,7 +17,7 @@ abbrev pub route_legs : List ℕ → List ℕ → ℕ → List ℕ → List Leg
 route_legs machines times n places = map (leg_of machines times) places ++ end_of n ∷ []
 
 abbrev pub all_legs : LayoutState → List Leg
-all_legs l = flat_map (route_legs l.machines l.times (length l.following)) l.places
+all_legs l = flat_map (route_legs l.machines l.times (length l.jobs)) l.places
 
 abbrev pub leg_index : LayoutState → ℕ → ℕ → ℕ
-leg_index l j k = length (flat_map (route_legs l.machines l.times (length l.following)) (take j l.places)) + k
+leg_index l j k = length (flat_map (route_legs l.machines l.times (length l.jobs)) (take j l.places)) + k

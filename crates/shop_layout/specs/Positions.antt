@@ -2,6 +2,7 @@
 -- of its blocks.
 --     place l j k                  the position of step k of job j
 --     place_or n rows j k          the position in the row of job j, or n if it has no step k
+--     place_behind l q             the position of the step behind that at position q, or the number of all positions
 --     AreMachinesOf blocks n ms    the machine of each position, of the first n machines
 --     AreEven blocks each          each machine has `each` blocks, unless `each` is 0
 --     HoldsMachines l n            no machine has more than n positions
@@ -17,8 +18,8 @@ use Rattle.shop_model.specs.Shop.{Shop, IsOperation, route_of}
 use Rattle.shop_layout.specs.{Slots.AreMachineSlots, declared.slots.Slot.Slot}
 
 -- the job, the step, the time and the tail of the operation at a position; the position of each step of each job; the
--- first block of eight positions of each machine, with the number of all blocks behind the last; and of a position its
--- machine, and the position of the step that follows on the route, or the number of all positions
+-- first block of eight positions of each machine, with the number of all blocks behind the last; and the machine of a
+-- position
 pub record LayoutState : Type 0 where
   pub jobs : List ℕ
   pub steps : List ℕ
@@ -27,7 +28,6 @@ pub record LayoutState : Type 0 where
   pub places : List (List ℕ)
   pub blocks : List ℕ
   pub machines : List ℕ
-  pub following : List ℕ
 
 abbrev pub place : LayoutState → ℕ → ℕ → ℕ
 place l j k = slice_index (slice_index_or l.places j []) k
@@ -37,6 +37,9 @@ place_in rows j k = slice_index (slice_index_or rows j []) k
 
 abbrev pub place_or : ℕ → List (List ℕ) → ℕ → ℕ → ℕ
 place_or n rows j k = if nat_lt k (length (slice_index_or rows j [])) then place_in rows j k else n
+
+abbrev pub place_behind : LayoutState → ℕ → ℕ
+place_behind l q = place_or (length l.jobs) l.places (slice_index l.jobs q) (slice_index l.steps q + 1)
 
 pub record AreMachinesOf (blocks : List ℕ) (machines : ℕ) (ms : List ℕ) : Type 0 where
   pub positions : length ms ≡ 8 * slice_index blocks machines
@@ -83,7 +86,6 @@ pub record HasPositions (l : LayoutState) (n : ℕ) : Type 0 where
   pub steps : length l.steps ≡ n
   pub times : length l.times ≡ n
   pub tails : length l.tails ≡ n
-  pub following : length l.following ≡ n
 
 -- the operations of machine m, by nonincreasing tail, have the first ranks, and the other ranks padding
 pub record IsMachineLaidOut (l : LayoutState) (m : ℕ) (slots : List Slot) : Type 0 where
@@ -103,6 +105,3 @@ pub record IsLaidOut (shop : Shop) (l : LayoutState) : Type 0 where
   pub routes : (j : ℕ) → length (slice_index_or l.places j []) ≡ length (route_of shop j)
   pub machines_at : AreMachinesOf l.blocks shop.machines l.machines
   pub known : (q : ℕ) → q < first_position l shop.machines → slice_index l.jobs q < length shop.jobs
-  pub follows : (q : ℕ) → q < first_position l shop.machines → slice_index l.following q
-      ≡ place_or (first_position l shop.machines) l.places (slice_index l.jobs q)
-      (slice_index l.steps q + 1)

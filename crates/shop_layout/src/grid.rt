@@ -113,23 +113,13 @@ impl<'l, L: StateLanes> Grid<'l, L> {
         (first, first + each)
     }
 
-    /// The next position on the route of the operation at `position`; the number of all positions at the route's end.
-    #[inline(always)]
-    pub fn next_behind(&self, position: usize) -> u32
-        requires { position < length self.now.following }
-        ensures { result ≡ slice_index self.now.following position }
-    {
-        let positions = self.positions;
-        positions.following[position]
-    }
-
     /// The number of all positions.
     #[inline(always)]
     pub fn positions(&self) -> usize
-        ensures { result ≡ length self.now.following }
+        ensures { result ≡ length self.now.jobs }
     {
         let positions = self.positions;
-        positions.following.len()
+        positions.end as usize
     }
 
     /// The number of positions of the machine that has the most of them.

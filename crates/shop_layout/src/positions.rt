@@ -5,7 +5,7 @@ ghost use Rattle.shop_model.specs.declared.limits.TheConstants.{MAX_JOBS, MAX_MA
 ghost use Rattle.shop_layout.specs.{Positions.{AreEven, AreMachinesOf, IsLaidOut}, Ranks.{AreRanks, ranked}};
 ghost use Rattle.shop_layout.specs.{Slots.AreMachineSlots, inner.Vectors.items_in};
 ghost use Rattle.shop_layout.specs.inner.Layings.{AreAdded, AreApart, AreCells, AreNoted, ArePlaces, AreShorter};
-ghost use Rattle.shop_layout.specs.inner.Layings.{HaveRoom, IsInRows, place_after};
+ghost use Rattle.shop_layout.specs.inner.Layings.{HaveRoom, IsInRows};
 
 use crate::slots::{Slot, machine_slots};
 use shop_model::Instance;
@@ -31,8 +31,6 @@ pub(crate) struct Positions {
     pub(crate) blocks: Vec<u32>,
     /// the machine of each position
     pub(crate) machines: Vec<u32>,
-    /// for each position, the position of the next step on the route; the number of all positions at a route's end
-    pub(crate) following: Vec<u32>,
     /// the number of all positions
     pub(crate) end: u32,
 }
@@ -51,10 +49,9 @@ impl Model for Positions {
       places = items_in l.places.items;
       blocks = l.blocks.items;
       machines = l.machines.items;
-      following = l.following.items;
     } };
 
-    ghost invariant = { λ l. l.end ≡ length l.following.items };
+    ghost invariant = { λ l. l.end ≡ length l.jobs.items };
 }
 
 /// The slot at padding: its time and tail are 0.
@@ -171,22 +168,6 @@ fn places_of(
     Ok(places)
 }
 
-/// Lists, for each slot, the position of the next step on its job's route, or the number of all positions if the route
-/// ends. Fails with `NoMemory` if memory runs out.
-fn following_of(alloc: Global, slots: &[Slot], places: &[Vec<u32>]) -> Result<Vec<u32>, NoMemory>
-    requires jobs { All (λ s. s.job < length places.now) slots.now }
-    requires steps { All (λ s. s.step < 2 ^ 32) slots.now }
-    requires few { length slots.now < 2 ^ 32 }
-    ensures { IfOk result (λ v. v.items ≡ map (place_after (length slots.now) (items_in places.now)) slots.now) }
-{
-    let mut following = Vec::new(alloc);
-    for s in slots {
-        let next = places[s.job].get(s.step + 1).copied();
-        following.push(next.unwrap_or(slots.len() as u32))?;
-    }
-    Ok(following)
-}
-
 /// Lists the machine of each position, also of padding. `blocks` holds the first block of each machine, then the number
 /// of all blocks. Fails with `NoMemory` if memory runs out.
 fn machines_of(alloc: Global, blocks: &[u32]) -> Result<Vec<u32>, NoMemory>
@@ -242,7 +223,6 @@ impl Positions {
             jobs: jobs_of(alloc, slots)?,
             steps: steps_of(alloc, slots)?,
             machines: machines_of(alloc, blocks.as_slice())?,
-            following: following_of(alloc, slots, places.as_slice())?,
             times: slots.iter().map(|s| s.time).collect(alloc)?,
             tails: slots.iter().map(|s| s.tail).collect(alloc)?,
             places,

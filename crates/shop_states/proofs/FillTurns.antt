@@ -128,7 +128,7 @@ module _ {greatest : ℕ} {shop : Shop} {l : LayoutState} {rows : Rows} (can : C
     leg_few = grind (arith, leg_small)
 
     module _ {leg : Leg} (is : leg ≡ get_or (all_legs read) index (end_of 0)) {n : ℕ}
-        (count : n ≡ length l.following) where
+        (count : n ≡ length l.jobs) where
       -- at the end of the route
       pub job_filled : n ≤ leg.position → HasFilledJob shop l s j rows now
       job_filled above =

@@ -25,7 +25,7 @@ pub record AreNextsSet (shop : Shop) (l : LayoutState) (p : Placing) (n : ℕ)
 module _ {greatest : ℕ} {shop : Shop} {l : LayoutState} {rows : Rows} (can : CanFill greatest shop l rows) {j : ℕ}
     (job : j < length shop.jobs) {s : PlacementState} {index ready : ℕ} {free : List ℕ}
     (at : IsAtLeg shop l s j index ready free) {read : LayoutState} (same : read ≡ l) {leg : Leg}
-    (is : leg ≡ get_or (all_legs read) index (end_of 0)) {n : ℕ} (count : n ≡ length l.following)
+    (is : leg ≡ get_or (all_legs read) index (end_of 0)) {n : ℕ} (count : n ≡ length l.jobs)
     (p : Placing) (placed : IsPlacement shop p s) where
   within : p.steps j ≤ length (route_of shop j)
   within = let of = at.of in let steps = of.placed.steps j job in let here = placed.steps j job in let most = of.fits j

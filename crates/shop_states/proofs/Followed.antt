@@ -1,6 +1,8 @@
 -- The position of a step of a route, or the number of all positions.
-use Rattle.std.proofs.{Common.{◌≡◌, ℕ, ◌≤◌, ◌<◌, refl}, lemmas.Bool.{lt-ltb, le-ltb}}
-use Rattle.shop_layout.specs.Positions.{place_or, LayoutState, place}
+use Rattle.std.proofs.Common.{◌≡◌, ℕ, ◌≤◌, ◌<◌, inl, inr, length, get_or, refl, sym, ◌∙◌, ap, arith}
+use Rattle.std.proofs.lemmas.Bool.{cases_lt, lt-ltb, le-ltb}
+use Rattle.shop_layout.specs.{declared.legs.Leg.Leg, Legs.{all_legs, end_of, leg_index, leg_of}}
+use Rattle.shop_layout.{specs.Positions.{place_or, LayoutState, place}, proofs.RouteLegs.{leg_behind, leg_here}}
 use Rattle.shop_states.specs.inner.Raises.{steps_of}
 
 module _ (l : LayoutState) (n j k : ℕ) where
@@ -9,3 +11,25 @@ module _ (l : LayoutState) (n j k : ℕ) where
 
   pub place_past : steps_of l j ≤ k → place_or n l.places j k ≡ n
   place_past past = rw (le-ltb k (steps_of l j) past) refl
+
+-- leg k of job j, or the end of its route
+module _ (l : LayoutState) {j k : ℕ} (job : j < length l.places) (within : k ≤ steps_of l j) {leg : Leg}
+    (is : leg ≡ get_or (all_legs l) (leg_index l j k) (end_of 0)) where
+  step_leg : k < steps_of l j → leg ≡ leg_of l.machines l.times (place l j k)
+  step_leg here = is ∙ leg_here l j job k (end_of 0) here
+
+  end_leg : steps_of l j ≤ k → leg ≡ end_of (length l.jobs)
+  end_leg past = is ∙ leg_behind l j job k (end_of 0) (omega arith)
+
+  pub leg_position : leg.position ≡ place_or (length l.jobs) l.places j k
+  leg_position = elim (cases_lt k (steps_of l j)) [
+    | inl here ↦ ap (λ (x : Leg). x.position) (step_leg here) ∙ sym (place_there l (length l.jobs) j k here)
+    | inr past ↦ ap (λ (x : Leg). x.position) (end_leg past) ∙ sym (place_past l (length l.jobs) j k past)
+  ]
+
+  pub leg_time : leg.position < length l.jobs → leg.time ≡ get_or l.times leg.position 0
+  leg_time below = elim (cases_lt k (steps_of l j)) [
+    | inl here ↦ (let e = step_leg here
+        in ap (λ (x : Leg). x.time) e ∙ ap (λ (q : ℕ). get_or l.times q 0) (sym (ap (λ (x : Leg). x.position) e)))
+    | inr past ↦ absurd (let e = ap (λ (x : Leg). x.position) (end_leg past) in omega arith)
+  ]

@@ -16,7 +16,7 @@ pub record IsLegOf (shop : Shop) (l : LayoutState) (j k : ℕ) (leg : Leg) : Typ
 
 module _ (l : LayoutState) where
   abbrev legs_on : List ℕ → List Leg
-  legs_on = route_legs l.machines l.times (length l.following)
+  legs_on = route_legs l.machines l.times (length l.jobs)
 
   -- the legs of the next job begin behind the end of the route
   pub next_first : (j : ℕ) → j < length l.places
@@ -24,7 +24,7 @@ module _ (l : LayoutState) where
   next_first j known =
       let places = get_or l.places j []
       in let long : length (legs_on places) ≡ length places + 1 =
-      length-append (map (leg_of l.machines l.times) places) (end_of (length l.following) ∷ [])
+      length-append (map (leg_of l.machines l.times) places) (end_of (length l.jobs) ∷ [])
       ∙ ap (λ (n : ℕ). n + 1) (length-map places (leg_of l.machines l.times))
       in let more : length (flat_map legs_on (take (j + 1) l.places))
       ≡ length (flat_map legs_on (take j l.places)) + length (legs_on places) =
@@ -86,8 +86,8 @@ module _ {shop : Shop} (limits : IsWithinLimits shop) {l : LayoutState} (laid : 
         pub position_or : leg.position ≡ place_or (first_position l shop.machines) l.places j k
         position_or = grind (arith, cases_lt, leg_is, place_there, end_there, place_past)
 
-        pub step_there : {n : ℕ} → n ≡ length l.following → leg.position < n → k < length (route_of shop j)
+        pub step_there : {n : ℕ} → n ≡ length l.jobs → leg.position < n → k < length (route_of shop j)
         step_there count below = grind (arith, cases_lt, end_there)
 
-        pub step_past : {n : ℕ} → n ≡ length l.following → n ≤ leg.position → length (route_of shop j) ≤ k
+        pub step_past : {n : ℕ} → n ≡ length l.jobs → n ≤ leg.position → length (route_of shop j) ≤ k
         step_past count above = search (rules, cases_lt, leg_is, place_of)

@@ -228,22 +228,22 @@ module _ {shop : Shop} {p : Placing} {l : LayoutState} {nexts : List ℕ} {rows 
 module _ {greatest : ℕ} {shop : Shop} {p : Placing} {l : LayoutState} {nexts : List ℕ} {rows : Rows}
     (can : AreChoosable greatest shop p l nexts rows) where
   -- as many positions as heads
-  followings : length l.following ≡ length rows.heads
-  followings = can.at.laid.positions.following ∙ sym can.at.heads.positions
+  as_many : length l.jobs ≡ length rows.heads
+  as_many = can.at.laid.positions.jobs ∙ sym can.at.heads.positions
 
   module _ (r : ℕ) (is : IsFirstLeast rows.ends r) where
     pub chosen_job : r < length shop.jobs
     chosen_job = let a = is.within in let b = can.ends.jobs in omega arith
 
-    none_left : (n : ℕ) → n ≡ length l.following → n ≤ get_or nexts r 0 → length (route_of shop r) ≤ p.steps r
+    none_left : (n : ℕ) → n ≡ length l.jobs → n ≤ get_or nexts r 0 → length (route_of shop r) ≤ p.steps r
     none_left n many past = elim (cases_lt (p.steps r) (length (route_of shop r))) [
       | inl op ↦ absurd (let at = next_there can.at r op
           in let a = (place_of shop can.at.limits l can.at.laid r (p.steps r) op).within
-          in let b = can.at.heads.positions in let d = followings in omega arith)
+          in let b = can.at.heads.positions in let d = as_many in omega arith)
       | inr done ↦ done
     ]
 
-    pub none_open : {n : ℕ} → n ≡ length l.following → n ≤ get_or nexts r 0
+    pub none_open : {n : ℕ} → n ≡ length l.jobs → n ≤ get_or nexts r 0
         → [] ≡ conflict_among shop p (open_jobs shop p)
     none_open {n} many past = sym (ap (conflict_among shop p) (none_in (open_jobs shop p) (λ i h.
         let o = open_is shop p i h
@@ -261,11 +261,11 @@ module _ {greatest : ℕ} {shop : Shop} {p : Placing} {l : LayoutState} {nexts :
       pub end : get_or rows.heads position 0 + get_or rows.times position 0 ≡ next_end shop p r + 1
       pub fits : next_end shop p r + 1 < greatest
 
-    pub chosen_at : {n : ℕ} → n ≡ length l.following → get_or nexts r 0 < n
+    pub chosen_at : {n : ℕ} → n ≡ length l.jobs → get_or nexts r 0 < n
         → IsChosenAt (get_or nexts r 0) (get_or l.machines (get_or nexts r 0) 0)
     chosen_at many below =
         let position = get_or nexts r 0
-        in let here : position < length rows.heads = (let a = followings in omega arith)
+        in let here : position < length rows.heads = (let a = as_many in omega arith)
         in let op = next_is can.at r chosen_job here
         in let at : position ≡ place l r (p.steps r) = next_there can.at r op
         in let stands = place_of shop can.at.limits l can.at.laid r (p.steps r) op

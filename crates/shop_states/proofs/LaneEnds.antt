@@ -68,7 +68,6 @@ module _ {greatest : ℕ} {shop : Shop} {w : List ℕ} {l : LayoutState} {rows :
     pub can_keep : CanKeepEnds greatest l nexts rows
     can_keep = record {
       placed = next_placed nexts_at;
-      positions = kept.laid.positions.following ∙ sym kept.heads.positions;
       ends = as_many ∙ sym are.jobs;
       fits = λ j known. elim (cases_lt (get_or nexts j 0) (length rows.heads)) [
         | inl lt ↦ (let many = are.jobs

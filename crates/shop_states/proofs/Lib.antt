@@ -50,6 +50,7 @@ pub mod LongerBeginnings
 pub mod LookedUpRows
 pub mod MachineLanes
 pub mod MarkedPositions
+pub mod NextLegs
 pub mod NextOperations
 pub mod OwnSpans
 pub mod PlacedNexts

@@ -5,7 +5,7 @@ use Rattle.shop_lanes.specs.Rows.{Rows}
 use Rattle.shop_layout.specs.Positions.{LayoutState}
 use Rattle.shop_states.specs.inner.RisingLists.{IsIn, Rises}
 use Rattle.shop_states.specs.inner.Raises.{at_in, AreInRouteOrder, IsRaised, IsLeastRaise, IsRaisable}
-use Rattle.shop_states.specs.inner.Raises.{AreWaiting, Raises, IsFollowed, IsIndexed, IsPosition}
+use Rattle.shop_states.specs.inner.Raises.{AreWaiting, Raises, IsIndexed, IsPosition}
 use Rattle.shop_states.proofs.AskedHeads.{asks_less}
 
 pub weaker : {l : LayoutState} (A B : ℕ → Type 0) {asks : ℕ → ℕ → ℕ → Type 0} {old new : ℕ → ℕ} → ((q : ℕ) → B q → A q)
@@ -85,7 +85,6 @@ still_raisable {l = l} can x left = record {
   firsts = grind arith;
   ends = (let y = x.ends.long in let z = can.ends in omega arith);
   indexed = subst (λ (k : ℕ). IsIndexed l k) (sym x.raised.positions) can.indexed;
-  followed = subst (λ (k : ℕ). IsFollowed l k) (sym x.raised.positions) can.followed;
   machines = can.machines ∙ sym x.raised.positions;
   times = x.times ∙ can.times;
   timed = can.timed ∙ sym x.raised.positions;

@@ -5,8 +5,9 @@ use Rattle.shop_lanes.specs.Rows.{Rows, with_head}
 use Rattle.shop_layout.specs.{declared.legs.Leg.Leg, Legs.{all_legs, end_of, leg_index, leg_of}, Lanes.rows_of}
 use Rattle.shop_layout.specs.Positions.{place_or, LayoutState, place}
 use Rattle.shop_states.specs.inner.Raises.{AsksOwn, steps_of, IsPosition, IsRaisable, Raises}
-use Rattle.shop_layout.proofs.RouteLegs.{index_known, leg_behind, leg_here}
-use Rattle.shop_states.proofs.{Followed.place_there, RaiseWalks.{IsRaisedUpTo, walk_begins, next_least, walk_on}}
+use Rattle.shop_layout.proofs.RouteLegs.{index_known, leg_here}
+use Rattle.shop_states.proofs.Followed.{leg_position, place_there}
+use Rattle.shop_states.proofs.RaiseWalks.{IsRaisedUpTo, walk_begins, next_least, walk_on}
 
 -- one head of a state was replaced
 pub put_is : (l : LayoutState) (hs : List ℕ) {es hs' es' : List ℕ} (q v : ℕ) → hs' ≡ set hs q v → es' ≡ es
@@ -83,7 +84,8 @@ module _ {greatest : ℕ} {l : LayoutState} {p e : ℕ} {old : Rows}
       read = is ∙ ap (λ (i : ℕ). get_or (all_legs l) i (end_of 0)) so_far.index_is
 
       stands : leg.position ≡ place_or (length old.heads) l.places job so_far.step
-      stands = grind (arith, cases_lt, leg_here, place_there, leg_behind)
+      stands = leg_position l (can.places p some).job so_far.known read
+          ∙ ap (λ (n : ℕ). place_or n l.places job so_far.step) can.indexed.jobs
 
       pub position_up_to : leg.position ≤ length now.heads
       position_up_to = grind (arith, stands, cases_lt, place_there)

@@ -8,9 +8,9 @@ use Rattle.shop_lanes.specs.Rows.{Rows}
 use Rattle.shop_bound.{specs.Heads.{head_of, ready_after}, proofs.{HeadsRise.heads_up, HeadsStay.ready_first_same}}
 use Rattle.shop_bound.proofs.{HeadsStay.steps_rise, HeadTurns.{ready_first, ready_more}}
 use Rattle.shop_states.specs.inner.LaneHeads.{AreHeadsAt, AreStored}
-use Rattle.shop_states.specs.inner.Raises.{steps_of, at_in, AreFirst, IsFollowed, IsIndexed, IsPlace, AreInRouteOrder}
+use Rattle.shop_states.specs.inner.Raises.{steps_of, at_in, AreFirst, IsIndexed, IsPlace, AreInRouteOrder}
 use Rattle.shop_states.specs.inner.Raises.{AsksOwn, IsRaised, IsLeastRaise, IsRaisable, IsOnMachine, HasBlocks}
-use Rattle.shop_layout.specs.Positions.{place_or, LayoutState, place, first_position, IsLaidOut}
+use Rattle.shop_layout.specs.Positions.{place_behind, place_or, LayoutState, place, first_position, IsLaidOut}
 use Rattle.shop_states.proofs.AskedHeads.{own_reached, reach_own}
 use Rattle.shop_layout.proofs.LaidPlaces.{IsOperationAt, machines_rise, place_of, each_position, on_machine}
 
@@ -29,16 +29,15 @@ module _ {shop : Shop} (limits : IsWithinLimits shop) {l : LayoutState} (laid : 
     });
   }
 
-  pub followed : {n : ℕ} → n ≡ first_position l shop.machines → IsFollowed l n
-  followed is = record {
-    following = laid.positions.following ∙ sym is;
-    follows = λ j k h. (let a = place_of shop limits l laid j k (operation_in j k h)
-        in laid.follows (place l j k) a.within
-        ∙ (ap (λ (i : ℕ). place_or (first_position l shop.machines) l.places i (get_or l.steps (place l j k) 0 + 1))
-        a.job
-        ∙ (ap (λ (t : ℕ). place_or (first_position l shop.machines) l.places j (t + 1)) a.step
-        ∙ ap (λ (x : ℕ). place_or x l.places j (k + 1)) (sym is))));
-  }
+  pub behind_place : (j k : ℕ) → IsOperation shop j k
+      → place_behind l (place l j k) ≡ place_or (first_position l shop.machines) l.places j (k + 1)
+  behind_place j k op =
+      let a = place_of shop limits l laid j k op
+      in ap (λ (n : ℕ). place_or n l.places (get_or l.jobs (place l j k) 0) (get_or l.steps (place l j k) 0 + 1))
+      laid.positions.jobs
+      ∙ (ap (λ (i : ℕ). place_or (first_position l shop.machines) l.places i (get_or l.steps (place l j k) 0 + 1))
+      a.job
+      ∙ ap (λ (t : ℕ). place_or (first_position l shop.machines) l.places j (t + 1)) a.step)
 
   pub has_blocks : {n : ℕ} (m : ℕ) → n ≡ first_position l shop.machines → m < shop.machines → HasBlocks l n m
   has_blocks m is known = record {
@@ -49,7 +48,7 @@ module _ {shop : Shop} (limits : IsWithinLimits shop) {l : LayoutState} (laid : 
         (omega arith) in omega arith);
   }
 
-  is_place : (j k : ℕ) → IsOperation shop j k → IsPlace l (place l j k)
+  pub is_place : (j k : ℕ) → IsOperation shop j k → IsPlace l (place l j k)
   is_place j k op =
       let a = place_of shop limits l laid j k op in let known = IsOperation-job shop j k op
       in let long = laid.routes (get_or l.jobs (place l j k) 0)
@@ -93,7 +92,6 @@ module _ {shop : Shop} (limits : IsWithinLimits shop) {l : LayoutState} (laid : 
     firsts = firsts;
     ends = ends;
     indexed = indexed are.positions;
-    followed = followed are.positions;
     machines = laid.machines_at.positions ∙ sym are.positions;
     times = times;
     timed = laid.positions.times ∙ sym are.positions;

@@ -1,17 +1,17 @@
 -- What is kept of a word, with one operation more.
 use Rattle.std.proofs.Common.{rules, ◌≡◌, ℕ, ◌+◌, ◌<◌, inl, inr, List, [], ◌∷◌, ◌++◌, length, get_or, set, refl, sym}
-use Rattle.std.proofs.{Common.{◌∙◌, ap, arith}, lemmas.{Bool.cases_eq, Grind.get_or-set_at}}
+use Rattle.std.proofs.{Common.{◌∙◌, ap, subst, arith}, lemmas.{Bool.cases_eq, Grind.get_or-set_at}}
 use Rattle.std.proofs.lemmas.List.{get_or-set_other, length-set}
 use Rattle.shop_lanes.specs.Rows.{Rows, with_end}
 use Rattle.shop_model.specs.{Shop.{Shop, IsOperation}, Word.{Placing, IsWord, placing, place_next}}
 use Rattle.shop_model.proofs.{Placings.place_next-is, Unders.placing-snoc}
 use Rattle.shop_states.specs.inner.{LaneChoices.{AreNextsAt, AreNextsOf}, LaneEnds.{CanKeepEnds, IsEndOf, end_at}}
-use Rattle.shop_states.specs.inner.{LaneStates.{AreHeadsInLanes, IsKeptInLanes}, Raises.AreFirst}
-use Rattle.shop_layout.specs.Positions.{place_or, LayoutState, first_position, place}
+use Rattle.shop_states.specs.inner.{LaneStates.{AreHeadsInLanes, IsKeptInLanes}, Raises.{AreFirst, IsPlace}}
+use Rattle.shop_layout.specs.Positions.{place_behind, place_or, LayoutState, first_position, place}
 use Rattle.shop_states.proofs.{ChildReads.is_operation, ChildTurns.its_job, NextOperations.{next_there, next_within}}
 use Rattle.shop_states.proofs.LaneEnds.{AreEndsOf, HasEnds, beside_more, can_keep, end_here, end_other, ends_at}
-use Rattle.shop_states.proofs.{LaneEnds.{ends_of, next_first, nexts_at, with_ends}, RaisedHeads.followed}
-use Rattle.shop_states.proofs.SoleCandidates.{sole_keeps_bound}
+use Rattle.shop_states.proofs.LaneEnds.{ends_of, next_first, nexts_at, with_ends}
+use Rattle.shop_states.proofs.{RaisedHeads.{behind_place, is_place}, SoleCandidates.sole_keeps_bound}
 
 module _ {greatest : ℕ} {shop : Shop} {w : List ℕ} (j : ℕ) {l : LayoutState} {rows : Rows} {nexts : List ℕ}
     (kept : IsKeptInLanes greatest shop w l rows nexts) (fits : IsWord shop (w ++ j ∷ [])) where
@@ -34,8 +34,17 @@ module _ {greatest : ℕ} {shop : Shop} {w : List ℕ} (j : ℕ) {l : LayoutStat
     pub within : x < length rows.heads
     within = let a = next_within there j operation in let b = x_is in omega arith
 
+    pub known_position : x < length l.jobs
+    known_position =
+        let a = within in let rows = kept.kept.laid.positions.jobs in let heads = kept.kept.heads.positions
+        in omega arith
+
+    pub stands : IsPlace l x
+    stands = subst (IsPlace l) (sym next_at)
+        (is_place kept.kept.limits kept.kept.laid j ((placing shop w).steps j) operation)
+
     -- and the one behind it
-    module _ {q : ℕ} (read : q ≡ get_or l.following x 0) {after : List ℕ} (wrote : after ≡ set nexts j q) where
+    module _ {q : ℕ} (read : q ≡ place_behind l x) {after : List ℕ} (wrote : after ≡ set nexts j q) where
       nexts_more : AreNextsOf shop (placing shop (w ++ j ∷ [])) l after
       nexts_more =
           let next = place_next-is shop (placing shop w) j
@@ -44,9 +53,8 @@ module _ {greatest : ℕ} {shop : Shop} {w : List ℕ} (j : ℕ) {l : LayoutStat
           in let n = first_position l shop.machines
           in let placed : placing shop (w ++ j ∷ []) ≡ place_next shop (placing shop w) j = placing-snoc shop w j
           in let follows : q ≡ place_or n l.places j ((placing shop w).steps j + 1) =
-          read ∙ (ap (λ (y : ℕ). get_or l.following y 0) next_at
-          ∙ (followed kept.kept.limits kept.kept.laid refl).follows j ((placing shop w).steps j)
-          (omega arith))
+          read ∙ (ap (place_behind l) next_at
+          ∙ behind_place kept.kept.limits kept.kept.laid j ((placing shop w).steps j) operation)
           in let here : get_or (set nexts j q) j 0
           ≡ place_or n l.places j ((placing shop (w ++ j ∷ [])).steps j) =
           get_or-set_at nexts j j q 0 refl next_known

@@ -17,7 +17,7 @@ use Rattle.shop_states.proofs.{AdvanceSteps.{lifted_raisable, machine_here}, Lan
 use Rattle.shop_states.proofs.{ChildTurns.{its_ahead, next_heads, next_small, raised_is}, RaisedHeads.has_blocks}
 use Rattle.shop_states.proofs.StateSteps.{ends_more, firsts, kept_more, next_at, next_known, within}
 use Rattle.shop_layout.specs.{HeadLimits.latest_end, Lanes.{lanes_on, rows_of}}
-use Rattle.shop_layout.specs.Positions.{IsLaidOut, LayoutState, place}
+use Rattle.shop_layout.specs.Positions.{IsLaidOut, LayoutState, place, place_behind}
 
 -- instances with one layout have as many machines
 pub same_machines : {l : LayoutState} {shop other : Shop} → IsLaidOut shop l → IsLaidOut other l
@@ -90,7 +90,7 @@ module _ {greatest : ℕ} {shop : Shop} {w : List ℕ} {l : LayoutState} {hs es 
             small = next_small kept.kept j fits now_heads
 
             -- the operation that follows is the next one
-            module _ {after : List ℕ} (followed : after ≡ set nexts j (get_or l.following x 0)) where
+            module _ {after : List ℕ} (followed : after ≡ set nexts j (place_behind l x)) where
               pub trial_keep : CanKeepEnds greatest l after new
               trial_keep = ends_more j kept fits x_is refl followed now_heads ends_long others
 

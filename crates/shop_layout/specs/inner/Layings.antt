@@ -5,11 +5,10 @@
 --     HaveRoom lists n blocks        each of the first n lists has room in its blocks
 --     AreNoted n first count ..      the places of the first n of a machine's slots were written, and nothing else
 --     ArePlaces shop lists n ..      the places of the slots of the first n machines
---     place_after n rows slot        the place of the step behind the slot's, or n if there is none
 use Rattle.std.specs.Prelude.{◌≡◌, ℕ, ◌+◌, ◌*◌, ◌/◌, ◌%◌, ◌≤◌, ◌<◌, List, [], length, slice_index, slice_index_or}
 use Rattle.shop_lanes.specs.Rows.{place_at_rank}
 use Rattle.shop_model.specs.Shop.{Shop, route_of}
-use Rattle.shop_layout.specs.{Positions.{place_in, place_or, position_at_rank}, declared.slots.Slot.Slot}
+use Rattle.shop_layout.specs.{Positions.{place_in, position_at_rank}, declared.slots.Slot.Slot}
 
 -- what stands at padding
 abbrev pub no_slot : Slot
@@ -77,6 +76,3 @@ pub record ArePlaces (shop : Shop) (lists : List (List Slot)) (blocks : List ℕ
   pub each : (m i : ℕ) (d : Slot) → m < n → i < length (slice_index_or lists m [])
       → place_in rows (slice_index_or (slice_index_or lists m []) i d).job
       (slice_index_or (slice_index_or lists m []) i d).step ≡ position_at_rank blocks m i
-
-abbrev pub place_after : ℕ → List (List ℕ) → Slot → ℕ
-place_after n rows s = place_or n rows s.job (s.step + 1)

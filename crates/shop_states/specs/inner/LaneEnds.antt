@@ -17,7 +17,6 @@ IsEndOf greatest nexts rows j = slice_index rows.ends j ≡ end_at greatest next
 
 pub record CanKeepEnds (greatest : ℕ) (l : LayoutState) (nexts : List ℕ) (rows : Rows) : Type 0 where
   pub placed : AreNextPlaced l rows.heads nexts
-  pub positions : length l.following ≡ length rows.heads
   pub ends : length rows.ends ≡ length nexts
   pub fits : (j : ℕ) → j < length nexts → end_at greatest nexts rows j ≤ greatest
   pub computable : greatest < 2 ^ 64

@@ -13,7 +13,7 @@
 --     Raises greatest l nexts ..     heads are raised least, and the ends of next operations kept up
 use Rattle.std.specs.Prelude.{◌≡◌, ℕ, ◌+◌, ◌*◌, ◌≤◌, ◌<◌, ◌^◌, List, [], length, slice_index, slice_index_or}
 use Rattle.shop_lanes.specs.Rows.{Rows}
-use Rattle.shop_layout.specs.Positions.{place_or, LayoutState, place}
+use Rattle.shop_layout.specs.Positions.{LayoutState, place}
 use Rattle.shop_states.specs.inner.{LaneEnds.IsEndOf, RisingLists.{IsIn, Rises}}
 
 abbrev pub steps_of : LayoutState → ℕ → ℕ
@@ -34,11 +34,6 @@ pub record IsIndexed (l : LayoutState) (n : ℕ) : Type 0 where
   pub jobs : length l.jobs ≡ n
   pub steps : length l.steps ≡ n
   pub step : (j k : ℕ) → k < steps_of l j → IsStepAt l (place l j k) j k
-
--- of the n positions, that of the step behind each step
-pub record IsFollowed (l : LayoutState) (n : ℕ) : Type 0 where
-  pub following : length l.following ≡ n
-  pub follows : (j k : ℕ) → k < steps_of l j → slice_index l.following (place l j k) ≡ place_or n l.places j (k + 1)
 
 -- a step stands at position q
 pub record IsPlace (l : LayoutState) (q : ℕ) : Type 0 where
@@ -83,7 +78,6 @@ pub record IsRaisable (greatest : ℕ) (l : LayoutState) (nexts : List ℕ) (row
   pub firsts : AreFirst l nexts rows.heads
   pub ends : length nexts ≤ length rows.ends
   pub indexed : IsIndexed l (length rows.heads)
-  pub followed : IsFollowed l (length rows.heads)
   pub machines : length l.machines ≡ length rows.heads
   pub times : rows.times ≡ l.times
   pub timed : length l.times ≡ length rows.heads

@@ -22,7 +22,7 @@ module _ {l : LayoutState} {shop : Shop} (limits : IsWithinLimits shop) (laid : 
 
 -- the legs of all routes, made of rows that were lent, and where those behind each operation begin
 made : {l : LayoutState} {machines times jobs steps lent firsts behind : List ℕ} {rows : List (List ℕ)} {end : ℕ}
-    {legs : List Leg} → machines ≡ l.machines → times ≡ l.times → end ≡ length l.following → rows ≡ l.places
+    {legs : List Leg} → machines ≡ l.machines → times ≡ l.times → end ≡ length l.jobs → rows ≡ l.places
     → jobs ≡ l.jobs → steps ≡ l.steps → lent ≡ firsts → length legs < 2 ^ 64
     → legs ≡ flat_map (route_legs machines times end) rows → AreFirsts (route_legs machines times end) rows firsts
     → AreBehind jobs steps lent behind → (legs ≡ all_legs l) × IsBehind l behind
@@ -56,7 +56,7 @@ pub returns : goal.returns
 returns c =
     let rows = made (c.as_slice-machines.ensures.value ∙ ap (λ (x : LayoutState). x.machines) c.positions.view_is)
     (c.as_slice-times.ensures.value ∙ ap (λ (x : LayoutState). x.times) c.positions.view_is)
-    (c.positions.invariant ∙ ap (λ (x : LayoutState). length x.following) c.positions.view_is)
+    (c.positions.invariant ∙ ap (λ (x : LayoutState). length x.jobs) c.positions.view_is)
     (ap items_in c.as_slice-places.ensures.value ∙ ap (λ (x : LayoutState). x.places) c.positions.view_is)
     (c.as_slice-jobs.ensures.value ∙ ap (λ (x : LayoutState). x.jobs) c.positions.view_is)
     (c.as_slice-steps.ensures.value ∙ ap (λ (x : LayoutState). x.steps) c.positions.view_is)

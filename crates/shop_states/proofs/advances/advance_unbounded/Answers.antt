@@ -1,6 +1,7 @@
 use Rattle.std.proofs.{Common.{ℕ, List, ◌∙◌, ap, refl, arith, length}, lemmas.List.length-set}
 use Rattle.shop_layout.proofs.Written.{written_vec}
-use Rattle.shop_states.proofs.{KeptRoom.long_kept, Trials.{can_delay, its_job, its_position, trial_keep, trial_kept}}
+use Rattle.shop_states.proofs.{KeptRoom.long_kept, StateSteps.{known_position, stands}}
+use Rattle.shop_states.proofs.Trials.{can_delay, its_job, its_position, trial_keep, trial_kept}
 use Rattle.shop_states.proofs.advances.advance_unbounded.Goals as goal
 
 pub set_head-requires-clause-in_range : goal.set_head-requires-clause-in_range
@@ -17,9 +18,11 @@ set_next-requires-clause-job g c = rw c.as_mut_slice-next.ensures.value
 
 pub set_next-requires-clause-position : goal.set_next-requires-clause-position
 set_next-requires-clause-position g c =
-    let here = its_position c.requires.can.kept c.args.dispatch.job c.requires.can.fits c.requires.is.position_is
-    in let following = c.requires.can.kept.kept.laid.positions.following
-    in let long = c.requires.can.kept.kept.heads.positions in omega arith
+    known_position c.args.dispatch.job c.requires.can.kept c.requires.can.fits c.requires.is.position_is
+
+pub set_next-requires-clause-stands : goal.set_next-requires-clause-stands
+set_next-requires-clause-stands g c =
+    stands c.args.dispatch.job c.requires.can.kept c.requires.can.fits c.requires.is.position_is
 
 pub set_next-requires-clause-keep : goal.set_next-requires-clause-keep
 set_next-requires-clause-keep g c =

@@ -1,6 +1,6 @@
 use Rattle.std.proofs.{Common.{ℕ, List, ◌∙◌, ap, arith, length}, lemmas.List.length-set}
 use Rattle.shop_layout.proofs.Written.{written_vec}
-use Rattle.shop_states.proofs.{KeptRoom.long_kept, Trials.{its_job, its_position}}
+use Rattle.shop_states.proofs.{KeptRoom.long_kept, StateSteps.{known_position, stands}, Trials.its_job}
 use Rattle.shop_states.proofs.advances.dispatch_in_copy.Goals as goal
 
 pub returns-in_err-bound-clause-told : goal.returns-in_err-bound-clause-told
@@ -42,10 +42,13 @@ returns-clause-state g c = λ shop w kept fits.
 
 pub set_next-requires-clause-position : goal.set_next-requires-clause-position
 set_next-requires-clause-position g c =
-    let kept = c.requires.can.is.kept
-    in let here = its_position kept c.args.job c.requires.can.is.fits
+    known_position c.args.job c.requires.can.is.kept c.requires.can.is.fits
     (rw c.of-dispatch.ensures.job at c.of-dispatch.ensures.is.position_is)
-    in let following = kept.kept.laid.positions.following in let long = kept.kept.heads.positions in omega arith
+
+pub set_next-requires-clause-stands : goal.set_next-requires-clause-stands
+set_next-requires-clause-stands g c =
+    stands c.args.job c.requires.can.is.kept c.requires.can.is.fits
+    (rw c.of-dispatch.ensures.job at c.of-dispatch.ensures.is.position_is)
 
 pub returns-clause-room : goal.returns-clause-room
 returns-clause-room g c = grind (arith, long_kept, length-set)

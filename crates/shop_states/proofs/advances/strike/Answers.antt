@@ -1,7 +1,7 @@
 use Rattle.std.proofs.{Common.{ℕ, List, ◌∙◌, ap, get_or, length, refl, arith}, lemmas.List.length-set}
 use Rattle.shop_layout.proofs.Written.{written_vec}
 use Rattle.shop_states.proofs.RaiseSteps.{put_is}
-use Rattle.shop_states.proofs.Strikes.{its_job, its_position, lists_long, struck_keep, struck_kept, struck_times}
+use Rattle.shop_states.proofs.Strikes.{its_job, its_position, its_row, its_stands, struck_keep, struck_kept}
 use Rattle.shop_states.proofs.advances.strike.Goals as goal
 
 pub offset_bounds-next-job : goal.offset_bounds-next-job
@@ -16,16 +16,13 @@ set_head-requires g c = rw c.as_mut_slice-next.ensures.value
 
 pub set_next-requires : goal.set_next-requires
 set_next-requires g c =
-    let long = lists_long c.requires.kept c.requires.sole
-    in let times = long.0 in let following = long.1
-    in let here = its_position c.requires.kept c.requires.sole
-    in let heads = rw c.as_mut_slice-next.ensures.value at c.set_head.ensures.heads
+    let heads = rw c.as_mut_slice-next.ensures.value at c.set_head.ensures.heads
     in let wrote = put_is c.args.grid.now (g.L.StateLanes.heads c.args.state.now.lanes)
     (get_or c.args.state.now.next.items c.args.job 0) 0 heads c.set_head.ensures.ends
     in rw c.as_mut_slice-next.ensures.value (record {
       job = its_job c.requires.kept c.requires.sole;
-      position = omega arith;
-      times = struck_times c.requires.kept c.requires.sole wrote;
+      position = its_row c.requires.kept c.requires.sole;
+      stands = its_stands c.requires.kept c.requires.sole;
       keep = struck_keep c.requires.kept c.requires.sole wrote refl;
     })
 

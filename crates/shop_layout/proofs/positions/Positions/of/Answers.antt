@@ -2,7 +2,7 @@ use Rattle.std.proofs.Common.{◌≡◌, ◌∙◌, ℕ, ◌+◌, ◌-◌, ◌�
 use Rattle.std.{proofs.lemmas.List.length-map, specs.{List.All, Prelude.Vec, declared.alloc.Global.Global}}
 use Rattle.shop_model.specs.{Limits.IsWithinLimits, Shop.Shop}
 use Rattle.shop_layout.specs.{declared.slots.Slot.Slot, Ranks.{AreRanks, ranked}, Slots.AreMachineSlots}
-use Rattle.shop_layout.specs.inner.Layings.{AreCells, ArePlaces, AreShorter, HaveRoom, place_after}
+use Rattle.shop_layout.specs.inner.Layings.{AreCells, ArePlaces, AreShorter, HaveRoom}
 use Rattle.shop_layout.{specs.Positions.AreMachinesOf, proofs.RankedShops.{jobs_ranked, limits_ranked}}
 use Rattle.shop_layout.proofs.{LaidLists.{blocks_few, cells_known, laid_out, machine_few}, RankedSlots.places_ranked}
 use Rattle.shop_layout.proofs.positions.Positions.of.Goals as goal
@@ -49,9 +49,6 @@ module _ {shop : Shop} (limits : IsWithinLimits shop) {ranks : List ℕ} (by : A
         (subst (λ (vs : List (Vec Slot Global)). HaveRoom (map (λ v. v.items) vs) shop.machines blocks)
         (lent ∙ sym more) (λ m here. (laid.each m here).room))
 
-    job_known : {read : List Slot} → read ≡ cells → (rows : ℕ) → rows ≡ length shop.jobs → All (λ s. s.job < rows) read
-    job_known e rows many = λ k d here. let b = known e k d here in omega arith
-
 pub cells_of-requires-clause-short : goal.cells_of-requires-clause-short
 cells_of-requires-clause-short c = grind (arith, short)
 
@@ -79,31 +76,10 @@ machines_of-requires c =
     in let many = c.keeps_limits.ensures.machines
     in grind (arith, few)
 
-pub following_of-requires : goal.following_of-requires
-following_of-requires c =
-    let cells = laid c.keeps_limits.ensures c.requires c.as_slice.ensures.value c.in_ok-lists.ensures
-    c.in_ok-slots.ensures
-    in let rows = c.in_ok-places.ensures.shape.jobs
-    in record {
-      jobs = job_known c.keeps_limits.ensures c.requires c.as_slice.ensures.value c.in_ok-lists.ensures
-          c.in_ok-slots.ensures c.as_slice-slots.ensures.value (length c.as_slice-5.result.now)
-          (ap length c.as_slice-5.ensures.value
-          ∙ (sym (length-map c.in_ok-places.places.items (λ v. v.items)) ∙ rows));
-      steps = step_small c.keeps_limits.ensures c.requires c.as_slice.ensures.value c.in_ok-lists.ensures
-          c.in_ok-slots.ensures c.as_slice-slots.ensures.value;
-      few = slots_small c.keeps_limits.ensures c.requires c.as_slice.ensures.value c.in_ok-lists.ensures
-          c.in_ok-slots.ensures c.as_slice-slots.ensures.value;
-    }
-
 -- the lists that were lent, as they are
 machines_are : (lent blocks : List ℕ) → lent ≡ blocks → (n : ℕ) → length blocks ≡ n + 1 → (ms : List ℕ)
     → AreMachinesOf lent (length lent - 1) ms → AreMachinesOf blocks n ms
 machines_are lent blocks e n long ms are = grind arith
-
-following_is : (lent slots : List Slot) → lent ≡ slots → (rows places : List (Vec ℕ Global)) → rows ≡ places
-    → (following : List ℕ) → following ≡ map (place_after (length lent) (map (λ v. v.items) rows)) lent
-    → following ≡ map (place_after (length slots) (map (λ v. v.items) places)) slots
-following_is lent slots e rows places f following is = grind arith
 
 pub returns : goal.returns
 returns c =
@@ -131,7 +107,6 @@ returns c =
       places = places;
       blocks = blocks;
       machines = c.in_ok-machines_of.field-0.items;
-      following = c.in_ok-following_of.field-0.items;
     })
     (c.in_ok-jobs_of.ensures ∙ ap (map (λ s. s.job)) c.as_slice-slots.ensures.value)
     (c.in_ok-steps_of.ensures ∙ ap (map (λ s. s.step)) c.as_slice-slots.ensures.value)
@@ -140,9 +115,6 @@ returns c =
     refl refl
     (machines_are c.as_slice-4.result.now blocks c.as_slice-4.ensures.value shop.machines
     cells.machines c.in_ok-machines_of.field-0.items c.in_ok-machines_of.ensures)
-    (following_is c.as_slice-slots.result.now slots c.as_slice-slots.ensures.value c.as_slice-5.result.now
-    c.in_ok-places.places.items c.as_slice-5.ensures.value c.in_ok-following_of.field-0.items
-    c.in_ok-following_of.ensures)
 
 pub overflow_cast-result : goal.overflow_cast-result
 overflow_cast-result c =
@@ -152,7 +124,7 @@ overflow_cast-result c =
 
 pub invariant_of-result : goal.invariant_of-result
 invariant_of-result c =
-    sym (ap length c.in_ok-following_of.ensures ∙ length-map c.as_slice-slots.result.now _)
+    sym (ap length c.in_ok-jobs_of.ensures ∙ length-map c.as_slice-slots.result.now _)
 
 pub places_of-requires-clause-room : goal.places_of-requires-clause-room
 places_of-requires-clause-room c =

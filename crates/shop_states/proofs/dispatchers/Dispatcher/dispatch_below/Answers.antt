@@ -1,9 +1,9 @@
 use Rattle.std.proofs.{Common.{ℕ, List, ◌∙◌, ap, arith, length, refl}, lemmas.List.length-set}
-use Rattle.shop_layout.{specs.Positions.LayoutState, proofs.Written.written_vec}
+use Rattle.shop_layout.proofs.Written.{written_vec}
 use Rattle.shop_states.proofs.{CandidateDispatches.{candidate_can, candidate_told}, ReadStates.kept_read}
-use Rattle.shop_states.proofs.{AskedStates.{bound_there, kept_on, told_behind}, Trials.{its_job, its_position}}
+use Rattle.shop_states.proofs.AskedStates.{bound_there, kept_of, kept_on, told_behind}
 use Rattle.shop_states.proofs.KeptRoom.{buffers_kept, room_behind, room_kept}
-use Rattle.shop_states.proofs.AskedStates.{kept_of}
+use Rattle.shop_states.proofs.{StateSteps.{known_position, stands}, Trials.its_job}
 use Rattle.shop_states.specs.inner.WordStates.{of_word}
 use Rattle.shop_states.proofs.dispatchers.Dispatcher.dispatch_below.Goals as goal
 
@@ -47,24 +47,21 @@ set_next-requires-clause-job g c =
 
 pub set_next-requires-clause-position : goal.set_next-requires-clause-position
 set_next-requires-clause-position g c =
-    let can = rw (← c.self.view_is) at c.requires.can in let kept = (kept_of can.is.0).kept
-    in let here = its_position kept c.args.candidate.job can.is.1.fits
-    (rw c.of-dispatch.ensures.job at c.of-dispatch.ensures.is.position_is)
-    in let following = kept.kept.laid.positions.following in let long = kept.kept.heads.positions
-    in let same = ap (λ (l : LayoutState). length l.following) c.grid-grid.ensures.grid in omega arith
+    let can = rw (← c.self.view_is) at c.requires.can
+    in rw c.grid-grid.ensures.grid (known_position c.args.candidate.job (kept_of can.is.0).kept can.is.1.fits
+    (rw c.of-dispatch.ensures.job at c.of-dispatch.ensures.is.position_is))
+
+pub set_next-requires-clause-stands : goal.set_next-requires-clause-stands
+set_next-requires-clause-stands g c =
+    let can = rw (← c.self.view_is) at c.requires.can
+    in rw c.grid-grid.ensures.grid (stands c.args.candidate.job (kept_of can.is.0).kept can.is.1.fits
+    (rw c.of-dispatch.ensures.job at c.of-dispatch.ensures.is.position_is))
 
 pub set_next-requires-clause-keep : goal.set_next-requires-clause-keep
 set_next-requires-clause-keep g c = rw c.as_mut_slice.ensures.value (rw (
   c.of-dispatch.ensures.job,
   c.as_slice-next.ensures.value,
 ) at c.in_ok-told.ensures.ready.keep)
-
-pub set_next-requires-clause-times : goal.set_next-requires-clause-times
-set_next-requires-clause-times g c =
-    let can = rw (← c.self.view_is) at c.requires.can in let kept = (kept_of can.is.0).kept
-    in let long = kept.kept.heads.positions in let timed = kept.kept.laid.positions.times
-    in let same = ap (λ (l : LayoutState). length l.times) c.grid-grid.ensures.grid
-    in let kept_long = c.advance_below.ensures.positions in omega arith
 
 pub returns-clause-dispatched : goal.returns-clause-dispatched
 returns-clause-dispatched g c = rw (← c.self.view_is) (record {
