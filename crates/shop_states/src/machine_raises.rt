@@ -10,7 +10,7 @@ use crate::lane_bounds::{BoundRange, kept_ceiling, machine_bound, take_any_spans
 use crate::lane_raises::{LaneRaise, no_raise, take_raise};
 use crate::late_raises::{LateMachine, raise_late};
 use crate::machine_sets::MachineSet;
-use crate::raises::{OpenRoutes, raise_any, raise_marked};
+use crate::raises::{raise_any, raise_marked};
 use shop_lanes::StateLanes;
 use shop_layout::{Grid, Routes};
 use std::alloc::{AllocError as NoMemory, Global};
@@ -80,10 +80,9 @@ impl<L: StateLanes> MachineRaises<L> {
             return raised;
         }
         let routes = grid.routes();
-        let ahead = OpenRoutes { routes, next };
         // lanes with code for one number of blocks have at most 64 machines
-        let end = dispatch.end;
-        raise_marked::<L, 1>(lanes, raises, &mut raised, &ahead, dispatch.delayed, end);
+        let (delayed, end) = (dispatch.delayed, dispatch.end);
+        raise_marked::<L, 1>(lanes, raises, &mut raised, &routes, next, delayed, end);
         raised
     }
 

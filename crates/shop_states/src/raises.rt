@@ -12,13 +12,6 @@ use shop_lanes::{Marks, StateLanes};
 use shop_layout::{Grid, Routes};
 use std::mem;
 
-/// The routes of an instance, and the position of each job's next operation after a word.
-#[derive(Drop)]
-pub(crate) struct OpenRoutes<'a> {
-    pub routes: Routes<'a>,
-    pub next: &'a [u32],
-}
-
 /// Raises the head at `position` to `end`, then every later head on its route that is now too early. Notes how far each
 /// later head rose, see `see`. Doesn't note the first head: a candidate's `own` covers the heads up to `end` on the
 /// machine of its dispatch, and `raise_behind` notes the first head itself. Takes a step for each head that rises. The
@@ -94,23 +87,24 @@ pub(crate) fn raise_marked<L: StateLanes, const NUMBERS: usize>(
     lanes: &mut L,
     raises: &mut [LaneRaise<L::Number>],
     raised: &mut MachineSet,
-    ahead: &OpenRoutes,
+    routes: &Routes,
+    next: &[u32],
     marks: Marks,
     end: u64,
 )
     requires marks { AreWaiting (L.heads lanes.old) marks }
-    requires can { CanRaise L.GREATEST ahead.now.routes ahead.now.next.now (IsIn marks) end
-        (rows_in L.StateLanes ahead.now.routes lanes.old) }
-    requires note { 0 < NUMBERS → CanNote L.value NUMBERS ahead.now.routes.machines raises.old raised.old }
-    ensures raises { RaisesIn L.StateLanes ahead.now.routes ahead.now.next.now (IsIn marks) end lanes.old lanes.new }
-    ensures noted { 0 < NUMBERS → HasRaisedIn L.StateLanes ahead.now.routes ahead.now.next.now (IsIn marks) end
+    requires can { CanRaise L.GREATEST routes.now next.now (IsIn marks) end
+        (rows_in L.StateLanes routes.now lanes.old) }
+    requires note { 0 < NUMBERS → CanNote L.value NUMBERS routes.now.machines raises.old raised.old }
+    ensures raises { RaisesIn L.StateLanes routes.now next.now (IsIn marks) end lanes.old lanes.new }
+    ensures noted { 0 < NUMBERS → HasRaisedIn L.StateLanes routes.now next.now (IsIn marks) end
         lanes.old lanes.new (raises_in L.value raises.old) (raises_in L.value raises.new) raised.new }
 {
     let mut todo = marks;
     while let Some(position) = todo.pop_first() {
         if lanes.head(position) < end {
-            set_end_at(lanes, &ahead.routes, ahead.next, position, end);
-            raise_route::<L, NUMBERS>(lanes, raises, raised, &ahead.routes, position, end);
+            set_end_at(lanes, routes, next, position, end);
+            raise_route::<L, NUMBERS>(lanes, raises, raised, routes, position, end);
         }
     }
 }
@@ -136,7 +130,6 @@ pub(crate) fn raise_any<L: StateLanes, const NUMBERS: usize>(
         (raises_in L.value raises.new) raised.new }
 {
     let routes = grid.routes();
-    let ahead = OpenRoutes { routes, next };
     let behind = grid.block(dispatch.machine + 1);
     let end = dispatch.end;
     let mut from = grid.block(dispatch.machine);
@@ -144,7 +137,7 @@ pub(crate) fn raise_any<L: StateLanes, const NUMBERS: usize>(
     // taken out, so that the set stays in registers
     let mut machines = mem::replace(raised, MachineSet::none());
     loop {
-        raise_marked::<L, NUMBERS>(lanes, raises, &mut machines, &ahead, marks, end);
+        raise_marked::<L, NUMBERS>(lanes, raises, &mut machines, &routes, next, marks, end);
         from = marks_end(from, behind);
         if from == behind {
             break;
