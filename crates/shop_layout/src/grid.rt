@@ -119,7 +119,7 @@ impl<'l, L: StateLanes> Grid<'l, L> {
         ensures { result ≡ length self.now.jobs }
     {
         let positions = self.positions;
-        positions.end as usize
+        positions.jobs.len()
     }
 
     /// The number of positions of the machine that has the most of them.
