@@ -1,6 +1,6 @@
 -- The position of a step of a route, or the number of all positions.
 use Rattle.std.proofs.Common.{◌≡◌, ℕ, ◌≤◌, ◌<◌, inl, inr, length, get_or, refl, sym, ◌∙◌, ap, arith}
-use Rattle.std.proofs.lemmas.Bool.{cases_lt, lt-ltb, le-ltb}
+use Rattle.std.proofs.lemmas.{Bool.{cases_lt, lt-ltb, le-ltb}, List.get_or_past}
 use Rattle.shop_layout.specs.{declared.legs.Leg.Leg, Legs.{all_legs, end_of, leg_index, leg_of}}
 use Rattle.shop_layout.{specs.Positions.{place_or, LayoutState, place}, proofs.RouteLegs.{leg_behind, leg_here}}
 use Rattle.shop_states.specs.inner.Raises.{steps_of}
@@ -27,9 +27,11 @@ module _ (l : LayoutState) {j k : ℕ} (job : j < length l.places) (within : k �
     | inr past ↦ ap (λ (x : Leg). x.position) (end_leg past) ∙ sym (place_past l (length l.jobs) j k past)
   ]
 
-  pub leg_time : leg.position < length l.jobs → leg.time ≡ get_or l.times leg.position 0
-  leg_time below = elim (cases_lt k (steps_of l j)) [
+  -- no time is read behind the last position
+  pub leg_time : length l.times ≤ length l.jobs → leg.time ≡ get_or l.times leg.position 0
+  leg_time timed = elim (cases_lt k (steps_of l j)) [
     | inl here ↦ (let e = step_leg here
         in ap (λ (x : Leg). x.time) e ∙ ap (λ (q : ℕ). get_or l.times q 0) (sym (ap (λ (x : Leg). x.position) e)))
-    | inr past ↦ absurd (let e = ap (λ (x : Leg). x.position) (end_leg past) in omega arith)
+    | inr past ↦ (let e = end_leg past in let last = ap (λ (x : Leg). x.position) e
+        in ap (λ (x : Leg). x.time) e ∙ sym (get_or_past l.times leg.position 0 (omega arith)))
   ]

@@ -4,10 +4,11 @@ use Rattle.std.proofs.lemmas.{Bool.{cases_lt, lt-ltb, le-ltb}, Grind.get_or-set_
 use Rattle.shop_lanes.specs.Rows.{Rows, with_end}
 use Rattle.shop_model.{specs.{Shop.{Shop, IsOperation, route_of}, Word.{Placing, placing}}, proofs.Ends.IsOperation-job}
 use Rattle.shop_bound.specs.Conflicts.{next_end}
-use Rattle.shop_layout.{specs.{HeadLimits.FitsLanes, Positions.LayoutState}, proofs.LatestEnds.latest_end_is}
+use Rattle.shop_layout.specs.{HeadLimits.FitsLanes, Positions.{LayoutState, first_position}}
+use Rattle.shop_layout.proofs.LatestEnds.{latest_end_is}
 use Rattle.shop_states.specs.inner.{LaneChoices.{AreEndsAt, AreNextsAt, AreNextsOf}, LaneStates.AreHeadsInLanes}
 use Rattle.shop_states.specs.inner.{LaneEnds.{end_at, CanKeepEnds, IsEndOf}, Raises.AreFirst}
-use Rattle.shop_states.proofs.{RaisedHeads.indexed, RaiseWalks.{apart, place_within}}
+use Rattle.shop_states.proofs.{Followed.place_past, RaisedHeads.indexed, RaiseWalks.{apart, place_within}}
 use Rattle.shop_states.proofs.NextOperations.{head_first, next_is, next_placed, next_there, next_within, stored_end}
 
 -- the ends of all jobs are as they are to be
@@ -68,6 +69,13 @@ module _ {greatest : ℕ} {shop : Shop} {w : List ℕ} {l : LayoutState} {rows :
     pub can_keep : CanKeepEnds greatest l nexts rows
     can_keep = record {
       placed = next_placed nexts_at;
+      within = λ j known. elim (cases_lt (p.steps j) (length (route_of shop j))) [
+        | inl op ↦ (let a = next_within nexts_at j op in omega arith)
+        | inr past ↦ (let many = are.jobs in let route = kept.laid.routes j
+            in let none = place_past l (first_position l shop.machines) j (p.steps j) (omega arith)
+            in let is = are.are j (omega arith) in let positions = kept.heads.positions in omega arith)
+      ];
+      timed = kept.laid.positions.times ∙ sym kept.heads.positions;
       ends = as_many ∙ sym are.jobs;
       fits = λ j known. elim (cases_lt (get_or nexts j 0) (length rows.heads)) [
         | inl lt ↦ (let many = are.jobs

@@ -1,15 +1,16 @@
 -- The leg behind an operation: where the next operation of its job stands, and when that one can end.
-use Rattle.std.proofs.Common.{◌≡◌, ℕ, ◌+◌, ◌≤◌, ◌<◌, List, length, get_or, set, refl, ◌∙◌, ap, arith}
-use Rattle.std.proofs.lemmas.{Bool.{lt-ltb, le-ltb}, Grind.get_or-set_at, List.length-set}
+use Rattle.std.proofs.Common.{◌≡◌, ℕ, ◌+◌, ◌≤◌, ◌<◌, inl, inr, List, length, get_or, set, refl, ◌∙◌, ap, arith}
+use Rattle.std.proofs.lemmas.{Bool.{cases_lt, lt-ltb, le-ltb}, Grind.get_or-set_at}
+use Rattle.std.proofs.lemmas.List.{get_or_default, get_or_past, length-set}
 use Rattle.shop_layout.specs.{declared.legs.Leg.Leg, Legs.{all_legs, end_of, leg_index}, Lanes.rows_of}
 use Rattle.shop_layout.{specs.Positions.{LayoutState, place_behind}, proofs.RouteLegs.index_known}
 use Rattle.shop_states.specs.inner.{LaneEnds.{CanKeepEnds, end_at}, Raises.{IsPlace, steps_of}}
 use Rattle.shop_states.proofs.Followed.{leg_position, leg_time}
 
--- at a leg, the end of its operation from its head on; at the end of a route the greatest number
-pub record IsNextEnd (greatest : ℕ) (l : LayoutState) (hs : List ℕ) (leg : Leg) (end : ℕ) : Type 0 where
-  pub there : leg.position < length l.jobs → get_or hs leg.position 0 + leg.time ≡ end
-  pub past : length l.jobs ≤ leg.position → greatest ≡ end
+-- the head at a leg, or the greatest number at the end of a route, and the leg's time are an end together
+pub record IsNextEnd (greatest : ℕ) (hs : List ℕ) (leg : Leg) (end : ℕ) : Type 0 where
+  pub within : leg.position ≤ length hs
+  pub sum : get_or hs leg.position greatest + leg.time ≡ end
   pub fits : end ≤ greatest
 
 -- it is read from rows that are those of the layout
@@ -42,10 +43,20 @@ module _ {l read : LayoutState} (same : read ≡ l) {q : ℕ} (stands : IsPlace 
       here : get_or (set nexts job leg.position) job 0 ≡ leg.position
       here = get_or-set_at nexts job job leg.position 0 refl known
 
-      pub next_end : IsNextEnd greatest l hs leg (end_at greatest (set nexts job leg.position) (rows_of l hs es) job)
+      time : leg.time ≡ get_or l.times leg.position 0
+      time = leg_time l stands.job within found
+          (let positions = keep.placed.positions in let timed = keep.timed in omega arith)
+
+      pub next_end : IsNextEnd greatest hs leg (end_at greatest (set nexts job leg.position) (rows_of l hs es) job)
       next_end = record {
-        there = λ below. rw (here, lt-ltb leg.position (length hs) (let a = keep.placed.positions in omega arith))
-            (ap (λ (t : ℕ). get_or hs leg.position 0 + t) (leg_time l stands.job within found below));
-        past = λ none. rw (here, le-ltb leg.position (length hs) (let a = keep.placed.positions in omega arith)) refl;
+        within = (let up_to = can.within job (omega (arith, known, length-set nexts job leg.position))
+            in let is = here in omega arith);
+        sum = elim (cases_lt leg.position (length hs)) [
+          | inl below ↦ rw (here, lt-ltb leg.position (length hs) below)
+              (let head = get_or_default hs leg.position greatest 0 below in let is = time in omega arith)
+          | inr past ↦ rw (here, le-ltb leg.position (length hs) past)
+              (let head = get_or_past hs leg.position greatest past in let is = time in let timed = keep.timed
+              in let none = get_or_past l.times leg.position 0 (omega arith) in omega arith)
+        ];
         fits = can.fits job (omega (arith, known, length-set nexts job leg.position));
       }

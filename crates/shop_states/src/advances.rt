@@ -38,12 +38,9 @@ pub(crate) fn set_next<L: StateLanes>(
     let routes = grid.routes();
     let leg = routes.leg(routes.behind(position));
     next[job] = leg.position;
-    let ahead = leg.position as usize;
-    let mut end = L::GREATEST;
-    if ahead < grid.positions() {
-        end = lanes.head(ahead) + leg.time;
-    }
-    lanes.set_end(job, end);
+    // at the end of a route the head is the greatest number, and the time is 0
+    let head = lanes.head_or_greatest(leg.position as usize);
+    lanes.set_end(job, head + leg.time);
 }
 
 /// Strikes the operation of `dispatch` out of the lanes of a word's state, or out of a copy of them, and raises the

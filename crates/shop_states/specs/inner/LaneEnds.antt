@@ -17,6 +17,8 @@ IsEndOf greatest nexts rows j = slice_index rows.ends j ≡ end_at greatest next
 
 pub record CanKeepEnds (greatest : ℕ) (l : LayoutState) (nexts : List ℕ) (rows : Rows) : Type 0 where
   pub placed : AreNextPlaced l rows.heads nexts
+  pub within : (j : ℕ) → j < length nexts → slice_index nexts j ≤ length rows.heads
+  pub timed : length l.times ≡ length rows.heads
   pub ends : length rows.ends ≡ length nexts
   pub fits : (j : ℕ) → j < length nexts → end_at greatest nexts rows j ≤ greatest
   pub computable : greatest < 2 ^ 64
