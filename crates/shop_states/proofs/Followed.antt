@@ -1,4 +1,4 @@
--- The position of a step of a route, or the number of all positions.
+-- The position of a step of a route, or the number of all positions; the position and the time of its leg.
 use Rattle.std.proofs.Common.{◌≡◌, ℕ, ◌≤◌, ◌<◌, inl, inr, length, get_or, refl, sym, ◌∙◌, ap, arith}
 use Rattle.std.proofs.lemmas.{Bool.{cases_lt, lt-ltb, le-ltb}, List.get_or_past}
 use Rattle.shop_layout.specs.{declared.legs.Leg.Leg, Legs.{all_legs, end_of, leg_index, leg_of}}
@@ -27,7 +27,7 @@ module _ (l : LayoutState) {j k : ℕ} (job : j < length l.places) (within : k �
     | inr past ↦ ap (λ (x : Leg). x.position) (end_leg past) ∙ sym (place_past l (length l.jobs) j k past)
   ]
 
-  -- no time is read behind the last position
+  -- the time at its position, or 0 behind the last position
   pub leg_time : length l.times ≤ length l.jobs → leg.time ≡ get_or l.times leg.position 0
   leg_time timed = elim (cases_lt k (steps_of l j)) [
     | inl here ↦ (let e = step_leg here

@@ -7,13 +7,13 @@ use Rattle.shop_layout.{specs.Positions.{LayoutState, place_behind}, proofs.Rout
 use Rattle.shop_states.specs.inner.{LaneEnds.{CanKeepEnds, end_at}, Raises.{IsPlace, steps_of}}
 use Rattle.shop_states.proofs.Followed.{leg_position, leg_time}
 
--- the head at a leg, or the greatest number at the end of a route, and the leg's time are an end together
+-- the head where a leg stands, or the greatest number at the end of a route, plus the leg's time is an end
 pub record IsNextEnd (greatest : ℕ) (hs : List ℕ) (leg : Leg) (end : ℕ) : Type 0 where
   pub within : leg.position ≤ length hs
   pub sum : get_or hs leg.position greatest + leg.time ≡ end
   pub fits : end ≤ greatest
 
--- it is read from rows that are those of the layout
+-- the leg is read from rows that are those of the layout
 module _ {l read : LayoutState} (same : read ≡ l) {q : ℕ} (stands : IsPlace l q) {index : ℕ}
     (at : index ≡ leg_index read (get_or read.jobs q 0) (get_or read.steps q 0 + 1)) where
   index_is : index ≡ leg_index l (get_or l.jobs q 0) (get_or l.steps q 0 + 1)

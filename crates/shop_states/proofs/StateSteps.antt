@@ -43,7 +43,7 @@ module _ {greatest : ℕ} {shop : Shop} {w : List ℕ} (j : ℕ) {l : LayoutStat
     stands = subst (IsPlace l) (sym next_at)
         (is_place kept.kept.limits kept.kept.laid j ((placing shop w).steps j) operation)
 
-    -- and the one behind it
+    -- and the position behind x
     module _ {q : ℕ} (read : q ≡ place_behind l x) {after : List ℕ} (wrote : after ≡ set nexts j q) where
       nexts_more : AreNextsOf shop (placing shop (w ++ j ∷ [])) l after
       nexts_more =

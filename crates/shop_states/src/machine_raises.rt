@@ -80,8 +80,8 @@ impl<L: StateLanes> MachineRaises<L> {
             return raised;
         }
         let routes = grid.routes();
-        // lanes with code for one number of blocks have at most 64 machines
         let (delayed, end) = (dispatch.delayed, dispatch.end);
+        // lanes with code for one number of blocks have at most 64 machines
         raise_marked::<L, 1>(lanes, raises, &mut raised, &routes, next, delayed, end);
         raised
     }
