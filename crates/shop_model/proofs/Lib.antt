@@ -15,6 +15,6 @@ pub mod StartRows
 pub mod PlacedTables
 pub mod Merging
 pub mod SwappedPairs
-pub mod SpanLemmas
-pub mod ClearSpanLemmas
+pub mod IntervalLemmas
+pub mod ClearIntervalLemmas
 pub mod SoonestStarts

@@ -1,5 +1,5 @@
 pub mod Steps
-pub mod Spans
-pub mod ClearSpans
+pub mod Intervals
+pub mod ClearIntervals
 pub mod FirstFaults
 pub mod Entries

@@ -16,7 +16,8 @@ enum Given {
     Jobs(Vec<Job>),
 }
 
-/// Rows that `Instance::new` refused, handed back as they were given.
+/// Rows that `Instance::new` refused for their sizes, or for a machine or time out of range, handed back as they were
+/// given.
 #[derive(Drop)]
 pub struct SizeFault {
     pub rows: Vec<Vec<Op>>,

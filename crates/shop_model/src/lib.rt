@@ -3,6 +3,7 @@
 
 mod checking;
 mod instances;
+mod intervals;
 mod laws;
 mod limits;
 mod ops;
@@ -11,7 +12,6 @@ mod placements;
 mod placing;
 mod shared_words;
 mod sorted_overlaps;
-mod spans;
 mod steps;
 mod tables;
 mod word_jobs;

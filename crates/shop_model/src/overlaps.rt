@@ -2,11 +2,11 @@
 ghost use Rattle.std.specs.Prelude.{◌<◌, ◌↔◌, IsTrue, length};
 ghost use Rattle.shop_model.specs.{Shop.IsOperation, Checking.{HasShape, starts_of, NoneEarly}};
 ghost use Rattle.shop_model.specs.inner.FirstFaults.{IsJobApart, TellsFirstAfter, TellsFirstOverlapOf};
-ghost use Rattle.shop_model.specs.{inner.FirstFaults.TellsFirstOverlap, inner.ClearSpans.AreOfApart};
+ghost use Rattle.shop_model.specs.{inner.FirstFaults.TellsFirstOverlap, inner.ClearIntervals.AreOfApart};
 
 use crate::instances::Instance;
+use crate::intervals::Interval;
 use crate::ops::OperationId;
-use crate::spans::Occupied;
 use crate::steps::{are_clear, clash_from};
 use crate::tables::Table;
 
@@ -36,28 +36,28 @@ fn first_overlap_with(instance: &Instance, table: &Table, j: usize, k: usize) ->
     None
 }
 
-/// Finds the first operation after step `k` of job `j` that overlaps with it; `None` if there is none. A binary search
-/// in `clear`, sorted spans that overlap with no other, returns `None` if it finds the operation's span.
+/// Finds the first operation after step `k` of job `j` that overlaps with it; `None` if there is none. Returns `None`
+/// if a binary search in `clear_intervals`, sorted ones that overlap with no other, finds the operation's interval.
 fn first_overlap_unless_clear(
     instance: &Instance,
     table: &Table,
-    clear: &[Occupied],
+    clear_intervals: &[Interval],
     j: usize,
     k: usize,
 ) -> Option<OperationId>
     requires shape { HasShape instance.now table.now }
-    requires apart { AreOfApart instance.now table.now clear.now }
+    requires apart { AreOfApart instance.now table.now clear_intervals.now }
     requires operation { IsOperation instance.now j k }
     ensures { TellsFirstAfter instance.now (starts_of table.now) j k result }
 {
     let operation = instance.route(j)[k];
     let start = table.row(j)[k];
-    let span = Occupied {
+    let interval = Interval {
         machine: operation.machine,
         start,
         finish: start + operation.time,
     };
-    if clear.binary_search(&span).is_ok() {
+    if clear_intervals.binary_search(&interval).is_ok() {
         return None;
     }
     first_overlap_with(instance, table, j, k)
@@ -82,20 +82,20 @@ fn is_job_apart(instance: &Instance, table: &Table, j: usize) -> bool
 }
 
 /// Finds the first step of job `j` that overlaps with a later operation, and the first such operation; `None` if there
-/// is none. Passes steps whose spans are in `clear`, sorted spans that overlap with no other.
+/// is none. Passes steps whose intervals are in `clear_intervals`, sorted ones that overlap with no other.
 pub(crate) fn first_overlap_of(
     instance: &Instance,
     table: &Table,
-    clear: &[Occupied],
+    clear_intervals: &[Interval],
     j: usize,
 ) -> Option<(usize, OperationId)>
     requires shape { HasShape instance.now table.now }
-    requires apart { AreOfApart instance.now table.now clear.now }
+    requires apart { AreOfApart instance.now table.now clear_intervals.now }
     requires job { j < length instance.now.jobs }
     ensures { TellsFirstOverlapOf instance.now (starts_of table.now) j result }
 {
     for k in 0..instance.route(j).len() {
-        if let Some(second) = first_overlap_unless_clear(instance, table, clear, j, k) {
+        if let Some(second) = first_overlap_unless_clear(instance, table, clear_intervals, j, k) {
             return Some((k, second));
         }
     }

@@ -1,13 +1,14 @@
 // One job's operations against its row of starts.
 ghost use Rattle.std.specs.Prelude.{◌≡◌, ◌+◌, ◌≤◌, ◌↔◌, IsTrue};
-ghost use Rattle.shop_model.specs.inner.Steps.{AreSmall, KeepsOrder, AreClear, TellsEarlyStep, TellsFirstClash, end_at};
+ghost use Rattle.shop_model.specs.inner.Steps.{AreSmallEnds, KeepsOrder, AreClear, TellsEarlyStep, TellsFirstClash};
+ghost use Rattle.shop_model.specs.inner.Steps.{end_at};
 
 use crate::limits::{MAX_START, MAX_TIME};
 use crate::ops::Op;
 
 /// Finds the first step that begins before `release` or before the step before it ends; `None` if there is none.
 pub(crate) fn early_step(release: u64, route: &[Op], row: &[u64]) -> Option<usize>
-    requires { AreSmall route.now row.now }
+    requires { AreSmallEnds route.now row.now }
     ensures { TellsEarlyStep release route.now row.now result }
 {
     let mut ready = release;
@@ -31,7 +32,7 @@ pub(crate) fn clash_from(
     row: &[u64],
     from: usize,
 ) -> Option<usize>
-    requires { AreSmall route.now row.now }
+    requires { AreSmallEnds route.now row.now }
     ensures { TellsFirstClash machine start finish route.now row.now from result }
 {
     for k in from..route.len() {
@@ -46,8 +47,8 @@ pub(crate) fn clash_from(
 /// order. So of two steps the one that ends first is clear of all that the other job does later, and one pass through
 /// both jobs is enough.
 pub(crate) fn are_clear(route: &[Op], row: &[u64], others: &[Op], other_row: &[u64]) -> bool
-    requires small { AreSmall route.now row.now }
-    requires others_small { AreSmall others.now other_row.now }
+    requires small { AreSmallEnds route.now row.now }
+    requires others_small { AreSmallEnds others.now other_row.now }
     requires in_order { KeepsOrder route.now row.now }
     requires others_in_order { KeepsOrder others.now other_row.now }
     ensures { IsTrue result ↔ AreClear route.now row.now others.now other_row.now }
@@ -71,7 +72,7 @@ pub(crate) fn are_clear(route: &[Op], row: &[u64], others: &[Op], other_row: &[u
 
 /// Returns when the last step ends; 0 if `route` is empty.
 pub(crate) fn last_finish(route: &[Op], row: &[u64]) -> u64
-    requires { AreSmall route.now row.now }
+    requires { AreSmallEnds route.now row.now }
     ensures end { result ≡ end_at route.now row.now }
     ensures small { result ≤ MAX_START + MAX_TIME }
 {

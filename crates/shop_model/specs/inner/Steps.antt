@@ -17,7 +17,7 @@ earliest_at release route row zero = release
 earliest_at release route row (suc k) = finish_at route row k
 
 -- the starts and the times are small enough to be added
-pub record AreSmall (route : List Op) (row : List ℕ) : Type 0 where
+pub record AreSmallEnds (route : List Op) (row : List ℕ) : Type 0 where
   pub same_length : length row ≡ length route
   pub times : (k : ℕ) → (slice_index_or route k no_op).time ≤ MAX_TIME
   pub starts : (k : ℕ) → slice_index row k ≤ MAX_START

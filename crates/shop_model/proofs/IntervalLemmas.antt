@@ -1,52 +1,53 @@
--- Spans in turn are apart, and so are the operations that they stand for.
+-- Intervals in turn are apart, and so are the operations that they stand for.
 use Rattle.std.proofs.Common.{◌≡◌, ℕ, zero, suc, ◌+◌, ◌≤◌, ◌<◌, inl, inr, List, [], ◌∷◌, ◌++◌, length, map, take}
 use Rattle.std.proofs.{Common.{get_or, slice_index_or, sym, ◌∙◌, ap, arith, All}, lemmas.Bool.cases_eq}
 use Rattle.std.{proofs.lemmas.List.{take-take, take_all, Concat.{length-flat_map, get_or-flat_map}}, specs.List.sum_by}
 use Rattle.std.proofs.lemmas.List.{Elements.All-from_recursion, FromFn.{length-range_with_len, get_or-range_with_len}}
 use Rattle.std.proofs.lemmas.List.{FromFn.{length-map-range_with_len, get_or-map-range_with_len}, Sums.sum_by-take-le}
 use Rattle.std.{proofs.lemmas.List.Sums.sum_by_more, specs.List.{range_with_len, flat_map, AllPairs, AllByRecursion}}
-use Rattle.shop_model.specs.{declared.spans.Occupied.Occupied, Shop.{Shop, route_of, IsOperation}, Checking.starts_of}
-use Rattle.shop_model.specs.{Checking.IsBefore, inner.{FirstFaults.AllApart, Spans.{span_at, spans_at, spans_of}}}
-use Rattle.shop_model.specs.inner.{Spans.{IsInTurn, AreInTurn}, ClearSpans.ArePartedSpans}
+use Rattle.shop_model.specs.{declared.intervals.Interval.Interval, Shop.{Shop, route_of, IsOperation}}
+use Rattle.shop_model.specs.{Checking.{IsBefore, starts_of}, inner.FirstFaults.AllApart}
+use Rattle.shop_model.specs.inner.Intervals.{interval_at, intervals_at, intervals_of, IsInTurn, AreInTurn}
+use Rattle.shop_model.specs.inner.ClearIntervals.{ArePartedIntervals}
 use Rattle.shop_model.proofs.Ends.{IsOperation-job}
 
--- no span ends before it begins
-abbrev pub IsForward : Occupied → Type 0
+-- no interval ends before it begins
+abbrev pub IsForward : Interval → Type 0
 IsForward a = a.start ≤ a.finish
 
-in_turn_far : (xs : List Occupied) → AreInTurn xs → All IsForward xs → (k l : ℕ) (d : Occupied) → k < l → l < length xs
+in_turn_far : (xs : List Interval) → AreInTurn xs → All IsForward xs → (k l : ℕ) (d : Interval) → k < l → l < length xs
     → IsInTurn (get_or xs k d) (get_or xs l d)
 in_turn_far xs turns forward k zero d before below = absurd (omega arith)
 in_turn_far xs turns forward k (suc l) d before below = grind (arith, cases_eq, in_turn_far xs turns forward k l d)
 
-pub in_turn_parted : (a b : Occupied) → IsInTurn a b → ArePartedSpans a b
+pub in_turn_parted : (a b : Interval) → IsInTurn a b → ArePartedIntervals a b
 in_turn_parted a b turn same = elim turn [ inl h ↦ absurd (omega arith) | inr h ↦ inl h.1 ]
 
-pub parted_pairs : (xs : List Occupied) → AreInTurn xs → All IsForward xs → AllPairs ArePartedSpans xs
+pub parted_pairs : (xs : List Interval) → AreInTurn xs → All IsForward xs → AllPairs ArePartedIntervals xs
 parted_pairs xs turns forward k l d before below = grind (arith, in_turn_parted, in_turn_far)
 
-pub parted_both_ways : (a b : Occupied) → ArePartedSpans a b → ArePartedSpans b a
+pub parted_both_ways : (a b : Interval) → ArePartedIntervals a b → ArePartedIntervals b a
 parted_both_ways a b parted same = elim (parted (sym same)) [ inl h ↦ inr h | inr h ↦ inl h ]
 
--- lists of spans that are all forward
-forward_map : (f : ℕ → Occupied) → ((n : ℕ) → IsForward (f n)) → (ns : List ℕ) → AllByRecursion IsForward (map f ns)
+-- lists of intervals that are all forward
+forward_map : (f : ℕ → Interval) → ((n : ℕ) → IsForward (f n)) → (ns : List ℕ) → AllByRecursion IsForward (map f ns)
 forward_map f h [] = tt
 forward_map f h (n ∷ ns) = (h n, forward_map f h ns)
 
-forward_append : (xs ys : List Occupied) → AllByRecursion IsForward xs → AllByRecursion IsForward ys
+forward_append : (xs ys : List Interval) → AllByRecursion IsForward xs → AllByRecursion IsForward ys
     → AllByRecursion IsForward (xs ++ ys)
 forward_append [] ys h g = g
 forward_append (x ∷ xs) ys h g = (h.0, forward_append xs ys h.1 g)
 
-forward_parts : (f : ℕ → List Occupied) → ((n : ℕ) → AllByRecursion IsForward (f n)) → (ns : List ℕ)
+forward_parts : (f : ℕ → List Interval) → ((n : ℕ) → AllByRecursion IsForward (f n)) → (ns : List ℕ)
     → AllByRecursion IsForward (flat_map f ns)
 forward_parts f h [] = tt
 forward_parts f h (n ∷ ns) = forward_append (f n) (flat_map f ns) (h n) (forward_parts f h ns)
 
--- where the span of step k of job j stands
+-- where the interval of step k of job j stands
 module _ (shop : Shop) (rows : List (List ℕ)) where
-  abbrev part : ℕ → List Occupied
-  part j = spans_at (route_of shop j) (slice_index_or rows j [])
+  abbrev part : ℕ → List Interval
+  part j = intervals_at (route_of shop j) (slice_index_or rows j [])
 
   abbrev numbers : List ℕ
   numbers = range_with_len 0 (length shop.jobs)
@@ -54,8 +55,8 @@ module _ (shop : Shop) (rows : List (List ℕ)) where
   abbrev place : ℕ → ℕ → ℕ
   place j k = length (flat_map part (take j numbers)) + k
 
-  abbrev span : ℕ → ℕ → Occupied
-  span j k = span_at (route_of shop j) (slice_index_or rows j []) k
+  abbrev interval : ℕ → ℕ → Interval
+  interval j k = interval_at (route_of shop j) (slice_index_or rows j []) k
 
   part_length : (j : ℕ) → length (part j) ≡ length (route_of shop j)
   part_length j = grind (arith, length-map-range_with_len, slice_index_or)
@@ -63,18 +64,19 @@ module _ (shop : Shop) (rows : List (List ℕ)) where
   number_at : (j : ℕ) → j < length shop.jobs → get_or numbers j 0 ≡ j
   number_at j h = get_or-range_with_len 0 (length shop.jobs) j 0 h ∙ omega arith
 
-  span_in_place : (j k : ℕ) (d : Occupied) → IsOperation shop j k → get_or (spans_of shop rows) (place j k) d ≡ span j k
-  span_in_place j k d op =
+  interval_in_place : (j k : ℕ) (d : Interval) → IsOperation shop j k
+      → get_or (intervals_of shop rows) (place j k) d ≡ interval j k
+  interval_in_place j k d op =
       let job = IsOperation-job shop j k op
       in let many = length-range_with_len 0 (length shop.jobs)
       in let at = number_at j job
       in let short : k < length (part (get_or numbers j 0)) = rw (at, part_length) op
       in get_or-flat_map part numbers j k 0 d (omega arith) short
       ∙ (ap (λ (i : ℕ). get_or (part i) k d) at
-      ∙ get_or-map-range_with_len (span_at (route_of shop j) (slice_index_or rows j [])) 0
+      ∙ get_or-map-range_with_len (interval_at (route_of shop j) (slice_index_or rows j [])) 0
       (length (route_of shop j)) k k d op (omega arith))
 
-  -- a job's spans stand before those of later jobs
+  -- a job's intervals stand before those of later jobs
   part_ends : (j n : ℕ) → j < n → n ≤ length shop.jobs
       → length (flat_map part (take j numbers)) + length (route_of shop j) ≤ length (flat_map part (take n numbers))
   part_ends j n before few =
@@ -99,27 +101,27 @@ module _ (shop : Shop) (rows : List (List ℕ)) where
         = ap (λ (n : ℕ). length (flat_map part (take n numbers))) h.0 in let x = h.1 in omega arith)
   ]
 
-  place_below : (j k : ℕ) → IsOperation shop j k → place j k < length (spans_of shop rows)
+  place_below : (j k : ℕ) → IsOperation shop j k → place j k < length (intervals_of shop rows)
   place_below j k op =
       let job = IsOperation-job shop j k op
       in let a = part_ends j (length shop.jobs) job (omega arith)
       in let all : take (length shop.jobs) numbers ≡ numbers =
       take_all (length shop.jobs) numbers (rw length-range_with_len (omega arith))
-      in let b : length (flat_map part (take (length shop.jobs) numbers)) ≡ length (spans_of shop rows)
+      in let b : length (flat_map part (take (length shop.jobs) numbers)) ≡ length (intervals_of shop rows)
       = ap (λ (xs : List ℕ). length (flat_map part xs)) all
       in omega arith
 
-  -- what holds of each pair of spans holds of those of two operations
-  pub of_operations : (S : Occupied → Occupied → Type 0) → AllPairs S (spans_of shop rows) → (j k i l : ℕ)
-      → IsOperation shop j k → IsOperation shop i l → IsBefore j k i l → S (span j k) (span i l)
+  -- what holds of each pair of intervals holds of those of two operations
+  pub of_operations : (S : Interval → Interval → Type 0) → AllPairs S (intervals_of shop rows) → (j k i l : ℕ)
+      → IsOperation shop j k → IsOperation shop i l → IsBefore j k i l → S (interval j k) (interval i l)
   of_operations S all j k i l op other before =
-      let d : Occupied = record { machine = 0; start = 0; finish = 0 }
-      in rw (span_in_place j k d op, span_in_place i l d other)
+      let d : Interval = record { machine = 0; start = 0; finish = 0 }
+      in rw (interval_in_place j k d op, interval_in_place i l d other)
       at (all (place j k) (place i l) d (place_before j k i l op other before) (place_below i l other))
 
-  pub apart_from_pairs : AllPairs ArePartedSpans (spans_of shop rows) → AllApart shop (starts_of rows)
-  apart_from_pairs all j k i l op other before same = of_operations ArePartedSpans all j k i l op other before same
+  pub apart_from_pairs : AllPairs ArePartedIntervals (intervals_of shop rows) → AllApart shop (starts_of rows)
+  apart_from_pairs all j k i l op other before same = of_operations ArePartedIntervals all j k i l op other before same
 
-  -- no span ends before it begins
-  pub spans_forward : All IsForward (spans_of shop rows)
-  spans_forward = grind (arith, All-from_recursion, forward_parts, forward_map, range_with_len)
+  -- no interval ends before it begins
+  pub intervals_forward : All IsForward (intervals_of shop rows)
+  intervals_forward = grind (arith, All-from_recursion, forward_parts, forward_map, range_with_len)

@@ -1,8 +1,0 @@
-use Rattle.std.proofs.{Common.{arith, append_assoc, refl}, lemmas.List.FromFn.map-range_with_len_more}
-use Rattle.shop_model.specs.inner.Spans.{span_at}
-use Rattle.shop_model.proofs.spans.push_spans.Goals as goal
-
-pub loop-k-preserved : goal.loop-k-preserved
-loop-k-preserved c =
-    let more = map-range_with_len_more (span_at c.args.route.now c.args.row.now) 0 c.loop-k.k c.loop-k.k (omega arith)
-    in rw (c.in_ok-push.ensures.items, more, c.loop-k.invariant, append_assoc) refl
