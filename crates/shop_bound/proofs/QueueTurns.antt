@@ -7,10 +7,11 @@ use Rattle.std.proofs.lemmas.List.{Elements.{All-head, All-tail}, Sums.sum_by-co
 use Rattle.std.{proofs.lemmas.List.Sorted.sum_by-IsPermutation, specs.BinaryHeap.{heap_items, heap_len, heap_capacity}}
 use Rattle.std.specs.{List.All, Prelude.IsPermutation, Option.{is_some, unwrap_or}}
 use Rattle.shop_bound.specs.{declared.triples.Triple.Triple, declared.queues.Work.Work, inner.Thresholds.no_triple}
-use Rattle.shop_bound.specs.inner.Serving.{work_at, fresh, undone_of, Waits, IsServed, IsStop, IsReady}
-use Rattle.shop_bound.specs.{inner.HeapOrders.{Coming, Waiting}, inner.Queues.KeepsRoom, declared.queues.Queue.Queue}
-use Rattle.shop_bound.specs.inner.Queues.{coming_place, waiting_place, times, IsToCome, IsInLine, AreQueued, ComeLater}
-use Rattle.shop_bound.specs.inner.Queues.{IsNextRelease, IsBehind, IsFirst, TakesReleased, IsQueue, IsWithoutFirst}
+use Rattle.shop_bound.specs.inner.Serving.{work_at, fresh, undone_of, IsReleasedAt, IsServed, IsStop, IsReady}
+use Rattle.shop_bound.specs.{inner.HeapOrders.{Coming, Released}, inner.Queues.KeepsRoom, declared.queues.Queue.Queue}
+use Rattle.shop_bound.specs.inner.Queues.{coming_place, released_place, times, IsToCome, IsReleased, AreQueued}
+use Rattle.shop_bound.specs.inner.Queues.{ComeLater, IsNextRelease, IsBehind, IsFirst, TakesReleased, IsQueue}
+use Rattle.shop_bound.specs.inner.Queues.{IsWithoutFirst}
 use Rattle.shop_bound.proofs.{TurnCounts.undone_of-one, WorkSums.{triple_at, fresh-undone}}
 
 -- how often a position stands in a list
@@ -61,27 +62,27 @@ count_undone w d = rw d refl
 undone_since : (w : Work) → 0 < undone_of w → w.done ≡ false
 undone_since w some = grind arith
 
-module _ (ws : List Work) (clock : ℕ) (cs : List Coming) (hs : List Waiting) (q : AreQueued ws clock cs hs) where
-  -- one that is not done and isn't to come is in line
-  in_line : (k : ℕ) → k < length ws → (work_at ws k).done ≡ false → times coming_place k cs ≡ 0
-      → (P : Waiting → Type 0) → All P hs → (h : Waiting) × (waiting_place h ≡ k) × (IsInLine ws clock h × P h)
-  in_line k here undone none P all =
+module _ (ws : List Work) (clock : ℕ) (cs : List Coming) (hs : List Released) (q : AreQueued ws clock cs hs) where
+  -- one that is not done and isn't to come is released
+  is_released : (k : ℕ) → k < length ws → (work_at ws k).done ≡ false → times coming_place k cs ≡ 0
+      → (P : Released → Type 0) → All P hs → (h : Released) × (released_place h ≡ k) × (IsReleased ws clock h × P h)
+  is_released k here undone none P all =
       let o = q.once k here in let u = count_undone (work_at ws k) undone
-      in some_time waiting_place (λ h. IsInLine ws clock h × P h) k hs (λ i d l. (q.waiting i d l, all i d l))
+      in some_time released_place (λ h. IsReleased ws clock h × P h) k hs (λ i d l. (q.released i d l, all i d l))
       (omega arith)
 
-  -- one that is not done and doesn't wait is to come
-  to_come : (k : ℕ) → k < length ws → (work_at ws k).done ≡ false → times waiting_place k hs ≡ 0
+  -- one that is not done and isn't released is to come
+  to_come : (k : ℕ) → k < length ws → (work_at ws k).done ≡ false → times released_place k hs ≡ 0
       → (P : Coming → Type 0) → All P cs → (c : Coming) × (coming_place c ≡ k) × (IsToCome ws c × P c)
   to_come k here undone none P all =
       let o = q.once k here in let u = count_undone (work_at ws k) undone
       in some_time coming_place (λ c. IsToCome ws c × P c) k cs (λ i d l. (q.coming i d l, all i d l))
       (omega arith)
 
-  -- what was not released by the clock doesn't wait, and is not done
-  not_waiting : (k : ℕ) → clock < (work_at ws k).triple.head → times waiting_place k hs ≡ 0
-  not_waiting k late = elim (cases_lt 0 (times waiting_place k hs)) [
-    | inl some ↦ absurd (let s = some_time waiting_place (IsInLine ws clock) k hs q.waiting some
+  -- what comes after the clock isn't among the released, and is not done
+  not_released : (k : ℕ) → clock < (work_at ws k).triple.head → times released_place k hs ≡ 0
+  not_released k late = elim (cases_lt 0 (times released_place k hs)) [
+    | inl some ↦ absurd (let s = some_time released_place (IsReleased ws clock) k hs q.released some
         in let e = ap (λ (j : ℕ). (work_at ws j).triple.head) s.1
         in let r = s.2.released in omega arith)
     | inr none ↦ omega arith
@@ -101,10 +102,10 @@ module _ (ws : List Work) (clock : ℕ) (cs : List Coming) (hs : List Waiting) (
       | inr none ↦ omega arith
     ]
 
-    -- the first of those that wait is served
+    -- the first of the released ones is served
     pub first_served : (i : ℕ) → IsFirst hs (Some i) → IsServed (length ws) ws clock i
     first_served i (h, f) =
-        let a = all-top waiting_place (IsInLine ws clock) hs h f.some f.top q.waiting
+        let a = all-top released_place (IsReleased ws clock) hs h f.some f.top q.released
         in let e = f.is
         in let here : i < length ws = subst (λ (j : ℕ). j < length ws) e a.here
         in let tail : h.0 ≡ (work_at ws i).triple.tail =
@@ -114,14 +115,14 @@ module _ (ws : List Work) (clock : ℕ) (cs : List Coming) (hs : List Waiting) (
           undone = grind (arith, times-top, undone_since);
           released = subst (λ (j : ℕ). (work_at ws j).triple.head ≤ clock) e a.released;
           greatest = λ k seen undone released.
-              grind (arith, in_line k seen undone (not_coming k released) (IsBehind h) f.behind);
+              grind (arith, is_released k seen undone (not_coming k released) (IsBehind h) f.behind);
           lowest = λ k before undone released.
-              grind (arith, in_line k (omega arith) undone (not_coming k released) (IsBehind h) f.behind);
+              grind (arith, is_released k (omega arith) undone (not_coming k released) (IsBehind h) f.behind);
         }
 
-    -- where none waits, none is released that is not done
-    pub none_waits : IsFirst hs None → (k : ℕ) → Waits ws clock k → ⊥
-    none_waits none k w = grind (arith, in_line, not_coming, times-none, count_undone)
+    -- where the heap of the released is empty, none is released that is not done
+    pub none_released : IsFirst hs None → (k : ℕ) → IsReleasedAt ws clock k → ⊥
+    none_released none k w = grind (arith, is_released, not_coming, times-none, count_undone)
 
     -- what is ready
     pub ready_now : (r : Option ℕ) → IsFirst hs r → is_some r ≡ true → IsReady ws clock clock
@@ -132,7 +133,7 @@ module _ (ws : List Work) (clock : ℕ) (cs : List Coming) (hs : List Waiting) (
     ready_later none head (c, n) = inr (inl (record {
       later = (let l = all-top coming_place (λ d. clock < d.0.0) cs c n.some n.top later
           in let e = n.is in omega arith);
-      least = λ k here undone. (let s = to_come k here undone (times-none waiting_place k hs none) (λ d. head ≤ d.0.0)
+      least = λ k here undone. (let s = to_come k here undone (times-none released_place k hs none) (λ d. head ≤ d.0.0)
           n.least
           in let h = s.2.0.head in let l = s.2.1
           in let e = ap (λ (j : ℕ). (work_at ws j).triple.head) s.1 in omega arith);
@@ -145,7 +146,7 @@ module _ (ws : List Work) (clock : ℕ) (cs : List Coming) (hs : List Waiting) (
     -- when a turn stops
     pub stops : (r : Option ℕ) (end stop : ℕ) → IsNextRelease cs r → clock ≤ end
         → stop ≡ min (unwrap_or r end) end → IsStop (length ws) ws clock end stop
-    stops None end stop over after e = grind (arith, count_undone, not_done, not_waiting, times-none)
+    stops None end stop over after e = grind (arith, count_undone, not_done, not_released, times-none)
     stops (Some head) end stop (c, n) after e =
         let a = all-top coming_place (IsToCome ws) cs c n.some n.top q.coming
         in let l = all-top coming_place (λ d. clock < d.0.0) cs c n.some n.top later
@@ -153,7 +154,7 @@ module _ (ws : List Work) (clock : ℕ) (cs : List Coming) (hs : List Waiting) (
         in record {
           later = omega arith;
           by_end = omega arith;
-          by_release = λ k here late. (let s = to_come k here (not_done k here late) (not_waiting k late)
+          by_release = λ k here late. (let s = to_come k here (not_done k here late) (not_released k late)
               (λ d. head ≤ d.0.0) n.least
               in let g = s.2.0.head in let m = s.2.1
               in let t = ap (λ (j : ℕ). (work_at ws j).triple.head) s.1 in omega arith);
@@ -166,18 +167,18 @@ pub stop_is : {ws : List Work} {clock : ℕ} {q : Queue} → IsQueue ws clock q 
 stop_is {ws} {clock} {q} is later r release {end} {next} {stop} e f after =
     stops ws clock _ _ is.are later r end stop release after (f ∙ ap (λ n. min n end) e)
 
-pub first_none : (hs : List Waiting) (r : Option ℕ) → IsFirst hs r → is_some r ≡ false → IsFirst hs None
+pub first_none : (hs : List Released) (r : Option ℕ) → IsFirst hs r → is_some r ≡ false → IsFirst hs None
 first_none hs None first none = first
 first_none hs (Some i) first none = absurd (true≢false none)
 
 -- one that is released is an operation of the list
-pub taken_here : (ws : List Work) (clock : ℕ) (cs rest : List Coming) (hs : List Waiting) (k : ℕ)
+pub taken_here : (ws : List Work) (clock : ℕ) (cs rest : List Coming) (hs : List Released) (k : ℕ)
     → AreQueued ws clock cs hs → TakesReleased clock cs rest (Some k) → k < length ws
 taken_here ws clock cs rest hs k q t = subst (λ (j : ℕ). j < length ws) t.3
     (All-head (IsToCome ws) t.0 rest (All-permutation (IsToCome ws) cs (t.0 ∷ rest) t.1 q.coming)).here
 
 -- a later clock, and a work that is served
-pub queued_later : (ws : List Work) (clock later : ℕ) (cs : List Coming) (hs : List Waiting)
+pub queued_later : (ws : List Work) (clock later : ℕ) (cs : List Coming) (hs : List Released)
     → AreQueued ws clock cs hs → clock ≤ later → AreQueued ws later cs hs
 queued_later ws clock later cs hs q more = grind arith
 
@@ -185,30 +186,31 @@ module _ (ws : List Work) (i : ℕ) (v : Work) (lt : i < length ws) (same : v.tr
   set_coming : (c : Coming) → IsToCome ws c → IsToCome (set ws i v) c
   set_coming c a = grind (arith, length-set, triple_at)
 
-  set_waiting : (clock : ℕ) (h : Waiting) → IsInLine ws clock h → IsInLine (set ws i v) clock h
-  set_waiting clock h a = grind (arith, triple_at, length-set)
+  set_released : (clock : ℕ) (h : Released) → IsReleased ws clock h → IsReleased (set ws i v) clock h
+  set_released clock h a = grind (arith, triple_at, length-set)
 
   -- an operation that is held back
-  pub queued_held : (clock : ℕ) (cs : List Coming) (hs : List Waiting) → AreQueued ws clock cs hs
+  pub queued_held : (clock : ℕ) (cs : List Coming) (hs : List Released) → AreQueued ws clock cs hs
       → v.done ≡ (work_at ws i).done → AreQueued (set ws i v) clock cs hs
   queued_held clock cs hs q done =
-      grind (arith, set_coming, set_waiting, length-set, triple_at, cases_eq, get_or-set_same, get_or-set_other)
+      grind (arith, set_coming, set_released, length-set, triple_at, cases_eq, get_or-set_same, get_or-set_other)
 
   -- the first, once it has ended
-  pub queued_done : (clock : ℕ) (cs : List Coming) (hs rest : List Waiting) → AreQueued ws clock cs hs
-      → v.done ≡ true → (work_at ws i).triple.head ≤ clock → (h : Waiting) → waiting_place h ≡ i
+  pub queued_done : (clock : ℕ) (cs : List Coming) (hs rest : List Released) → AreQueued ws clock cs hs
+      → v.done ≡ true → (work_at ws i).triple.head ≤ clock → (h : Released) → released_place h ≡ i
       → IsPermutation hs (h ∷ rest) → AreQueued (set ws i v) clock cs rest
   queued_done clock cs hs rest q done released h is p = record {
     coming = λ j d l. set_coming (get_or cs j d) (q.coming j d l);
-    waiting = λ j d l. set_waiting clock (get_or rest j d)
-        (All-tail (IsInLine ws clock) h rest (All-permutation (IsInLine ws clock) hs (h ∷ rest) p q.waiting) j d l);
+    released = λ j d l. set_released clock (get_or rest j d)
+        (All-tail (IsReleased ws clock) h rest (All-permutation (IsReleased ws clock) hs (h ∷ rest) p q.released)
+        j d l);
     once = λ k here. once_after k (omega (arith, length-set ws i v));
     passed = λ k here was. passed_after k (omega (arith, length-set ws i v)) was;
   } where
     once_after : (k : ℕ) → k < length ws
-        → times coming_place k cs + times waiting_place k rest ≡ undone_of (work_at (set ws i v) k)
+        → times coming_place k cs + times released_place k rest ≡ undone_of (work_at (set ws i v) k)
     once_after k here =
-        let o = q.once k here in let m = times-permutation waiting_place k hs (h ∷ rest) p
+        let o = q.once k here in let m = times-permutation released_place k hs (h ∷ rest) p
         in elim (cases_eq k i) [
           | inl e ↦ grind (arith, times-here, get_or-set_same, count_done, undone_of-one)
           | inr ne ↦ grind (arith, times-other, get_or-set_other)
@@ -226,13 +228,14 @@ queue_held ws clock i stop v q is s same done later = search (rules, queued_held
 
 pub queue_done : (ws : List Work) (clock i end : ℕ) (v : Work) (q r : Queue) → IsQueue ws clock q
     → IsServed (length ws) ws clock i → v.triple ≡ (work_at ws i).triple → v.done ≡ true → clock ≤ end
-    → IsFirst (heap_items q.waiting) (Some i) → IsWithoutFirst (heap_items q.waiting) (heap_items r.waiting)
-    → heap_len r.waiting + 1 ≡ heap_len q.waiting → heap_capacity r.waiting ≡ heap_capacity q.waiting
+    → IsFirst (heap_items q.released) (Some i) → IsWithoutFirst (heap_items q.released) (heap_items r.released)
+    → heap_len r.released + 1 ≡ heap_len q.released → heap_capacity r.released ≡ heap_capacity q.released
     → r.coming ≡ q.coming → IsQueue (set ws i v) end r
 queue_done ws clock i end v q r is s same done later first without fewer room coming =
     let f = first.1
     in let released = s.released
-    in let all = queued_done ws i v s.seen same end (heap_items q.coming) (heap_items q.waiting) (heap_items r.waiting)
+    in let all = queued_done ws i v s.seen same end (heap_items q.coming) (heap_items q.released)
+    (heap_items r.released)
     (queued_later ws clock end _ _ is.are later) done (omega arith) first.0 f.is (without first.0 f.top)
     in let old = is.room
     in record {
@@ -240,44 +243,44 @@ queue_done ws clock i end v q r is s same done later first without fewer room co
       room = rw coming (omega arith);
     }
 
--- one of those to come that waits from now on
-pub queued_more : (ws : List Work) (clock : ℕ) (cs rest : List Coming) (hs more : List Waiting) (c : Coming)
-    (h : Waiting)
+-- one of those to come is put among the released
+pub queued_more : (ws : List Work) (clock : ℕ) (cs rest : List Coming) (hs more : List Released) (c : Coming)
+    (h : Released)
     → AreQueued ws clock cs hs → IsPermutation cs (c ∷ rest) → c.0.0 ≤ clock → IsPermutation (h ∷ hs) more
-    → waiting_place h ≡ coming_place c → h.0 ≡ (work_at ws c.1).triple.tail → AreQueued ws clock rest more
+    → released_place h ≡ coming_place c → h.0 ≡ (work_at ws c.1).triple.tail → AreQueued ws clock rest more
 queued_more ws clock cs rest hs more c h q p released m is tail =
     let all = All-permutation (IsToCome ws) cs (c ∷ rest) p q.coming
     in let here = All-head (IsToCome ws) c rest all
     in record {
       coming = All-tail (IsToCome ws) c rest all;
-      waiting = All-permutation (IsInLine ws clock) (h ∷ hs) more m (All-cons (IsInLine ws clock) h hs (record {
+      released = All-permutation (IsReleased ws clock) (h ∷ hs) more m (All-cons (IsReleased ws clock) h hs (record {
         here = subst (λ (j : ℕ). j < length ws) (sym is) here.here;
         tail = tail ∙ ap (λ (j : ℕ). (work_at ws j).triple.tail) (sym is);
         released = (let e = here.head in let f = ap (λ (j : ℕ). (work_at ws j).triple.head) is in omega arith);
-      }) q.waiting);
+      }) q.released);
       once = λ k lt. let o = q.once k lt in let a = times-permutation coming_place k cs (c ∷ rest) p
-          in let b = times-permutation waiting_place k (h ∷ hs) more m
+          in let b = times-permutation released_place k (h ∷ hs) more m
           in elim (cases_eq (coming_place c) k) [
             | inl e ↦ (let x = times-here coming_place k c rest e
-                in let y = times-here waiting_place k h hs (is ∙ e) in omega arith)
+                in let y = times-here released_place k h hs (is ∙ e) in omega arith)
             | inr ne ↦ (let x = times-other coming_place k c rest ne
-                in let y = times-other waiting_place k h hs (λ f. ne (sym is ∙ f)) in omega arith)
+                in let y = times-other released_place k h hs (λ f. ne (sym is ∙ f)) in omega arith)
           ];
       passed = q.passed;
     }
 
 pub queue_more : (ws : List Work) (clock k : ℕ) (q p r : Queue) → IsQueue ws clock q
     → TakesReleased clock (heap_items q.coming) (heap_items p.coming) (Some k)
-    → heap_len p.coming + 1 ≡ heap_len q.coming → p.waiting ≡ q.waiting → r.coming ≡ p.coming → (h : Waiting)
-    → IsPermutation (h ∷ heap_items p.waiting) (heap_items r.waiting) → waiting_place h ≡ k
-    → h.0 ≡ (work_at ws k).triple.tail → heap_len r.waiting ≡ heap_len p.waiting + 1
-    → heap_capacity p.waiting ≤ heap_capacity r.waiting → IsQueue ws clock r
-queue_more ws clock k q p r is taken fewer waits comes h more place tail longer room =
-    let all = queued_more ws clock (heap_items q.coming) (heap_items p.coming) (heap_items q.waiting)
-    (heap_items r.waiting)
-    taken.0 h is.are taken.1 taken.2 (rw waits at more) (place ∙ sym taken.3)
+    → heap_len p.coming + 1 ≡ heap_len q.coming → p.released ≡ q.released → r.coming ≡ p.coming → (h : Released)
+    → IsPermutation (h ∷ heap_items p.released) (heap_items r.released) → released_place h ≡ k
+    → h.0 ≡ (work_at ws k).triple.tail → heap_len r.released ≡ heap_len p.released + 1
+    → heap_capacity p.released ≤ heap_capacity r.released → IsQueue ws clock r
+queue_more ws clock k q p r is taken fewer stays comes h more place tail longer room =
+    let all = queued_more ws clock (heap_items q.coming) (heap_items p.coming) (heap_items q.released)
+    (heap_items r.released)
+    taken.0 h is.are taken.1 taken.2 (rw stays at more) (place ∙ sym taken.3)
     (tail ∙ ap (λ (j : ℕ). (work_at ws j).triple.tail) (sym taken.3))
-    in let old = is.room in let a = rw waits at longer in let b = rw waits at room
+    in let old = is.room in let a = rw stays at longer in let b = rw stays at room
     in record { are = rw comes all; room = rw comes (omega arith) }
 
 -- all operations to come
@@ -312,7 +315,7 @@ pub queued_all : (ts : List Triple) (n : ℕ) (cs : List Coming) → n ≡ lengt
     → AreQueued (map fresh ts) 0 cs []
 queued_all ts n cs whole a = record {
   coming = λ k d l. grind (arith, length-map, fresh_at);
-  waiting = λ k d l. absurd (omega arith);
+  released = λ k d l. absurd (omega arith);
   once = λ k l. grind (arith, length-map, times-none, count_undone, fresh-undone);
   passed = λ k l done. absurd (true≢false (sym done ∙ fresh-undone ts k));
 } where

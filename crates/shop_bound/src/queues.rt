@@ -1,4 +1,4 @@
-// Two heaps for the operations of one machine that have not ended: the unreleased by head, the waiting by tail.
+// Two heaps for the operations of one machine that have not ended: the unreleased by head, the released by tail.
 ghost use Rattle.std.specs.Prelude.{◌≡◌, ◌+◌, ◌<◌, IfOk, OnSome, length, map};
 ghost use Rattle.std.specs.BinaryHeap.{IsHeap, heap_capacity, heap_items, heap_len};
 ghost use Rattle.std.proofs.Props.{props};
@@ -22,10 +22,10 @@ pub(crate) struct Work {
 pub(crate) struct Queue {
     /// heads and positions of the operations to come, the least head on top
     coming: BinaryHeap<(Reverse<u64>, usize)>,
-    /// tails and positions of the waiting operations, the greatest tail on top, the lowest position on ties
-    waiting: BinaryHeap<(u64, Reverse<usize>)>,
+    /// tails and positions of the released operations, the greatest tail on top, the lowest position on ties
+    released: BinaryHeap<(u64, Reverse<usize>)>,
     ghost least_first: { IsHeap by_head (heap_items coming) } by { Prim.hlevel props },
-    ghost greatest_first: { IsHeap by_tail (heap_items waiting) } by { Prim.hlevel props },
+    ghost greatest_first: { IsHeap by_tail (heap_items released) } by { Prim.hlevel props },
 }
 
 impl Queue {
@@ -37,18 +37,18 @@ impl Queue {
         ensures { IfOk result (λ q. HasRoom n q) }
     {
         let coming = BinaryHeap::with_capacity(alloc, n)?;
-        let waiting = BinaryHeap::with_capacity(alloc, n)?;
-        Ok(Queue { coming, waiting })
+        let released = BinaryHeap::with_capacity(alloc, n)?;
+        Ok(Queue { coming, released })
     }
 
-    /// Refills the queue from `triples`: all operations are to come, and none waits.
+    /// Refills the queue from `triples`: all operations are to come, and none is released.
     pub(crate) fn fill(&mut self, triples: &[Triple])
         requires { HasRoom (length triples.now) self.old }
         ensures queue { IsQueue (map fresh triples.now) 0 self.new }
         ensures room { KeepsRoom self.old self.new }
     {
         self.coming.clear();
-        self.waiting.clear();
+        self.released.clear();
         for i in 0..triples.len() {
             self.coming.push((Reverse(triples[i].head), i)).unwrap();
         }
@@ -62,11 +62,11 @@ impl Queue {
         Some(next.0.0)
     }
 
-    /// The waiting operation to serve: the one of greatest tail, of lowest position on ties; `None` if none waits.
+    /// The released operation to serve: the one of greatest tail, of lowest position on ties; `None` if there is none.
     pub(crate) fn next_to_serve(&self) -> Option<usize>
-        ensures { IsFirst (heap_items self.now.waiting) result }
+        ensures { IsFirst (heap_items self.now.released) result }
     {
-        let first = self.waiting.peek()?;
+        let first = self.released.peek()?;
         Some(first.1.0)
     }
 
@@ -75,7 +75,7 @@ impl Queue {
         ensures taken { TakesReleased clock (heap_items self.old.coming) (heap_items self.new.coming) result }
         ensures fewer { OnSome result (heap_len self.new.coming + 1 ≡ heap_len self.old.coming) }
         ensures room { heap_capacity self.new.coming ≡ heap_capacity self.old.coming }
-        ensures waiting { self.new.waiting ≡ self.old.waiting }
+        ensures released { self.new.released ≡ self.old.released }
     {
         let release = self.next_release()?;
         if clock < release {
@@ -85,7 +85,7 @@ impl Queue {
         Some(position)
     }
 
-    /// Moves each operation that is released by `clock` from the operations to come to the waiting ones.
+    /// Moves each operation that comes by `clock` from the operations to come to the released ones.
     pub(crate) fn release(&mut self, works: &[Work], clock: u64)
         requires { IsQueue works.now clock self.old }
         ensures queue { IsQueue works.now clock self.new }
@@ -94,18 +94,18 @@ impl Queue {
     {
         while let Some(position) = self.pop_released(clock) {
             let tail = works[position].triple.tail;
-            self.waiting.push((tail, Reverse(position))).unwrap();
+            self.released.push((tail, Reverse(position))).unwrap();
         }
     }
 
-    /// Takes the operation that `next_to_serve` returns, which has ended, out of the waiting operations.
+    /// Takes the operation that `next_to_serve` returns, which has ended, out of the released operations.
     pub(crate) fn finish(&mut self)
-        requires { 0 < heap_len self.old.waiting }
-        ensures first { IsWithoutFirst (heap_items self.old.waiting) (heap_items self.new.waiting) }
-        ensures fewer { heap_len self.new.waiting + 1 ≡ heap_len self.old.waiting }
-        ensures room { heap_capacity self.new.waiting ≡ heap_capacity self.old.waiting }
+        requires { 0 < heap_len self.old.released }
+        ensures first { IsWithoutFirst (heap_items self.old.released) (heap_items self.new.released) }
+        ensures fewer { heap_len self.new.released + 1 ≡ heap_len self.old.released }
+        ensures room { heap_capacity self.new.released ≡ heap_capacity self.old.released }
         ensures coming { self.new.coming ≡ self.old.coming }
     {
-        let _served = self.waiting.pop().unwrap();
+        let _served = self.released.pop().unwrap();
     }
 }

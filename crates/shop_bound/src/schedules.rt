@@ -10,8 +10,8 @@ use crate::triples::{NO_TRIPLE, Triple};
 use std::alloc::{AllocError as NoMemory, Global};
 use std::marker::Model;
 
-/// Returns when the machine serves next: at `clock` if an operation waits or none is left, else at the next release.
-/// Moves the operations that are released by then to the waiting ones.
+/// Returns when the machine serves next: at `clock` if one is released or none is to come, else at the next release.
+/// Moves the operations that come by then to the released ones.
 fn ready_at(works: &[Work], queue: &mut Queue, clock: u64) -> u64
     requires { IsQueue works.now clock queue.old }
     ensures ready { IsReady works.now clock result }
@@ -35,7 +35,7 @@ fn ready_at(works: &[Work], queue: &mut Queue, clock: u64) -> u64
 fn serve(works: &mut [Work], queue: &mut Queue, clock: u64, chosen: usize, best: &mut u64) -> u64
     requires queue { IsQueue works.old clock queue.old }
     requires later { ComeLater clock (heap_items queue.old.coming) }
-    requires chosen { IsFirst (heap_items queue.old.waiting) (Some chosen) }
+    requires chosen { IsFirst (heap_items queue.old.released) (Some chosen) }
     requires run { IsRun works.old clock best.old }
     requires small { IsSmall (triples_of works.old) }
     ensures queue { IsQueue works.new result queue.new }
@@ -157,7 +157,8 @@ impl Jackson {
     }
 
     /// The number of turns in the last schedule: from n to 2 n for n operations, 0 before the first schedule. A turn
-    /// serves one operation until it ends or until the next release.
+    /// serves one operation until it ends or until the next release. For library callers and tests: the program doesn't
+    /// use `turns`.
     pub fn turns(&self) -> u64
         ensures { result ≡ self.now.turns }
     {

@@ -10,7 +10,7 @@ use Rattle.shop_bound.specs.Bound.{lb}
 use Rattle.shop_nodes.specs.{Left.{left_words, open_nodes, AreLeft}, Nodes.{words_of, IsNode, AreNodes}, Halts.last_of}
 use Rattle.shop_nodes.specs.Halts.{waiting_words, stack_words, halted_words, IsWaiting, AreHalted}
 use Rattle.shop_nodes.specs.inner.HeldNodes.{nodes_below, child_nodes, stack_nodes, halted_nodes, AreSharable}
-use Rattle.shop_nodes.specs.{inner.HeldNodes.{AreWithin, IsHaltWithin}, declared.{nodes.Node.Node, halts.Halt.Halt}}
+use Rattle.shop_nodes.specs.{inner.HeldNodes.{AreWithinWord, IsHaltWithin}, declared.{nodes.Node.Node, halts.Halt.Halt}}
 use Rattle.shop_nodes.{specs.declared.halts.Waiting.{Waiting, TheVariants.{Child, Rest}}, proofs.HighWalks.none_below}
 
 closed_all : (shop : Shop) (c : ℕ) (ws : List (List ℕ)) → AllByRecursion (λ w. c ≤ lb shop w) ws
@@ -70,7 +70,7 @@ held_left shop c h ns own = grind (arith, held_halt, held_nodes, recursion_from_
 
 -- the words of what waits go no further than the path and a job
 within_stack : (shop : Shop) (c : ℕ) (path : List ℕ) (stack : List Waiting)
-    → AllByRecursion (IsWaiting shop c path) stack → AreWithin path stack
+    → AllByRecursion (IsWaiting shop c path) stack → AreWithinWord path stack
 within_stack shop c path [] own = tt
 within_stack shop c path (Child job depth bound ∷ stack) own = (own.0.depth, within_stack shop c path stack own.1)
 within_stack shop c path (Rest depth count ∷ stack) own = (tt, within_stack shop c path stack own.1)

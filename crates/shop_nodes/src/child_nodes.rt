@@ -57,7 +57,7 @@ fn place_for(bound: u64, nodes: &[Node]) -> usize
 
 /// Lists the children of a node whose word isn't full, by bound, then by job: the word followed by each job of its
 /// conflict set. For each schedule under the word, some child has a schedule under it that ends no later. Fails with
-/// `NoMemory` if memory runs out.
+/// `NoMemory` if memory runs out. For library callers and tests: the program doesn't use `children`.
 pub fn children(alloc: Global, instance: &Instance, node: &Node) -> Result<Vec<Node>, NoMemory>
     requires node { IsNode instance.now node.now }
     requires open { IsFull instance.now node.now.word → ⊥ }

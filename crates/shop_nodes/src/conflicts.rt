@@ -101,7 +101,8 @@ impl<'a> Placed<'a> {
 
 /// Lists the conflict set of a word that isn't full, in ascending order: the job whose next operation can end first
 /// (the lowest on ties), and each job whose next operation is on the same machine and can begin before that end
-/// (Giffler and Thompson 1960). Fails with `NoMemory` if memory runs out.
+/// (Giffler and Thompson 1960). Fails with `NoMemory` if memory runs out. For library callers and tests: the program
+/// doesn't use `conflict`.
 pub fn conflict(alloc: Global, instance: &Instance, word: &Word) -> Result<Vec<usize>, NoMemory>
     requires word { IsWord instance.now word.now }
     requires open { IsFull instance.now word.now → ⊥ }

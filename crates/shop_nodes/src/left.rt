@@ -84,7 +84,8 @@ impl<'r> Left<'r> {
         (self.makespan, &self.halt, self.untaken)
     }
 
-    /// Lists all nodes left, in order. Fails with `NoMemory` if memory runs out.
+    /// Lists all nodes left, in order. Fails with `NoMemory` if memory runs out. For library callers and tests: the
+    /// program doesn't use `nodes`.
     pub fn nodes(&self, alloc: Global) -> Result<Vec<Node>, NoMemory>
         ensures words { IfOk result (λ v. words_of v.items ≡ self.now.words) }
         ensures nodes { IfOk result (λ v. AreNodes self.now.shop v.items) }

@@ -17,13 +17,13 @@ triples_of ws = map (λ w. w.triple) ws
 abbrev pub fresh : Triple → Work
 fresh t = record { triple = t; spent = 0; done = false }
 
--- operation i waits at the clock: it is released and not done
-pub record Waits (ws : List Work) (clock i : ℕ) : Type 0 where
+-- operation i is released at the clock, and not done
+pub record IsReleasedAt (ws : List Work) (clock i : ℕ) : Type 0 where
   pub here : i < length ws
   pub undone : (work_at ws i).done ≡ false
   pub released : (work_at ws i).triple.head ≤ clock
 
--- i is served: of the first n that wait, it has the greatest tail, and the lowest position on ties
+-- i is served: of the first n, released and not done, it has the greatest tail, and the lowest position on ties
 pub record IsServed (n : ℕ) (ws : List Work) (clock i : ℕ) : Type 0 where
   pub seen : i < n
   pub undone : (work_at ws i).done ≡ false
@@ -47,10 +47,10 @@ pub record IsRelease (n : ℕ) (ws : List Work) (clock ready : ℕ) : Type 0 whe
   pub least : (k : ℕ) → k < n → (work_at ws k).done ≡ false → ready ≤ (work_at ws k).triple.head
   pub reason : (k : ℕ) × (k < n) × ((work_at ws k).done ≡ false) × ((work_at ws k).triple.head ≡ ready)
 
--- the clock where one waits then or all are done, else the next release
+-- the clock where `IsReleasedAt` holds of one or all are done, else the next release
 abbrev pub IsReady : List Work → ℕ → ℕ → Type 0
 IsReady ws clock ready =
-    (((k : ℕ) × Waits ws clock k) × (ready ≡ clock))
+    (((k : ℕ) × IsReleasedAt ws clock k) × (ready ≡ clock))
     ⊎ (IsRelease (length ws) ws clock ready
     ⊎ (((k : ℕ) → k < length ws → (work_at ws k).done ≡ true)
     × (ready ≡ clock)))
@@ -63,11 +63,12 @@ unfoldable pub worked : ℕ → ℕ → List Work → ℕ
 worked head tail ws = sum_by (spent_above head tail) ws
 
 -- From some time on the machine did nothing but operations of at least this tail that were released
--- then or later, and all that wait are such.
+-- then or later, and all that are released and not done are such.
 pub record IsBusy (ws : List Work) (clock tail : ℕ) : Type 0 where
   pub from : ℕ
   pub before : from ≤ clock
-  pub waiting : (i : ℕ) → Waits ws clock i → tail ≤ (work_at ws i).triple.tail → from ≤ (work_at ws i).triple.head
+  pub released : (i : ℕ) → IsReleasedAt ws clock i → tail ≤ (work_at ws i).triple.tail
+      → from ≤ (work_at ws i).triple.head
   pub enough : clock ≤ from + worked from tail ws
 
 -- what holds before each turn

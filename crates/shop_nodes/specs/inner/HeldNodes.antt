@@ -3,8 +3,8 @@
 --     child_nodes word x          the open child that an entry stands for; none for closed ones
 --     stack_nodes word stack      the open children of all entries, the last entry first
 --     halted_nodes h              those of what waited where a walk halted, if anything did
---     IsWithin word x             an open child takes over at most all jobs of this word
---     AreWithin word stack        so do those of all entries
+--     IsWithinWord word x         an open child takes over at most all jobs of this word
+--     AreWithinWord word stack    so do those of all entries
 --     IsHaltWithin h              and those of what waited where a walk halted
 --     AreSharable nodes           the words of the nodes can share their jobs
 use Rattle.std.specs.Prelude.{ℕ, ◌≤◌, Option, Some, None, List, [], ◌∷◌, ◌++◌, length, take, All, filter, nat_lt}
@@ -28,16 +28,16 @@ abbrev pub halted_nodes : Option Halt → List Node
 halted_nodes None = []
 halted_nodes (Some h) = stack_nodes (arc_slice_items h.path) h.waiting.items
 
-abbrev pub IsWithin : List ℕ → Waiting → Type 0
-IsWithin word (Child job depth bound) = depth ≤ length word
-IsWithin word (Rest depth count) = Unit {0}
+abbrev pub IsWithinWord : List ℕ → Waiting → Type 0
+IsWithinWord word (Child job depth bound) = depth ≤ length word
+IsWithinWord word (Rest depth count) = Unit {0}
 
-abbrev pub AreWithin : List ℕ → List Waiting → Type 0
-AreWithin word stack = AllByRecursion (IsWithin word) stack
+abbrev pub AreWithinWord : List ℕ → List Waiting → Type 0
+AreWithinWord word stack = AllByRecursion (IsWithinWord word) stack
 
 abbrev pub IsHaltWithin : Option Halt → Type 0
 IsHaltWithin None = Unit {0}
-IsHaltWithin (Some h) = AreWithin (arc_slice_items h.path) h.waiting.items
+IsHaltWithin (Some h) = AreWithinWord (arc_slice_items h.path) h.waiting.items
 
 abbrev pub AreSharable : List Node → Type 0
 AreSharable nodes = All (λ n. CanBeShared n.word) nodes

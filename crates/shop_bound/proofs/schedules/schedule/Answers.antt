@@ -1,6 +1,7 @@
 use Rattle.std.proofs.{Common.{rules, inl, inr, arith, ap, ◌≡◌, ◌∙◌, List, length}, lemmas.List.length-map}
 use Rattle.shop_bound.specs.{inner.Serving.triples_of, declared.triples.Triple.Triple, OneMachine.one}
-use Rattle.shop_bound.proofs.{QueueTurns.{none_waits, room_kept}, Turns.{ready_or_done, ready_run, started, all_done}}
+use Rattle.shop_bound.proofs.{QueueTurns.{none_released, room_kept}, Turns.{ready_or_done, ready_run, started}}
+use Rattle.shop_bound.proofs.Turns.{all_done}
 use Rattle.shop_bound.proofs.TurnCounts.{ready_turns, undone-none, undone-fresh, turns_left-two}
 use Rattle.shop_bound.proofs.WorkSums.{IsFresh, fresh-is, fresh-triples}
 use Rattle.shop_bound.proofs.schedules.schedule.Goals as goal
@@ -33,7 +34,7 @@ loop-chosen-preserved c = search (rules, room_kept, ready_run, ready_or_done, re
 
 pub returns-clause-bound : goal.returns-clause-bound
 returns-clause-bound c = elim c.loop-chosen.invariant.ready [
-  | inl w ↦ (absurd (none_waits _ _ _ _ c.loop-chosen.invariant.queue.are c.loop-chosen.invariant.later
+  | inl w ↦ (absurd (none_released _ _ _ _ c.loop-chosen.invariant.queue.are c.loop-chosen.invariant.later
       c.in_default.ensures w.0 w.1))
   | inr d ↦ all_done c.loop-chosen.works c.loop-chosen.clock c.loop-chosen.best c.loop-chosen.invariant.run d
       ∙ ap (λ (ts : List Triple). one ts) c.loop-chosen.invariant.same
@@ -41,7 +42,7 @@ returns-clause-bound c = elim c.loop-chosen.invariant.ready [
 
 pub returns-clause-each : goal.returns-clause-each
 returns-clause-each c = elim c.loop-chosen.invariant.ready [
-  | inl w ↦ (absurd (none_waits _ _ _ _ c.loop-chosen.invariant.queue.are c.loop-chosen.invariant.later
+  | inl w ↦ (absurd (none_released _ _ _ _ c.loop-chosen.invariant.queue.are c.loop-chosen.invariant.later
       c.in_default.ensures w.0 w.1))
   | inr d ↦ (let e = undone-none c.loop-chosen.works d in omega (arith, c.loop-chosen.invariant.each))
 ]

@@ -8,7 +8,7 @@ invariant-loop-i l = record {
   count : heap_len l.self.coming ≡ l.i;
   room : length l.triples ≤ heap_capacity l.self.coming;
   grown : heap_capacity l.fn.self.coming ≤ heap_capacity l.self.coming;
-  waiting : heap_items l.self.waiting ≡ [];
-  none : heap_len l.self.waiting ≡ 0;
-  kept : heap_capacity l.self.waiting ≡ heap_capacity l.fn.self.waiting;
+  released : heap_items l.self.released ≡ [];
+  none : heap_len l.self.released ≡ 0;
+  kept : heap_capacity l.self.released ≡ heap_capacity l.fn.self.released;
 }

@@ -13,13 +13,13 @@ bounds-works-position c =
 pub loop-position-preserved : goal.loop-position-preserved
 loop-position-preserved c =
     let v = c.loop-position.invariant in let t = c.in-Some.ensures in let p = c.push.ensures
-    in let coming = v.room.coming in let waiting = v.room.waiting
-    in let same : heap_capacity c.pop_released.new.self.waiting ≡ heap_capacity c.loop-position.self.waiting =
-    rw t.waiting refl
+    in let coming = v.room.coming in let released = v.room.released
+    in let same : heap_capacity c.pop_released.new.self.released ≡ heap_capacity c.loop-position.self.released =
+    rw t.released refl
     in record {
       queue = queue_more c.args.works.now c.args.clock c.in-Some.position c.loop-position.self
           c.pop_released.new.self _ v.queue
-          t.taken t.fewer t.waiting refl _ (rw c.unwrap.ensures at p.permutation) refl refl
+          t.taken t.fewer t.released refl _ (rw c.unwrap.ensures at p.permutation) refl refl
           (rw c.unwrap.ensures at p.len) p.capacity;
-      room = record { coming = omega arith; waiting = omega arith };
+      room = record { coming = omega arith; released = omega arith };
     }
