@@ -56,7 +56,7 @@ pub trait Block: Copy + Drop {
         ensures { numbers result ≡ replicate 8 number };
 
     /// Reads eight numbers of `row`, from number 8 * `block` on.
-    fn load(row: &[Self::Number], block: usize) -> Self
+    fn read(row: &[Self::Number], block: usize) -> Self
         requires { 8 * (block + 1) ≤ length row.now }
         ensures { numbers result ≡ take 8 (drop (8 * block) (map value row.now)) };
 

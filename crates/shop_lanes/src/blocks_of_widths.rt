@@ -73,7 +73,7 @@ impl Block for Block16 {
     }
 
     #[inline(always)]
-    fn load(row: &[u16], block: usize) -> Self {
+    fn read(row: &[u16], block: usize) -> Self {
         Block16(u16x8::from_slice(&row[8 * block..]))
     }
 
@@ -171,7 +171,7 @@ impl Block for Block32 {
     }
 
     #[inline(always)]
-    fn load(row: &[u32], block: usize) -> Self {
+    fn read(row: &[u32], block: usize) -> Self {
         Block32(u32x8::from_slice(&row[8 * block..]))
     }
 
@@ -269,7 +269,7 @@ impl Block for Block64 {
     }
 
     #[inline(always)]
-    fn load(row: &[u64], block: usize) -> Self {
+    fn read(row: &[u64], block: usize) -> Self {
         Block64(u64x8::from_slice(&row[8 * block..]))
     }
 

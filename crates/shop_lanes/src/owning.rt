@@ -41,9 +41,9 @@ fn note_columns<B: Block>(
     for block in 0..count / 8 {
         B::store(most, owns, block);
         let (after, later) = serve(
-            B::load(rows.heads, block),
-            B::load(rows.times, block),
-            B::load(rows.tails, block),
+            B::read(rows.heads, block),
+            B::read(rows.times, block),
+            B::read(rows.tails, block),
             one,
             clocks,
             most,
@@ -75,10 +75,10 @@ fn write_back<B: Block>(
     let mut block = count / 8;
     while block > 0 {
         block -= 1;
-        let head = B::load(rows.heads, block);
-        let time = B::load(rows.times, block);
-        let tail = B::load(rows.tails, block);
-        let noted = B::load(owns, block);
+        let head = B::read(rows.heads, block);
+        let time = B::read(rows.times, block);
+        let tail = B::read(rows.tails, block);
+        let noted = B::read(owns, block);
         // If all waiting operations are served by rank from time 0 on, `first` and `behind` hold in each lane the
         // greatest end, tail included, of the operations before and after its own. `behind` includes the time of the
         // lane's own operation, which is taken off here.

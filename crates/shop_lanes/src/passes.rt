@@ -26,9 +26,9 @@ pub(crate) fn load_of<B: Block>(count: usize, rows: &LaneRows<B::Number>, least:
     let mut most = B::splat(0);
     for block in 0..count / 8 {
         let (after, later) = serve(
-            B::load(rows.heads, block),
-            B::load(rows.times, block),
-            B::load(rows.tails, block),
+            B::read(rows.heads, block),
+            B::read(rows.times, block),
+            B::read(rows.tails, block),
             from,
             clocks,
             most,
@@ -52,7 +52,7 @@ fn bits_of<B: Block>(count: usize, numbers: &[B::Number], equal: bool, number: u
     let mut bits = 0;
     let mut pair = count / 16;
     if count % 16 > 0 {
-        bits = B::bits(B::load(numbers, 2 * pair), equal, number);
+        bits = B::bits(B::read(numbers, 2 * pair), equal, number);
     }
     while pair > 0 {
         pair -= 1;
@@ -103,7 +103,7 @@ fn least_number<B: Block>(count: usize, numbers: &[B::Number]) -> u64
 {
     let mut least = B::splat(B::GREATEST);
     for block in 0..count / 8 {
-        least = B::lesser(least, B::load(numbers, block));
+        least = B::lesser(least, B::read(numbers, block));
     }
     least_of(least)
 }
@@ -129,7 +129,7 @@ fn first_least_of_any<B: Block>(numbers: &[B::Number]) -> (usize, u64)
 {
     let least = least_number::<B>(numbers.len(), numbers);
     for block in 0..numbers.len() / 8 {
-        let bits = B::bits(B::load(numbers, block), true, least);
+        let bits = B::bits(B::read(numbers, block), true, least);
         if bits != 0 {
             return (8 * block + bits.trailing_zeros() as usize, least);
         }

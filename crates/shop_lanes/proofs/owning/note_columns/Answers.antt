@@ -6,8 +6,8 @@ use Rattle.shop_lanes.proofs.owning.note_columns.Goals as goal
 pub serve-after-requires-clause-fits : goal.serve-after-requires-clause-fits
 serve-after-requires-clause-fits g c =
     let cols = columns_in g.B.Block.value c.args.rows.now c.args.count c.requires.count c.requires.can.whole_blocks
-    in let fit = both_fit cols (parts cols) 1 c.loop-block-test.true c.load.ensures c.load-in-loop-block.ensures
-    c.load-in-loop-block-2.ensures c.splat-one.ensures c.loop-block.invariant.served g.B.Block.GREATEST
+    in let fit = both_fit cols (parts cols) 1 c.loop-block-test.true c.read.ensures c.read-in-loop-block.ensures
+    c.read-in-loop-block-2.ensures c.splat-one.ensures c.loop-block.invariant.served g.B.Block.GREATEST
     c.requires.can.fits.whole
     in record { clocks_fit = fit.0; ends_fit = fit.1 }
 
@@ -15,8 +15,8 @@ pub loop-block-preserved : goal.loop-block-preserved
 loop-block-preserved g c =
     let cols = columns_in g.B.Block.value c.args.rows.now c.args.count c.requires.count c.requires.can.whole_blocks
     in note_more c.loop-block-test.true c.loop-block.invariant c.store.ensures
-    (served_more cols (parts cols) 1 c.loop-block-test.true c.load.ensures c.load-in-loop-block.ensures
-    c.load-in-loop-block-2.ensures c.splat-one.ensures c.loop-block.invariant.served c.serve-after.ensures.clocks_are
+    (served_more cols (parts cols) 1 c.loop-block-test.true c.read.ensures c.read-in-loop-block.ensures
+    c.read-in-loop-block-2.ensures c.splat-one.ensures c.loop-block.invariant.served c.serve-after.ensures.clocks_are
     c.serve-after.ensures.most_are)
 
 pub serve-after-requires-clause-heads : goal.serve-after-requires-clause-heads

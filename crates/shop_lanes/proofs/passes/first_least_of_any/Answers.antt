@@ -7,7 +7,7 @@ overflow_add-result g c =
     let test = c.loop-block-test.true
     in let long = length-map c.args.numbers.now g.B.Block.value
     in let found = position_in_block c.least_number-least.result c.loop-block.block
-    (map g.B.Block.value c.args.numbers.now) (omega (arith, long)) c.loop-block.invariant c.load.ensures
+    (map g.B.Block.value c.args.numbers.now) (omega (arith, long)) c.loop-block.invariant c.read.ensures
     c.bits-bits.ensures c.if-bits-ne0.true
     in let within = found.within
     in let room = c.requires.room
@@ -20,13 +20,13 @@ returns-then-bits-ne0 g c =
     in let long = length-map c.args.numbers.now g.B.Block.value
     in least_found g.B.Block.GREATEST row c.least_number-least.result _ (omega (arith, long, c.requires.some))
     c.requires.fits c.least_number-least.ensures (position_in_block c.least_number-least.result c.loop-block.block row
-    (omega (arith, long)) c.loop-block.invariant c.load.ensures c.bits-bits.ensures c.if-bits-ne0.true)
+    (omega (arith, long)) c.loop-block.invariant c.read.ensures c.bits-bits.ensures c.if-bits-ne0.true)
 
 pub loop-block-preserved : goal.loop-block-preserved
 loop-block-preserved g c =
     let test = c.loop-block-test.true
     in none_in_block c.least_number-least.result c.loop-block.block (map g.B.Block.value c.args.numbers.now)
-    (omega (arith, length-map c.args.numbers.now g.B.Block.value)) c.loop-block.invariant c.load.ensures
+    (omega (arith, length-map c.args.numbers.now g.B.Block.value)) c.loop-block.invariant c.read.ensures
     c.bits-bits.ensures c.if-bits-ne0.false
 
 pub returns : goal.returns
