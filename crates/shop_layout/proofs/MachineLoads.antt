@@ -6,7 +6,7 @@ use Rattle.shop_lanes.specs.Rows.{blocks, by_columns}
 use Rattle.shop_lanes.proofs.{Columns.{by_columns-at, length-by_columns, place_fits}, LaneLists.length-blocks}
 use Rattle.shop_model.specs.{declared.ops.Op.Op, Limits.IsWithinLimits, Shop.{Shop, route_of, time_of}}
 use Rattle.shop_bound.{specs.{OneMachine.greatest_of, Heads.tail_in}, proofs.TimeSums.route_times}
-use Rattle.shop_layout.specs.{HeadLimits.{total_before, load_on}, declared.slots.Slot.Slot}
+use Rattle.shop_layout.specs.{HeadLimits.{total_before, most_load_on}, declared.slots.Slot.Slot}
 use Rattle.shop_layout.specs.Positions.{LayoutState, IsLaidOut, first_position, position_at_rank}
 use Rattle.shop_layout.proofs.{ApartSlots.slots_few, ColumnSums.sum_by_columns, LaidPlaces.machines_rise, Ranks.rank_at}
 use Rattle.shop_layout.proofs.SlotFacts.{slots_are_operations}
@@ -121,9 +121,9 @@ module _ (shop : Shop) (limits : IsWithinLimits shop) (l : LayoutState) (laid : 
     tail_small : (i : ℕ) → get_or (blocks from to l.tails) i 0 ≤ 100000000000
     tail_small i = grind (arith, within, cases_lt, block_at, tail_at, block_past)
 
-    pub load_small : load_on l m < 2 ^ 47
+    pub most_load_small : most_load_on l m < 2 ^ 47
     unfolding slots ranked
-    load_small =
+    most_load_small =
         let a = sum_front 1000000000 ranked (length slots) time_small time_behind
         in let same = sum_by_columns (λ (t : ℕ). t) (to - from) (blocks from to l.times) whole_blocks
         in let few = slots_few shop limits m slots (laid.are.slots m known)

@@ -29,11 +29,11 @@ pub record LayoutState : Type 0 where
   pub blocks : List ℕ
   pub machines : List ℕ
 
-abbrev pub place : LayoutState → ℕ → ℕ → ℕ
-place l j k = slice_index (slice_index_or l.places j []) k
-
 abbrev pub place_in : List (List ℕ) → ℕ → ℕ → ℕ
 place_in rows j k = slice_index (slice_index_or rows j []) k
+
+abbrev pub place : LayoutState → ℕ → ℕ → ℕ
+place l j k = place_in l.places j k
 
 abbrev pub place_or : ℕ → List (List ℕ) → ℕ → ℕ → ℕ
 place_or n rows j k = if nat_lt k (length (slice_index_or rows j [])) then place_in rows j k else n

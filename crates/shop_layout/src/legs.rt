@@ -103,8 +103,8 @@ pub(crate) fn legs_with_behind(
 {
     let (times, places) = (positions.times.as_slice(), positions.places.as_slice());
     let machines = positions.machines.as_slice();
-    let (legs, firsts) = legs_of(alloc, places, machines, times, positions.end)?;
     let (jobs, steps) = (positions.jobs.as_slice(), positions.steps.as_slice());
+    let (legs, firsts) = legs_of(alloc, places, machines, times, jobs.len() as u32)?;
     let behind = behind_of(alloc, jobs, steps, firsts.as_slice())?;
     Ok((legs, behind))
 }

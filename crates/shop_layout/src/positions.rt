@@ -19,24 +19,22 @@ use std::marker::Model;
 pub(crate) struct Positions {
     /// the job of the operation at each position, 0 at padding
     pub(crate) jobs: Vec<u32>,
-    /// the step of the operation at each position, 0 at padding
+    /// the step of the operation at each position, 0 at padding; read only while the layout is made
     pub(crate) steps: Vec<u32>,
     /// the time of the operation at each position, 0 at padding
     pub(crate) times: Vec<u64>,
-    /// the tail of the operation at each position, 0 at padding
+    /// the tail of the operation at each position, 0 at padding; read only while the layout is made
     pub(crate) tails: Vec<u64>,
-    /// the position of each operation, by job and step
+    /// the position of each operation, by job and step; read only while the layout is made
     pub(crate) places: Vec<Vec<u32>>,
     /// the first block of each machine, then the number of all blocks
     pub(crate) blocks: Vec<u32>,
     /// the machine of each position
     pub(crate) machines: Vec<u32>,
-    /// the number of all positions
-    pub(crate) end: u32,
 }
 
 impl Model for Positions {
-    ghost use Rattle.std.specs.Prelude.{◌≡◌, length};
+    ghost use Rattle.std.specs.Prelude.{◌^◌, ◌<◌, length};
     ghost use Rattle.shop_layout.specs.{Positions.LayoutState, inner.Vectors.items_in};
 
     ghost Value = { LayoutState };
@@ -51,7 +49,7 @@ impl Model for Positions {
       machines = l.machines.items;
     } };
 
-    ghost invariant = { λ l. l.end ≡ length l.jobs.items };
+    ghost invariant = { λ l. length l.jobs.items < 2 ^ 32 };
 }
 
 /// The slot at padding: its time and tail are 0.
@@ -206,7 +204,7 @@ pub(crate) fn even_blocks(blocks: &[u32]) -> usize
 impl Positions {
     /// Lays out the operations of `instance` by position, machine after machine by rank. Fails with `NoMemory` if
     /// memory runs out.
-    pub(crate) fn of(
+    pub(crate) fn new(
         alloc: Global,
         instance: &Instance,
         ranks: &[usize],
@@ -227,7 +225,6 @@ impl Positions {
             tails: slots.iter().map(|s| s.tail).collect(alloc)?,
             places,
             blocks,
-            end: slots.len() as u32,
         })
     }
 }

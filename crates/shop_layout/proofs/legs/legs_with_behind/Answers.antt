@@ -56,7 +56,7 @@ pub returns : goal.returns
 returns c =
     let rows = made (c.as_slice-machines.ensures.value ∙ ap (λ (x : LayoutState). x.machines) c.positions.view_is)
     (c.as_slice-times.ensures.value ∙ ap (λ (x : LayoutState). x.times) c.positions.view_is)
-    (c.positions.invariant ∙ ap (λ (x : LayoutState). length x.jobs) c.positions.view_is)
+    (ap length (c.as_slice-jobs.ensures.value ∙ ap (λ (x : LayoutState). x.jobs) c.positions.view_is))
     (ap items_in c.as_slice-places.ensures.value ∙ ap (λ (x : LayoutState). x.places) c.positions.view_is)
     (c.as_slice-jobs.ensures.value ∙ ap (λ (x : LayoutState). x.jobs) c.positions.view_is)
     (c.as_slice-steps.ensures.value ∙ ap (λ (x : LayoutState). x.steps) c.positions.view_is)

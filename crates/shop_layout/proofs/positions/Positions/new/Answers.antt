@@ -5,7 +5,7 @@ use Rattle.shop_layout.specs.{declared.slots.Slot.Slot, Ranks.{AreRanks, ranked}
 use Rattle.shop_layout.specs.inner.Layings.{AreCells, ArePlaces, AreShorter, HaveRoom}
 use Rattle.shop_layout.{specs.Positions.AreMachinesOf, proofs.RankedShops.{jobs_ranked, limits_ranked}}
 use Rattle.shop_layout.proofs.{LaidLists.{blocks_few, cells_known, laid_out, machine_few}, RankedSlots.places_ranked}
-use Rattle.shop_layout.proofs.positions.Positions.of.Goals as goal
+use Rattle.shop_layout.proofs.positions.Positions.new.Goals as goal
 
 -- the slots of the machines, as they were lent, and the cells that they make
 module _ {shop : Shop} (limits : IsWithinLimits shop) {ranks : List ℕ} (by : AreRanks shop.machines ranks)
@@ -116,15 +116,11 @@ returns c =
     (machines_are c.as_slice-4.result.now blocks c.as_slice-4.ensures.value shop.machines
     cells.machines c.in_ok-machines_of.field-0.items c.in_ok-machines_of.ensures)
 
-pub overflow_cast-result : goal.overflow_cast-result
-overflow_cast-result c =
-    let small = slots_small c.keeps_limits.ensures c.requires c.as_slice.ensures.value c.in_ok-lists.ensures
-    c.in_ok-slots.ensures c.as_slice-slots.ensures.value
-    in record { fits = small }
-
 pub invariant_of-result : goal.invariant_of-result
 invariant_of-result c =
-    sym (ap length c.in_ok-jobs_of.ensures ∙ length-map c.as_slice-slots.result.now _)
+    let small = slots_small c.keeps_limits.ensures c.requires c.as_slice.ensures.value c.in_ok-lists.ensures
+    c.in_ok-slots.ensures c.as_slice-slots.ensures.value
+    in let long = ap length c.in_ok-jobs_of.ensures ∙ length-map c.as_slice-slots.result.now _ in omega arith
 
 pub places_of-requires-clause-room : goal.places_of-requires-clause-room
 places_of-requires-clause-room c =
