@@ -3,7 +3,7 @@ ghost use Rattle.std.specs.Prelude.{◌≡◌, All, IfOk, IfSome, length, true};
 ghost use Rattle.std.specs.Thread.{IsSync};
 ghost use Rattle.shop_runs.specs.Hits.{hits_of_round, is_hit_in};
 ghost use Rattle.shop_workers.specs.Seats.{hits_of, IsSeatOf};
-ghost use Rattle.crew_tests.specs.inner.Served.{HasServedOf};
+ghost use Rattle.crew_tests.specs.inner.Handled.{HasHandledOf};
 
 use crate::rounds::{RoundTest, in_third_round};
 use crate::telling::{assert_entries, assert_number};
@@ -80,8 +80,8 @@ fn a_worker_passes_behind_the_mark_of_another_seat(rt: HostRuntime) {
 
 /// Makes three seats of one that has won nothing.
 fn three_seats(rt: &impl Abort, alloc: Global, board: &Board, seat: Seat) -> Vec<Seat>
-    requires { HasServedOf board.now seat 0 }
-    ensures { All (λ s. HasServedOf board.now s 0) result.items }
+    requires { HasHandledOf board.now seat 0 }
+    ensures { All (λ s. HasHandledOf board.now s 0) result.items }
 {
     let (first, second) = board.split(seat);
     let (second, third) = board.split(second);
@@ -153,9 +153,9 @@ struct Worked {
 }
 
 fn work_one<'r>(alloc: Global, board: &Board, seat: Seat, round: &'r Round<'r>) -> Option<Worked>
-    requires seat { HasServedOf board.now seat 0 }
+    requires seat { HasHandledOf board.now seat 0 }
     requires round { hits_of board.now ≡ hits_of_round round.now }
-    ensures { IfSome result (λ w. HasServedOf board.now w.seat w.won) }
+    ensures { IfSome result (λ w. HasHandledOf board.now w.seat w.won) }
 {
     let (seat, entries) = work(alloc, board, seat, round, 0, &OpenGate);
     match entries {
@@ -175,22 +175,22 @@ fn work_by_threads<'r, R: Threads + Sync>(
     seats: Vec<Seat>,
     round: &'r Round<'r>,
 ) -> Result<Vec<Option<Worked>>, NoMemory>
-    requires seats { All (λ s. HasServedOf board.now s 0) seats.items }
+    requires seats { All (λ s. HasHandledOf board.now s 0) seats.items }
     requires round { hits_of board.now ≡ hits_of_round round.now }
     ensures { IfOk result
-        (λ v. All (λ o. IfSome o (λ w. HasServedOf board.now w.seat w.won)) v.items) }
+        (λ v. All (λ o. IfSome o (λ w. HasHandledOf board.now w.seat w.won)) v.items) }
 {
     let worker = move |seat: Seat| -> Option<Worked>
-        requires { HasServedOf board.now seat 0 × (hits_of board.now ≡ hits_of_round round.now) }
-        ensures { IfSome result (λ w. HasServedOf board.entry.now w.seat w.won) }
+        requires { HasHandledOf board.now seat 0 × (hits_of board.now ≡ hits_of_round round.now) }
+        ensures { IfSome result (λ w. HasHandledOf board.entry.now w.seat w.won) }
     { work_one(alloc, board, seat, round) };
     thread::map_vec(rt, seats, &worker)
 }
 
 fn join_two(rt: &impl Abort, board: &Board, first: Worked, second: Worked) -> Worked
-    requires first { HasServedOf board.now first.seat first.won }
-    requires second { HasServedOf board.now second.seat second.won }
-    ensures { HasServedOf board.now result.seat result.won }
+    requires first { HasHandledOf board.now first.seat first.won }
+    requires second { HasHandledOf board.now second.seat second.won }
+    ensures { HasHandledOf board.now result.seat result.won }
 {
     Worked {
         won: first.won.checked_add(second.won).expect(rt, "few pieces"),
@@ -199,8 +199,8 @@ fn join_two(rt: &impl Abort, board: &Board, first: Worked, second: Worked) -> Wo
 }
 
 fn join_worked(rt: &impl Abort, board: &Board, mut all: Vec<Option<Worked>>) -> Worked
-    requires { All (λ o. IfSome o (λ w. HasServedOf board.now w.seat w.won)) all.items }
-    ensures { HasServedOf board.now result.seat result.won }
+    requires { All (λ o. IfSome o (λ w. HasHandledOf board.now w.seat w.won)) all.items }
+    ensures { HasHandledOf board.now result.seat result.won }
 {
     let mut joined = all.pop().flatten().expect(rt, "memory");
     while let Some(worked) = all.pop() {

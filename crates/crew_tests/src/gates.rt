@@ -5,7 +5,7 @@ use crate::rounds::{RoundTest, in_second_round};
 use shop_nodes::Sheet;
 use shop_round::PieceSearcher;
 use shop_runs::{PieceSearch, Round};
-use shop_workers::{Board, Gate, Pool, Seat, SeatGate, claim_and_search_all, serve};
+use shop_workers::{Board, Gate, Pool, Seat, SeatGate, claim_and_search_all, search_pool};
 use std::alloc::{AllocError as NoMemory, Global};
 use std::process::Abort;
 use std::sync::atomic::{AtomicUsize, Ordering};
@@ -126,7 +126,7 @@ fn calls_on_pool<'r, P: PieceSearch<'r>, R: Wait>(
 ) -> (usize, bool) {
     let gate = Calls::new();
     let pool = Mutex::new(Pool::open(searcher.round().pieces.len()));
-    let entries = serve(rt, alloc, searcher, &pool, &gate, 3);
+    let entries = search_pool(rt, alloc, searcher, &pool, &gate, 3);
     (gate.noted(), entries.is_ok())
 }
 

@@ -8,8 +8,8 @@ use crate::telling::{assert_entries, assert_number};
 use shop_board::{BoardCrew, LockCrew, work};
 use shop_runs::{Plan, Round, Standing};
 use shop_workers::{
-    Board, Gate, OpenGate, Pool, Returned, Seat, SeatGate, complete, place_all, place_returned,
-    serve,
+    Board, Gate, OpenGate, Pool, Returned, Seat, SeatGate, complete, put_all, put_returned,
+    search_pool,
 };
 use std::alloc::Global;
 use std::process::Abort;
@@ -146,15 +146,15 @@ impl<R: Abort> RoundTest<R> for NothingBrought {
         let (seat, mut other) = board.split(seat);
         let entries = Ok(Vec::new(alloc));
         let returned = vec![in alloc; Returned { seat, entries }].expect(rt, "memory");
-        let placed = place_returned(alloc, &board, round, returned).expect(rt, "memory");
-        let entries = complete(alloc, &mut Once::over(round), placed).expect(rt, "memory");
+        let by_piece = put_returned(alloc, &board, round, returned).expect(rt, "memory");
+        let entries = complete(alloc, &mut Once::over(round), by_piece).expect(rt, "memory");
         assert_entries(rt, alloc, &entries, "10 1 0, 12 2 0, 14 2 0, ");
         let (first, second) = (board.claim(&mut other, 0), board.claim(&mut other, 1));
         let third = board.claim(&mut other, 2);
         assert!(rt; !first && !second && !third);
         let brought = vec![in alloc; Ok(Vec::new(alloc))].expect(rt, "memory");
-        let placed = place_all(alloc, round, brought).expect(rt, "memory");
-        let entries = complete(alloc, &mut Once::over(round), placed).expect(rt, "memory");
+        let by_piece = put_all(alloc, round, brought).expect(rt, "memory");
+        let entries = complete(alloc, &mut Once::over(round), by_piece).expect(rt, "memory");
         assert_entries(rt, alloc, &entries, "10 1 0, 12 2 0, 14 2 0, ");
     }
 }
@@ -174,14 +174,14 @@ impl<R: Abort + Wait> RoundTest<R> for AllBrought {
         let (board, seat) = Board::open(alloc, round).expect(rt, "memory");
         let (seat, entries) = work(alloc, &board, seat, round, 0, &OpenGate);
         let returned = vec![in alloc; Returned { seat, entries }].expect(rt, "memory");
-        let placed = place_returned(alloc, &board, round, returned).expect(rt, "memory");
-        let entries = complete(alloc, &mut Refused::over(round), placed).expect(rt, "memory");
+        let by_piece = put_returned(alloc, &board, round, returned).expect(rt, "memory");
+        let entries = complete(alloc, &mut Refused::over(round), by_piece).expect(rt, "memory");
         assert_entries(rt, alloc, &entries, "10 1 0, by 0, by 0, ");
         let pool = Mutex::new(Pool::open(round.pieces.len()));
-        let entries = serve(rt, alloc, &mut Once::over(round), &pool, &OpenGate, 0);
+        let entries = search_pool(rt, alloc, &mut Once::over(round), &pool, &OpenGate, 0);
         let brought = vec![in alloc; entries].expect(rt, "memory");
-        let placed = place_all(alloc, round, brought).expect(rt, "memory");
-        let entries = complete(alloc, &mut Refused::over(round), placed).expect(rt, "memory");
+        let by_piece = put_all(alloc, round, brought).expect(rt, "memory");
+        let entries = complete(alloc, &mut Refused::over(round), by_piece).expect(rt, "memory");
         assert_entries(rt, alloc, &entries, "10 1 0, by 0, by 0, ");
     }
 }

@@ -1,15 +1,15 @@
 // Searches a round by workers that claim its pieces on a board.
 ghost use Rattle.std.specs.Prelude.{◌≡◌, length, vec_len, All, IfOk, OnOk};
 ghost use Rattle.shop_runs.specs.{Entries.told, Crews.OneForEach, Hits.hits_of_round};
-ghost use Rattle.shop_workers.specs.{Views.HasServed, Seats.{knows, hits_of, IsSeatOf}};
+ghost use Rattle.shop_workers.specs.{Views.HasHandled, Seats.{knows, hits_of, IsSeatOf}};
 ghost use Rattle.shop_workers.specs.{Works.{Grows, IsAllKnown, BringsWon}, inner.Returns.{IsReturned, AreReturned}};
 
 use crate::completing::complete_round;
-use crate::waiting::map_waiting;
+use crate::on_threads::map_on_threads;
 use shop_round::PieceSearcher;
 use shop_runs::{Entry, Round};
 use shop_workers::{
-    Board, Lent, Returned, Seat, SeatGate, claim_and_search_all, place_returned, seats_for_workers,
+    Board, Lent, Returned, Seat, SeatGate, claim_and_search_all, put_returned, seats_for_workers,
 };
 use std::alloc::{AllocError as NoMemory, Global};
 use std::thread::Threads;
@@ -31,7 +31,7 @@ pub fn work<'r, G: SeatGate>(
     ensures grows { Grows (knows seat) (knows result.0) }
     ensures claimed { OnOk result.1 (IsAllKnown (length round.now.pieces.items) (knows result.0)) }
     ensures entries { BringsWon (told round.now) (knows seat) (knows result.0) result.1 }
-    ensures served { OnOk result.1 (HasServed (knows seat) → HasServed (knows result.0)) }
+    ensures handled { OnOk result.1 (HasHandled (knows seat) → HasHandled (knows result.0)) }
 {
     let mut seat = seat;
     let mut searcher = PieceSearcher::over(round);
@@ -60,7 +60,7 @@ fn work_all<'r, R: Threads + Sync, G: SeatGate + Sync>(
         let (seat, entries) = work(alloc, board, lent.seat, round, lent.worker, gate);
         Returned { seat, entries }
     };
-    map_waiting(rt, alloc, lent, &worker)
+    map_on_threads(rt, alloc, lent, &worker)
 }
 
 /// Searches `round` by `workers` workers (fewer if it has fewer pieces) that claim its pieces on a board. Returns one
@@ -79,9 +79,5 @@ pub fn search_claimed<'r, R: Threads + Sync, G: SeatGate + Sync>(
     let (board, seat) = Board::open(alloc, round)?;
     let lent = seats_for_workers(alloc, &board, seat, workers.min(round.pieces.len()))?;
     let returned = work_all(rt, alloc, &board, lent, round, gate)?;
-    complete_round(
-        alloc,
-        round,
-        place_returned(alloc, &board, round, returned)?,
-    )
+    complete_round(alloc, round, put_returned(alloc, &board, round, returned)?)
 }

@@ -5,7 +5,7 @@ mod board_crews;
 mod board_search;
 mod completing;
 mod lock_crews;
-mod waiting;
+mod on_threads;
 mod worker_crews;
 
 pub use board_crews::BoardCrew;

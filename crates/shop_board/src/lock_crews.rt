@@ -6,7 +6,7 @@ ghost use Rattle.shop_workers.specs.Entries.{OfRound};
 use crate::completing::complete_round;
 use shop_round::PieceSearcher;
 use shop_runs::{Crew, Entry, Round, Workers};
-use shop_workers::{Gate, OpenGate, Pool, place_all, serve};
+use shop_workers::{Gate, OpenGate, Pool, put_all, search_pool};
 use std::alloc::{AllocError as NoMemory, Global};
 use std::sync::{Mutex, Wait};
 use std::thread;
@@ -66,10 +66,10 @@ impl<G: Gate + Sync> LockCrew<G> {
                 ensures { IfOk result (λ v. OfRound (told round.entry.now) v.items) }
             {
                 let mut searcher = PieceSearcher::over(round);
-                serve(rt, alloc, &mut searcher, lock, gate, count - 1 - index)
+                search_pool(rt, alloc, &mut searcher, lock, gate, count - 1 - index)
             },
         )?;
-        complete_round(alloc, round, place_all(alloc, round, lists)?)
+        complete_round(alloc, round, put_all(alloc, round, lists)?)
     }
 }
 

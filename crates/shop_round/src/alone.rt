@@ -75,6 +75,7 @@ impl<R> Crew<R> for Alone {
 }
 
 /// Searches `instance` by `plan`, as `run` does, on the calling thread alone. Fails with `NoMemory` if memory runs out.
+/// For library callers and tests: the program doesn't use `run_alone`.
 pub fn run_alone(alloc: Global, instance: &Instance, plan: &Plan) -> Result<Answer, NoMemory>
     ensures says { IfOk result (λ a. SaysAnswer instance.now plan.now a) }
     ensures trust { IfOk result (λ a. IsTrusted instance.now a) }

@@ -1,4 +1,4 @@
-// Open nodes for the order `Bound` if bounds are small: a row of stacks of words, one for each bound.
+// Open nodes for the order `Bound` if bounds are small: a bucket queue, a row with a stack of words for each bound.
 ghost use Rattle.std.specs.Prelude.{◌≡◌, ◌==◌, ◌^◌, ◌<◌, ◌≤◌, ◌∷◌, [], length, vec_len, take, drop};
 ghost use Rattle.std.specs.Prelude.{IfOk, IfSome, OnOk, OnErr};
 ghost use Rattle.shop_nodes.specs.{Branching.insert_by, inner.HeldNodes.nodes_below};
@@ -13,8 +13,8 @@ use shop_nodes::{Node, SharedNode};
 use std::alloc::{AllocError as NoMemory, Global};
 use std::marker::Model;
 
-/// A place of a row: the stack of a bound, if there is one. It takes 16 bytes.
-type Place = Option<Box<Stack>>;
+/// A bucket of a row: the stack of a bound, if there is one. It takes 16 bytes.
+type Bucket = Option<Box<Stack>>;
 
 /// Makes a stack of one word, in a box. Fails with `NoMemory` if memory runs out; the word is then lost.
 fn boxed(alloc: Global, word: SharedWord) -> Result<Box<Stack>, NoMemory>
@@ -23,50 +23,50 @@ fn boxed(alloc: Global, word: SharedWord) -> Result<Box<Stack>, NoMemory>
     Ok(Box::new(alloc, Stack::of(alloc, word))?)
 }
 
-/// Puts `word` on top of the stack at a place, or makes a stack of `word` if the place is empty. Fails with `NoMemory`
-/// if memory runs out; the stack has then lost words.
+/// Puts `word` on top of the stack in a bucket, or makes a stack of `word` if the bucket is empty. Fails with
+/// `NoMemory` if memory runs out; the stack has then lost words.
 #[inline(always)]
-fn push_at(alloc: Global, place: &mut Place, word: SharedWord) -> Result<(), NoMemory>
-    ensures { OnOk result (words_at place.new ≡ word ∷ words_at place.old) }
+fn push_at(alloc: Global, bucket: &mut Bucket, word: SharedWord) -> Result<(), NoMemory>
+    ensures { OnOk result (words_at bucket.new ≡ word ∷ words_at bucket.old) }
 {
-    match place {
+    match bucket {
         Some(stack) => stack.push(alloc, word),
         None => {
-            *place = Some(boxed(alloc, word)?);
+            *bucket = Some(boxed(alloc, word)?);
             Ok(())
         }
     }
 }
 
-/// Takes the top word off the stack at a place, or returns `None` if there is no stack. Leaves no empty stack: the box
+/// Takes the top word off the stack in a bucket, or returns `None` if there is no stack. Leaves no empty stack: the box
 /// is given back with the last word.
-fn pop_at(place: &mut Place) -> Option<SharedWord>
-    ensures { TakesTop result place.old place.new }
+fn pop_at(bucket: &mut Bucket) -> Option<SharedWord>
+    ensures { TakesTop result bucket.old bucket.new }
 {
-    let word = match place {
+    let word = match bucket {
         Some(stack) => stack.pop_if_more(),
         None => None,
     };
     if word.is_some() {
         return word;
     }
-    let stack = place.take()?;
+    let stack = bucket.take()?;
     Some(Box::into_inner(stack).into_last())
 }
 
-/// Returns how many words the stack at a place holds. Fails with `NoMemory` if they are 2^64 or more.
-fn count_at(place: &Place) -> Result<usize, NoMemory>
-    ensures count { IfOk result (λ n. n ≡ length (words_at place.now)) }
-    ensures too_many { OnErr result (2 ^ 64 ≤ length (words_at place.now)) }
+/// Returns how many words the stack in a bucket holds. Fails with `NoMemory` if they are 2^64 or more.
+fn count_at(bucket: &Bucket) -> Result<usize, NoMemory>
+    ensures count { IfOk result (λ n. n ≡ length (words_at bucket.now)) }
+    ensures too_many { OnErr result (2 ^ 64 ≤ length (words_at bucket.now)) }
 {
-    match place {
+    match bucket {
         Some(stack) => stack.count(),
         None => Ok(0),
     }
 }
 
-/// Returns the first index from `from` on at which there is a stack, or else the number of places.
-fn first_from(stacks: &[Place], from: usize) -> usize
+/// Returns the first index from `from` on at which there is a stack, or else the number of buckets.
+fn first_from(stacks: &[Bucket], from: usize) -> usize
     requires { from ≤ length stacks.now }
     ensures { IsFirstFrom stacks.now from result }
 {
@@ -81,12 +81,12 @@ fn first_from(stacks: &[Place], from: usize) -> usize
 /// Counts the words of the stacks from `first` on until they are at least `most`. Returns the index after the last
 /// stack that was counted, or `None` if all of them hold fewer, and how many were counted. Fails with `NoMemory` if a
 /// stack holds 2^64 words or more.
-fn place_behind(
-    stacks: &[Place],
+fn bucket_behind(
+    stacks: &[Bucket],
     first: usize,
     most: usize,
 ) -> Result<(Option<usize>, usize), NoMemory>
-    ensures place { IfOk result (λ p. IfSome p.0 (IsBehind first most stacks.now)) }
+    ensures bucket { IfOk result (λ p. IfSome p.0 (IsBehind first most stacks.now)) }
     ensures count { IfOk result (λ p. p.1 ≤ length (nodes_in_row 0 stacks.now)) }
 {
     let mut count = 0_usize;
@@ -100,7 +100,7 @@ fn place_behind(
 }
 
 /// Counts the words of the stacks from `from` on in `distant`. Fails with `NoMemory` if memory runs out.
-fn count_from(stacks: &[Place], from: usize, distant: &mut DistantNodes) -> Result<(), NoMemory>
+fn count_from(stacks: &[Bucket], from: usize, distant: &mut DistantNodes) -> Result<(), NoMemory>
     requires { AreCountable (nodes_in_row from (drop from stacks.now)) distant.old }
     ensures horizon { distant.new.horizon ≡ distant.old.horizon }
     ensures added { OnOk result (AreAdded (nodes_in_row from (drop from stacks.now))
@@ -112,24 +112,24 @@ fn count_from(stacks: &[Place], from: usize, distant: &mut DistantNodes) -> Resu
     Ok(())
 }
 
-/// Moves the places from `end` on from `stacks` into `spent`, from the last to the first. Fails with `NoMemory` if
+/// Moves the buckets from `end` on from `stacks` into `spent`, from the last to the first. Fails with `NoMemory` if
 /// memory runs out; then some are left.
-fn set_aside(stacks: &mut Vec<Place>, end: usize, spent: &mut Vec<Place>) -> Result<(), NoMemory>
+fn set_aside(stacks: &mut Vec<Bucket>, end: usize, spent: &mut Vec<Bucket>) -> Result<(), NoMemory>
     requires { end ≤ vec_len stacks.old }
     ensures left { stacks.new.items ≡ take (vec_len stacks.new) stacks.old.items }
     ensures long { end ≤ vec_len stacks.new }
     ensures cut { OnOk result (vec_len stacks.new ≡ end) }
 {
     while stacks.len() > end {
-        if let Some(place) = stacks.pop() {
-            spent.push(place)?;
+        if let Some(bucket) = stacks.pop() {
+            spent.push(bucket)?;
         }
     }
     Ok(())
 }
 
-/// Adds empty places until there is one at `index`. Fails with `NoMemory` if memory runs out.
-fn reach(stacks: &mut Vec<Place>, index: usize) -> Result<(), NoMemory>
+/// Adds empty buckets until there is one at `index`. Fails with `NoMemory` if memory runs out.
+fn reach(stacks: &mut Vec<Bucket>, index: usize) -> Result<(), NoMemory>
     ensures reached { OnOk result (index < vec_len stacks.new) }
     ensures len { vec_len stacks.old ≤ vec_len stacks.new }
     ensures nodes { nodes_in_row 0 stacks.new.items ≡ nodes_in_row 0 stacks.old.items }
@@ -142,17 +142,17 @@ fn reach(stacks: &mut Vec<Place>, index: usize) -> Result<(), NoMemory>
 }
 
 /// Open nodes by bound: `stacks[b]` has the words of the open nodes of bound b. No node has a bound below `first`. The
-/// row ends at the greatest bound that was put and not let go, and takes 16 bytes for each place, and some 80 for each
+/// row ends at the greatest bound that was put and not let go, and takes 16 bytes for each bucket, and some 80 for each
 /// stack. Contracts see the list of nodes, from the least bound up.
 #[derive(Drop)]
 pub(crate) struct BoundRow {
-    stacks: Vec<Place>,
+    stacks: Vec<Bucket>,
     first: usize,
     /// how many nodes are put before `retire` counts again
     wait: usize,
     /// Stacks that `retire` took out, kept until the makespan falls to the row's length or below. Their words lie all
     /// over the heap: if they were freed at once, each later request of memory would take longer.
-    spent: Vec<Place>,
+    spent: Vec<Bucket>,
 }
 
 impl Model for BoundRow {
@@ -221,7 +221,7 @@ impl BoundRow {
 
     /// Keeps the nodes of least bounds, up to the first bound with which they are `most` or more. Counts the others in
     /// `distant`, whose horizon then is at most one above that bound. Does nothing if there are fewer nodes, or until
-    /// a node was put for each place and for every eighth node that the last call counted: so a call takes no longer,
+    /// a node was put for each bucket and for every eighth node that the last call counted: so a call takes no longer,
     /// on average, than to put the nodes since the last one. Fails with `NoMemory` if memory runs out.
     pub(crate) fn retire(&mut self, most: usize, distant: &mut DistantNodes) -> Result<(), NoMemory>
         requires { AreCountable self.old distant.old }
@@ -230,9 +230,9 @@ impl BoundRow {
         if self.wait > 0 {
             return Ok(());
         }
-        let (place, count) = place_behind(self.stacks.as_slice(), self.first, most)?;
+        let (bucket, count) = bucket_behind(self.stacks.as_slice(), self.first, most)?;
         self.wait = self.stacks.len().saturating_add(count / 8);
-        let Some(end) = place else {
+        let Some(end) = bucket else {
             return Ok(());
         };
         count_from(self.stacks.as_slice(), end, distant)?;
@@ -258,8 +258,8 @@ impl BoundRow {
         ensures too_many { OnErr result (2 ^ 64 ≤ length self.now) }
     {
         let mut count = 0_usize;
-        for place in &self.stacks {
-            count = count.checked_add(count_at(place)?).ok_or(NoMemory)?;
+        for bucket in &self.stacks {
+            count = count.checked_add(count_at(bucket)?).ok_or(NoMemory)?;
         }
         Ok(count)
     }

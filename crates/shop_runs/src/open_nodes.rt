@@ -1,7 +1,7 @@
 // The store of a run's open nodes, in the order in which the next round takes them.
 ghost use Rattle.std.specs.{Prelude.{◌≡◌, ◌==◌, ◌^◌, ◌≤◌, [], ◌∷◌, length, IfOk, OnOk, OnErr}, Arc.arc_slice_items};
 ghost use Rattle.shop_model.specs.SharedWords.{CanBeShared};
-ghost use Rattle.shop_nodes.specs.inner.HeldNodes.{child_nodes, stack_nodes, AreSharable, AreWithin, IsWithin};
+ghost use Rattle.shop_nodes.specs.inner.HeldNodes.{child_nodes, stack_nodes, AreSharable, AreWithinWord, IsWithinWord};
 ghost use Rattle.shop_runs.specs.inner.NodeLists.{least_of_bounds, AreBelow};
 ghost use Rattle.shop_runs.specs.inner.Outcomes.{left_open, open_of};
 
@@ -15,10 +15,10 @@ use shop_nodes::{Halt, Left, Node, SharedNode, Waiting};
 use std::alloc::{AllocError as NoMemory, Global};
 use std::sync::ArcSlice;
 
-/// The greatest opening makespan at which open nodes are kept in a row by bound, whose places then take 1 MB at most.
+/// The greatest opening makespan at which open nodes are kept in a row by bound, whose buckets then take 1 MB at most.
 const MOST_IN_ROW: u64 = 65_536;
 
-/// The most places of a row for each operation of the instance. A round goes through the empty places between two
+/// The most buckets of a row for each operation of the instance. A round goes through the empty buckets between two
 /// stacks in some instructions each, and through all operations for each piece in some dozens.
 const MOST_FOR_AN_OPERATION: u64 = 128;
 
@@ -141,7 +141,7 @@ impl OpenNodes {
         waiting: Waiting,
         distant: &mut DistantNodes,
     ) -> Result<(), NoMemory>
-        requires within { IsWithin (arc_slice_items path.now) waiting }
+        requires within { IsWithinWord (arc_slice_items path.now) waiting }
         requires fits { FitBelow limit (child_nodes (arc_slice_items path.now) waiting) distant.old }
         ensures { OnOk result (ArePutOrCounted limit (child_nodes (arc_slice_items path.now) waiting)
             self.old distant.old self.new distant.new) }
@@ -168,7 +168,7 @@ impl OpenNodes {
         halt: &Halt,
         distant: &mut DistantNodes,
     ) -> Result<(), NoMemory>
-        requires within { AreWithin (arc_slice_items halt.now.path) halt.now.waiting.items }
+        requires within { AreWithinWord (arc_slice_items halt.now.path) halt.now.waiting.items }
         requires fits { FitBelow limit (stack_nodes (arc_slice_items halt.now.path) halt.now.waiting.items)
             distant.old }
         ensures { OnOk result (ArePutOrCounted limit

@@ -4,7 +4,7 @@ use Rattle.std.proofs.{lemmas.Bool.{both_ways, cases_Bool}, lemmas.Map.Steps.len
 use Rattle.std.specs.List.{IsDistinct, AllByRecursion}
 use mathlib.Core.Option.{some}
 use lib.ListN.{get_elem?}
-use Rattle.shop_workers.specs.{declared.views.View.View, Views.{has, once, HasServed, ArePieces, HasAll, HasAsMany}}
+use Rattle.shop_workers.specs.{declared.views.View.View, Views.{has, once, HasHandled, ArePieces, HasAll, HasAsMany}}
 use Rattle.shop_workers.{specs.Moments.{hit_word, IsLive, IsLawful}, proofs.Numbers.{has_cons, has_tail, is_false}}
 use Rattle.shop_workers.proofs.{Numbers.{once_first, once_others, once_cons}, Words.word_read, LawfulSteps.Moment}
 use Rattle.shop_runs.specs.Hits.{is_hit_in, IsLeastHit}
@@ -31,23 +31,23 @@ all_stand xs n k o below full inside =
           let many = length-le_from_distinct_below (k ∷ xs) n (distinct (k ∷ xs) apart) within in
           omega arith
 
--- what a seat that has won all pieces and served them knows of the hit word
+-- what a seat that has won all pieces and handled them knows of the hit word
 ends : (hits : List Bool) (s : Moment) (id : ℕ) (v : View) → IsLawful hits s → IsLive s.views id v
-    → HasAll v → HasServed v → IsLeastHit hits (hit_word hits s.words)
-ends hits s id v law at all served = record {
+    → HasAll v → HasHandled v → IsLeastHit hits (hit_word hits s.words)
+ends hits s id v law at all handled = record {
   hit = law.hit;
   least = λ m below h.
       let k = law.knows id v at in
       let mine : has v.mine m ≡ true = all m (subst (λ l. m < length l) (sym k.same) below) in
       let hit : is_hit_in v.hits m ≡ true = subst (λ l. is_hit_in l m ≡ true) (sym k.same) h in
-      let b = k.below in ⊎_elim (λ d. (k.done m d).2) (λ (l : v.low < m). omega arith) (served m mine hit);
+      let b = k.below in ⊎_elim (λ d. (k.done m d).2) (λ (l : v.low < m). omega arith) (handled m mine hit);
 }
 
 -- the word that is read of a closed table
 pub closes : (hits : List Bool) (s : Moment) (id : ℕ) (v : View) (words : List ℕ) (last found : ℕ) → IsLawful hits s
-    → get_elem? s.views id ≡ some v → v.live ≡ true → HasAll v → HasServed v → s.words ≡ words → last ≡ length hits
+    → get_elem? s.views id ≡ some v → v.live ≡ true → HasAll v → HasHandled v → s.words ≡ words → last ≡ length hits
     → get_elem? words last ≡ some found → IsLeastHit hits found
-closes hits s id v words last found law at live all served same last_is read = grind (arith, word_read, ends)
+closes hits s id v words last found law at live all handled same last_is read = grind (arith, word_read, ends)
 
 -- as many pieces as there are, none of them twice, are all of them
 pub as_many_is_all : (v : View) → once v.mine ≡ true → ArePieces v.hits v.mine → HasAsMany v → HasAll v

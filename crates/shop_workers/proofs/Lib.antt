@@ -1,5 +1,5 @@
 pub mod TakenLists
-pub mod Places
+pub mod ByPiece
 pub mod ClaimSteps
 pub mod ClosedBoards
 pub mod HitSteps
@@ -9,6 +9,6 @@ pub mod Numbers
 pub mod SeatCounts
 pub mod Words
 pub mod MomentRows
-pub mod ServedEntries
+pub mod HandledEntries
 pub mod WonEntries
 pub mod TakenEntries

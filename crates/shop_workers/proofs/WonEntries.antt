@@ -6,8 +6,8 @@ use Rattle.std.proofs.lemmas.List.Elements.{All-push, All-weaker, All-get_or}
 use Rattle.std.specs.{Prelude.All, List.Sorted.IsStrictlyIncreasing}
 use native.Mathlib.Decide.{ℕ_discrete}
 use Rattle.shop_runs.specs.{Round.Told, Entries.{told, number_of}, declared.entries.Entry.Entry}
-use Rattle.shop_workers.specs.{declared.views.View.View, Entries.LetsPass, inner.Turns.{IsServedEntry, IsAhead}}
-use Rattle.shop_workers.specs.Works.{Grows, IsKnown, IsAllKnown, numbers_of, IsServed, AreWon}
+use Rattle.shop_workers.specs.{declared.views.View.View, Entries.LetsPass, inner.Turns.{IsHandledEntry, IsAhead}}
+use Rattle.shop_workers.specs.Works.{Grows, IsKnown, IsAllKnown, numbers_of, IsHandled, AreWon}
 
 -- a number above all others, at the end of numbers that rise
 rises_push : (xs : List ℕ) (n : ℕ) → IsStrictlyIncreasing xs → All (λ x. x < n) xs → IsStrictlyIncreasing (xs ++ n ∷ [])
@@ -17,22 +17,22 @@ rises_push xs n rises below k inside =
 pub grows_twice : (u v w : View) → Grows u v → Grows v w → Grows u w
 grows_twice u v w a b = grind arith
 
-pub all_still : (r : Told) (v w : View) (es : List Entry) → Grows v w → All (λ (e : Entry). IsServed r v e.kind) es
-    → All (λ (e : Entry). IsServed r w e.kind) es
-all_still r v w es g served = grind (arith, All-weaker)
+pub all_still : (r : Told) (v w : View) (es : List Entry) → Grows v w → All (λ (e : Entry). IsHandled r v e.kind) es
+    → All (λ (e : Entry). IsHandled r w e.kind) es
+all_still r v w es g handled = grind (arith, All-weaker)
 
 pub still_won : (r : Told) (u v w : View) (es : List Entry) → Grows v w → w.mine ≡ v.mine → AreWon r u v es
     → AreWon r u w es
 still_won r u v w es g same won = grind (arith, all_still)
 
 pub one_won : (r : Told) (n : ℕ) (u v w : View) (es : List Entry) (e : Entry) → Grows v w → AreWon r u v es
-    → All (λ x. x < n) (numbers_of es) → w.mine ≡ n ∷ v.mine → IsServedEntry r n w e × IsAhead v n e.kind
+    → All (λ x. x < n) (numbers_of es) → w.mine ≡ n ∷ v.mine → IsHandledEntry r n w e × IsAhead v n e.kind
     → AreWon r u w (es ++ e ∷ [])
-one_won r n u v w es e g won below mine (served, ahead) = record {
-  of_round = All-push (λ (x : Entry). told x.round.now ≡ r) es e won.of_round served.0.0;
+one_won r n u v w es e g won below mine (handled, ahead) = record {
+  of_round = All-push (λ (x : Entry). told x.round.now ≡ r) es e won.of_round handled.0.0;
   in_order = subst IsStrictlyIncreasing (sym numbers) (rises_push (numbers_of es) n won.in_order below);
   mine = mine ∙ ap (λ l. n ∷ l) won.mine ∙ ap (λ l. l ++ u.mine) (sym turned);
-  served = All-push (λ (x : Entry). IsServed r w x.kind) es e (all_still r v w es g won.served) served.1;
+  handled = All-push (λ (x : Entry). IsHandled r w x.kind) es e (all_still r v w es g won.handled) handled.1;
   passes = all_pairs_push (LetsPass r) es e won.passes lets;
 }
   where
@@ -40,7 +40,7 @@ one_won r n u v w es e g won below mine (served, ahead) = record {
     lets k d inside = grind (arith, All-get_or)
 
     numbers : numbers_of (es ++ e ∷ []) ≡ numbers_of es ++ n ∷ []
-    numbers = map-append (λ (x : Entry). number_of x.kind) es (e ∷ []) ∙ ap (λ k. numbers_of es ++ k ∷ []) served.0.1
+    numbers = map-append (λ (x : Entry). number_of x.kind) es (e ∷ []) ∙ ap (λ k. numbers_of es ++ k ∷ []) handled.0.1
 
     turned : reverse (numbers_of (es ++ e ∷ [])) ≡ n ∷ reverse (numbers_of es)
     turned = ap reverse numbers ∙ reverse-append (numbers_of es) (n ∷ [])

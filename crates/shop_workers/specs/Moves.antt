@@ -3,7 +3,7 @@
 --     empty_handed v         the second of two seats has seen as much, and won nothing
 --     joined v w             one seat for two
 --     HaveWonApart v w       the two seats have won no piece in common
---     KeepsServed v w x      where both have served what they won, so has the third
+--     KeepsHandled v w x     where both have handled what they won, so has the third
 --     HasWon n v w           the piece joins those that the seat won, and wasn't among them
 --     with_seen v n          the piece joins those that the seat knows to be claimed
 --     IsTold won n v w       a claim of the piece was won, or lost
@@ -12,7 +12,7 @@
 --     with_done v n low      the piece joins those that the seat marked
 --     HasMarked n v w        the piece was marked
 use Rattle.std.specs.Prelude.{◌≡◌, ℕ, ◌≤◌, List, [], ◌∷◌, ◌++◌, length, min, Bool, true, false, MatchBool}
-use Rattle.shop_workers.specs.{declared.views.View.View, Views.{has, HasServed}}
+use Rattle.shop_workers.specs.{declared.views.View.View, Views.{has, HasHandled}}
 
 abbrev pub newcomer : List Bool → View
 newcomer hits = record { live = true; hits = hits; mine = []; seen = []; done = []; low = length hits }
@@ -20,8 +20,8 @@ newcomer hits = record { live = true; hits = hits; mine = []; seen = []; done = 
 abbrev pub HaveWonApart : View → View → Type 0
 HaveWonApart v w = (n : ℕ) → has v.mine n ≡ true → has w.mine n ≡ true → ⊥
 
-abbrev pub KeepsServed : View → View → View → Type 0
-KeepsServed v w x = HasServed v → HasServed w → HasServed x
+abbrev pub KeepsHandled : View → View → View → Type 0
+KeepsHandled v w x = HasHandled v → HasHandled w → HasHandled x
 
 abbrev pub with_mine : View → ℕ → View
 with_mine v n = record v { mine = n ∷ v.mine }

@@ -1,7 +1,7 @@
 -- What is known on a board, in plain words: numbers of pieces.
 --     has xs n            n stands in xs
 --     once xs             no number stands twice in xs
---     HasServed v         each piece that ends at the opening bound and that the seat won was
+--     HasHandled v        each piece that ends at the opening bound and that the seat won was
 --                         marked by it, or has a number above the least that it read or marked
 --     ArePieces hits xs   the numbers in xs are those of pieces
 --     HasAll v            the seat won each piece
@@ -17,8 +17,8 @@ abbrev pub once : List ℕ → Bool
 once [] = true
 once (x ∷ xs) = not (has xs x) && once xs
 
-abbrev pub HasServed : View → Type 0
-HasServed v = (n : ℕ) → has v.mine n ≡ true → is_hit_in v.hits n ≡ true → (has v.done n ≡ true) ⊎ (v.low < n)
+abbrev pub HasHandled : View → Type 0
+HasHandled v = (n : ℕ) → has v.mine n ≡ true → is_hit_in v.hits n ≡ true → (has v.done n ≡ true) ⊎ (v.low < n)
 
 abbrev pub ArePieces : List Bool → List ℕ → Type 0
 ArePieces hits xs = (n : ℕ) → has xs n ≡ true → n < length hits

@@ -2,9 +2,9 @@
 --     Grows v w             what the seat knew it still knows
 --     IsKnown v n           the piece is claimed, as far as the seat knows
 --     numbers_of entries    the numbers of their pieces
---     IsServed r w kind     a piece that was searched and ends at the opening bound was marked; one that was passed was
+--     IsHandled r w kind    a piece that was searched and ends at the opening bound was marked; one that was passed was
 --                           passed by a number that is at least the seat's least
---     AreWon r v w entries  in number order, one for each piece that the seat won since, all served, and passed behind
+--     AreWon r v w entries  in number order, one for each piece that the seat won since, all handled, and passed behind
 --                           one that ends at the opening bound
 --     BringsWon r v w b     AreWon of the entries, unless memory was refused
 --     IsAllKnown n w        each piece below n is claimed, as far as the seat knows
@@ -30,15 +30,15 @@ IsAllKnown pieces w = (n : ℕ) → n < pieces → IsKnown w n
 abbrev pub numbers_of : List Entry → List ℕ
 numbers_of entries = map (λ e. number_of e.kind) entries
 
-abbrev pub IsServed : Told → View → Kind → Type 0
-IsServed r w (Done sheet) = is_hit r sheet.number ≡ true → has w.done sheet.number ≡ true
-IsServed r w (Passed number by') = w.low ≤ by'
+abbrev pub IsHandled : Told → View → Kind → Type 0
+IsHandled r w (Done sheet) = is_hit r sheet.number ≡ true → has w.done sheet.number ≡ true
+IsHandled r w (Passed number by') = w.low ≤ by'
 
 pub record AreWon (r : Told) (v w : View) (entries : List Entry) : Type 0 where
   pub of_round : OfRound r entries
   pub in_order : IsStrictlyIncreasing (numbers_of entries)
   pub mine : w.mine ≡ reverse (numbers_of entries) ++ v.mine
-  pub served : All (λ (e : Entry). IsServed r w e.kind) entries
+  pub handled : All (λ (e : Entry). IsHandled r w e.kind) entries
   pub passes : AllPairs (LetsPass r) entries
 
 abbrev pub BringsWon : Told → View → View → Brought → Type 0

@@ -44,8 +44,8 @@ fn first_words(alloc: Global, pieces: usize) -> Result<Vec<u64>, NoMemory>
 impl<'r> Board<'r> {
     ghost use Rattle.std.specs.Prelude.{◌<◌};
     ghost use Rattle.shop_runs.specs.Hits.{hits_of_round, is_hit_in, IsHitOrEnd, IsLeastHit};
-    ghost use Rattle.shop_workers.specs.{Views.{has, HasServed, HasAll}, Moves.{with_low, IsAtMostMarked, HasMarked}};
-    ghost use Rattle.shop_workers.specs.Moves.{newcomer, empty_handed, joined, HaveWonApart, KeepsServed, IsTold};
+    ghost use Rattle.shop_workers.specs.{Views.{has, HasHandled, HasAll}, Moves.{with_low, IsAtMostMarked, HasMarked}};
+    ghost use Rattle.shop_workers.specs.Moves.{newcomer, empty_handed, joined, HaveWonApart, KeepsHandled, IsTold};
     ghost use Rattle.shop_workers.specs.{Seats.{knows, hits_of, IsSeatOf}, Winners.IsDecided};
 
     /// Makes the board of `round`, with no piece claimed or marked, and its first seat. Fails with `NoMemory` if memory
@@ -54,7 +54,7 @@ impl<'r> Board<'r> {
         ensures hits { IfOk result (λ p. hits_of p.0 ≡ hits_of_round round.now) }
         ensures seat { IfOk result (λ p. IsSeatOf p.0 p.1) }
         ensures knows { IfOk result (λ p. knows p.1 ≡ newcomer (hits_of p.0)) }
-        ensures served { IfOk result (λ p. HasServed (knows p.1)) }
+        ensures handled { IfOk result (λ p. HasHandled (knows p.1)) }
     {
         let words = first_words(alloc, round.pieces.len())?;
         let (table, seat) = Table::of_words(alloc, &words, &RoundHits { round })?;
@@ -74,7 +74,7 @@ impl<'r> Board<'r> {
         requires { IsSeatOf self.now seat }
         ensures first { IsSeatOf self.now result.0 × (knows result.0 ≡ knows seat) }
         ensures second { IsSeatOf self.now result.1 × (knows result.1 ≡ empty_handed (knows seat)) }
-        ensures served { HasServed (knows result.1) }
+        ensures handled { HasHandled (knows result.1) }
     {
         let Seat { mut seat } = seat;
         let other = self.table.shared.split_seat::<Share>(&mut seat);
@@ -87,7 +87,7 @@ impl<'r> Board<'r> {
         requires second { IsSeatOf self.now other }
         ensures seat { IsSeatOf self.now result }
         ensures knows { knows result ≡ joined (knows seat) (knows other) }
-        ensures served { KeepsServed (knows seat) (knows other) (knows result) }
+        ensures handled { KeepsHandled (knows seat) (knows other) (knows result) }
         ensures apart { HaveWonApart (knows seat) (knows other) }
     {
         let Seat { mut seat } = seat;
@@ -143,7 +143,7 @@ impl<'r> Board<'r> {
     pub fn close(self, seat: Seat) -> usize
         requires seat { IsSeatOf self seat }
         requires all { HasAll (knows seat) }
-        requires served { HasServed (knows seat) }
+        requires handled { HasHandled (knows seat) }
         ensures { IsLeastHit (hits_of self.entry) result }
     {
         let hit_word = self.pieces();

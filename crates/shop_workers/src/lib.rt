@@ -14,8 +14,8 @@ mod working;
 
 pub use boards::{Board, Seat};
 pub use gates::{Gate, OpenGate, SeatGate};
-pub use lock_search::{Pool, serve};
-pub use ordering::{complete, place_all};
+pub use lock_search::{Pool, search_pool};
+pub use ordering::{complete, put_all};
 pub use seat_laws::has_all;
-pub use seat_lending::{Lent, Returned, place_returned, seats_for_workers};
+pub use seat_lending::{Lent, Returned, put_returned, seats_for_workers};
 pub use working::claim_and_search_all;

@@ -76,7 +76,7 @@ fn search_or_pass<'r, P: PieceSearch<'r>, G: Gate>(
 
 /// Searches the pieces whose numbers worker `worker` takes from `pool`, and returns their entries. Once one's makespan
 /// equals the opening bound, passes the worker's pieces of higher numbers. Fails with `NoMemory` if memory runs out.
-pub fn serve<'r, P: PieceSearch<'r>, R: Wait, G: Gate>(
+pub fn search_pool<'r, P: PieceSearch<'r>, R: Wait, G: Gate>(
     rt: &R,
     alloc: Global,
     searcher: &mut P,

@@ -1,11 +1,11 @@
 // Lends the seats of a board to workers, and collects the entries that the workers bring back.
 ghost use Rattle.std.specs.Prelude.{◌≡◌, length, vec_len, All, IfOk, IsOk, OnOk, IfSome};
 ghost use Rattle.shop_runs.specs.{Entries.told, Hits.hits_of_round};
-ghost use Rattle.shop_workers.specs.inner.{Gathered.{HasFilled, Placed}, Returns.AreReturned, Turns.IsRestKnown};
+ghost use Rattle.shop_workers.specs.inner.{Gathered.{HasFilled, AreByPiece}, Returns.AreReturned, Turns.IsRestKnown};
 ghost use Rattle.shop_workers.specs.Seats.{knows, hits_of, IsSeatOf};
 
 use crate::boards::{Board, Seat};
-use crate::ordering::{place, places};
+use crate::ordering::{none_by_piece, put_each};
 use shop_runs::{Entry, Round};
 use std::alloc::{AllocError as NoMemory, Global};
 
@@ -48,7 +48,7 @@ pub fn seats_for_workers(
     Ok(lent)
 }
 
-/// Joins the workers' seats, and puts their entries into the places of their pieces. Fails with `NoMemory` if memory
+/// Joins the workers' seats, and puts their entries at the numbers of their pieces. Fails with `NoMemory` if memory
 /// runs out, here or for a worker.
 fn join_all<'r>(
     alloc: Global,
@@ -61,37 +61,37 @@ fn join_all<'r>(
     ensures filled { IfOk result (λ p. All (λ w. HasFilled p.1.items w.entries) returned.entry.items) }
     ensures seat { IfOk result (λ p. IfSome p.0 (IsSeatOf board.now)) }
     ensures len { IfOk result (λ p. vec_len p.1 ≡ length round.now.pieces.items) }
-    ensures placed { IfOk result (λ p. Placed (told round.now) p.1.items) }
+    ensures by_piece { IfOk result (λ p. AreByPiece (told round.now) p.1.items) }
 {
-    let mut slots = places(alloc, round)?;
+    let mut by_piece = none_by_piece(alloc, round)?;
     let mut joined = None;
     while let Some(Returned { seat, entries }) = returned.pop() {
         joined = match joined {
             Some(mine) => Some(board.join(mine, seat)),
             None => Some(seat),
         };
-        place(round, &mut slots, entries?);
+        put_each(round, &mut by_piece, entries?);
     }
-    Ok((joined, slots))
+    Ok((joined, by_piece))
 }
 
-/// Claims each piece whose place in `places` is empty, as no worker brought its entry.
-fn claim_rest(board: &Board, seat: &mut Seat, places: &[Option<Entry>])
+/// Claims each piece that has no entry in `by_piece`, as no worker brought one.
+fn claim_rest(board: &Board, seat: &mut Seat, by_piece: &[Option<Entry>])
     requires seat { IsSeatOf board.now seat.old }
-    requires places { length places.now ≡ length (hits_of board.now) }
+    requires by_piece { length by_piece.now ≡ length (hits_of board.now) }
     ensures seat { IsSeatOf board.now seat.new }
-    ensures claimed { IsRestKnown (length places.now) (knows seat.new) places.now }
+    ensures claimed { IsRestKnown (length by_piece.now) (knows seat.new) by_piece.now }
 {
-    for number in 0..places.len() {
-        if places[number].is_none() {
+    for number in 0..by_piece.len() {
+        if by_piece[number].is_none() {
             board.claim(seat, number);
         }
     }
 }
 
-/// Puts each entry that a worker brought into its piece's place, and claims each piece of `round` whose place stays
-/// empty, as no worker brought its entry. Fails with `NoMemory` if memory runs out, here or for a worker.
-pub fn place_returned<'r>(
+/// Puts each entry that a worker brought into a vector, at the number of its piece, and claims each piece of `round`
+/// that has no entry there, as no worker brought one. Fails with `NoMemory` if memory runs out, here or for a worker.
+pub fn put_returned<'r>(
     alloc: Global,
     board: &Board,
     round: &'r Round<'r>,
@@ -102,11 +102,11 @@ pub fn place_returned<'r>(
     ensures granted { OnOk result (All (λ w. IsOk w.entries) returned.entry.items) }
     ensures filled { IfOk result (λ v. All (λ w. HasFilled v.items w.entries) returned.entry.items) }
     ensures len { IfOk result (λ v. vec_len v ≡ length round.now.pieces.items) }
-    ensures placed { IfOk result (λ v. Placed (told round.now) v.items) }
+    ensures by_piece { IfOk result (λ v. AreByPiece (told round.now) v.items) }
 {
-    let (joined, slots) = join_all(alloc, board, round, returned)?;
+    let (joined, by_piece) = join_all(alloc, board, round, returned)?;
     if let Some(mut seat) = joined {
-        claim_rest(board, &mut seat, &slots);
+        claim_rest(board, &mut seat, &by_piece);
     }
-    Ok(slots)
+    Ok(by_piece)
 }

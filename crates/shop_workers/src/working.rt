@@ -1,7 +1,7 @@
 // A worker that claims pieces on a board and searches those that it wins.
 ghost use Rattle.std.specs.Prelude.{◌≡◌, ◌<◌, length, IfOk, OnOk};
 ghost use Rattle.shop_runs.specs.{Entries.told, Hits.hits_of_round};
-ghost use Rattle.shop_workers.specs.{Views.HasServed, Seats.{knows, hits_of, IsSeatOf}, inner.Turns.TakesTurn};
+ghost use Rattle.shop_workers.specs.{Views.HasHandled, Seats.{knows, hits_of, IsSeatOf}, inner.Turns.TakesTurn};
 ghost use Rattle.shop_workers.specs.Works.{Grows, IsKnown, IsAllKnown, BringsWon};
 
 use crate::boards::{Board, Seat};
@@ -65,7 +65,7 @@ pub fn claim_and_search_all<'r, P: PieceSearch<'r>, G: SeatGate>(
     ensures round { P.searched searcher.new ≡ P.searched searcher.old }
     ensures claimed { OnOk result (IsAllKnown (length (P.searched searcher.old).pieces.items) (knows seat.new)) }
     ensures entries { BringsWon (told (P.searched searcher.old)) (knows seat.old) (knows seat.new) result }
-    ensures served { OnOk result (HasServed (knows seat.old) → HasServed (knows seat.new)) }
+    ensures handled { OnOk result (HasHandled (knows seat.old) → HasHandled (knows seat.new)) }
 {
     let mut entries = Vec::new(alloc);
     for number in 0..searcher.round().pieces.len() {

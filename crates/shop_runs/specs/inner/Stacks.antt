@@ -1,7 +1,7 @@
 -- Open nodes in the order in which the next cut takes them.
 --     words_on stack                 the words of a stack, from its top down
---     Place                          a place of a row: the stack of a bound, if there is one
---     words_at place                 the words of this stack
+--     Bucket                         a bucket of a row: the stack of a bound, if there is one
+--     words_at bucket                the words of this stack
 --     nodes_of_bound bound words     nodes of these words, of one bound
 --     nodes_by_bound entries         the nodes of stacks by bound, in order
 --     nodes_in_row bound stacks      the nodes of a row of stacks, the first one of this bound
@@ -17,10 +17,10 @@ use Rattle.shop_runs.specs.declared.{stacks.Stack.Stack, plans.Order.Order, plan
 abbrev pub words_on : Stack → List (List ℕ)
 words_on s = s.top ∷ reverse (flat_map (λ c. c.items) s.covered.items ++ s.below.items)
 
-abbrev pub Place : Type 0
-Place = Option (Box Stack)
+abbrev pub Bucket : Type 0
+Bucket = Option (Box Stack)
 
-abbrev pub words_at : Place → List (List ℕ)
+abbrev pub words_at : Bucket → List (List ℕ)
 words_at None = []
 words_at (Some b) = words_on b.value
 
@@ -31,7 +31,7 @@ abbrev pub nodes_by_bound : List (ℕ × Stack) → List Node
 nodes_by_bound [] = []
 nodes_by_bound (e ∷ es) = nodes_of_bound e.0 (words_on e.1) ++ nodes_by_bound es
 
-abbrev pub nodes_in_row : ℕ → List Place → List Node
+abbrev pub nodes_in_row : ℕ → List Bucket → List Node
 nodes_in_row bound [] = []
 nodes_in_row bound (s ∷ stacks) = nodes_of_bound bound (words_at s) ++ nodes_in_row (suc bound) stacks
 

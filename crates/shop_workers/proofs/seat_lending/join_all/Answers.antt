@@ -11,8 +11,8 @@ pub join-requires-clause-second : goal.join-requires-clause-second
 join-requires-clause-second c = (All-pop (λ (w : Returned). IsReturned c.args.board.now (told c.args.round.now) w.seat
     w.entries) _ _ (Some c.in-Some.field-0) c.in-Some.ensures.items c.loop-seat.invariant.3).1.0
 
-pub place-requires-clause-entries : goal.place-requires-clause-entries
-place-requires-clause-entries c = IfOk-at_ok (λ v. OfRound (told c.args.round.now) v.items) c.in_ok-entries.was
+pub put_each-requires-clause-entries : goal.put_each-requires-clause-entries
+put_each-requires-clause-entries c = IfOk-at_ok (λ v. OfRound (told c.args.round.now) v.items) c.in_ok-entries.was
     (All-pop (λ (w : Returned). IsReturned c.args.board.now (told c.args.round.now) w.seat w.entries) _ _
     (Some c.in-Some.field-0) c.in-Some.ensures.items c.loop-seat.invariant.3).1.1
 
@@ -22,19 +22,19 @@ loop-seat-preserved c =
     (Some c.in-Some.field-0) c.in-Some.ensures.items c.loop-seat.invariant.3 in
     let here = parts.1 in
     let granted : IsOk c.in-Some.field-0.entries = rw c.in_ok-entries.was refl in
-    let filled : HasFilled c.place.new.slots.items c.in-Some.field-0.entries =
-    rw c.in_ok-entries.was c.place.ensures.filled in (
+    let filled : HasFilled c.put_each.new.by_piece.items c.in-Some.field-0.entries =
+    rw c.in_ok-entries.was c.put_each.ensures.filled in (
       elim c.match-joined.branch [
         | in-Some-joined w ↦ grind arith
         | in-None w ↦ grind arith
       ],
-      c.place.ensures.len ∙ c.loop-seat.invariant.1,
-      c.place.ensures.placed,
+      c.put_each.ensures.len ∙ c.loop-seat.invariant.1,
+      c.put_each.ensures.by_piece,
       parts.0,
       through_one (λ (w : Returned). IsOk w.entries) _ _ _ c.in-Some.field-0 granted c.in-Some.ensures.items
           c.loop-seat.invariant.4,
-      through_more (λ (w : Returned). HasFilled c.loop-seat.slots.items w.entries)
-          (λ (w : Returned). HasFilled c.place.new.slots.items w.entries) _ _ _ c.in-Some.field-0
-          (λ w. still_filled _ _ c.place.ensures.stays w.entries) filled c.in-Some.ensures.items
+      through_more (λ (w : Returned). HasFilled c.loop-seat.by_piece.items w.entries)
+          (λ (w : Returned). HasFilled c.put_each.new.by_piece.items w.entries) _ _ _ c.in-Some.field-0
+          (λ w. still_filled _ _ c.put_each.ensures.stays w.entries) filled c.in-Some.ensures.items
           c.loop-seat.invariant.5,
     )

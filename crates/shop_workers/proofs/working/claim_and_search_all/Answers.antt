@@ -1,7 +1,7 @@
 use Rattle.std.{proofs.Common.{◌+◌, ◌<◌, ap, ◌∙◌, subst, sym, Some, None, arith}, specs.Prelude.All}
 use Rattle.shop_runs.specs.Entries.{told}
 use Rattle.shop_workers.specs.{Seats.knows, Works.{AreWon, numbers_of}, inner.Turns.TakesTurn}
-use Rattle.shop_workers.proofs.ServedEntries.{all_served}
+use Rattle.shop_workers.proofs.HandledEntries.{all_handled}
 use Rattle.shop_workers.proofs.WonEntries.{grows_twice, still_won, one_won, below_next, below_push, known_next}
 use Rattle.shop_workers.proofs.working.claim_and_search_all.Goals as goal
 use Rattle.shop_workers.proofs.working.claim_and_search_all.Goals.{in-Some+in_ok-push, in_default}
@@ -49,5 +49,5 @@ loop-number-preserved g c =
       ];
     }
 
-pub returns-clause-served : goal.returns-clause-served
-returns-clause-served g c = grind (arith, all_served)
+pub returns-clause-handled : goal.returns-clause-handled
+returns-clause-handled g c = grind (arith, all_handled)

@@ -48,7 +48,7 @@ fn start_each<R: Threads + Sync, J: Send + Drop, X: Send + Drop, F: Fn(J) -> X +
 /// where it begins late if that one goes on. If no thread can start for a job, the calling thread does the job, once
 /// the threads that it started afterwards have ended. Each job takes some of the calling thread's stack. Fails with
 /// `NoMemory` if memory runs out.
-pub fn map_waiting<R: Threads + Sync, J: Send + Drop, X: Send + Drop, F: Fn(J) -> X + Sync>(
+pub fn map_on_threads<R: Threads + Sync, J: Send + Drop, X: Send + Drop, F: Fn(J) -> X + Sync>(
     rt: &R,
     alloc: Global,
     jobs: Vec<J>,

@@ -1,7 +1,7 @@
 use Rattle.std.proofs.{Common.{◌≡◌, ◌++◌, ◌∷◌, [], List, ap, arith, length}, lemmas.Grind.common_steps}
 use Rattle.std.{proofs.lemmas.Result.IfOk-at_ok, specs.Fork.Halves.GivesFor}
 use denote.Param.Members.{Shared}
-use Rattle.shop_board.proofs.waiting.+starts.Goals as goal
+use Rattle.shop_board.proofs.on_threads.+starts.Goals as goal
 
 gives_more : {F J R : Type 0} {h : Shared F (J × Unit {0}) R} {f : F} {all js : List J} {rs rest : List R}
     {j : J} {r : R} → all ≡ js ++ j ∷ [] → rs ≡ rest ++ r ∷ [] → GivesFor h f js rest → GivesFor h f (j ∷ []) (r ∷ [])

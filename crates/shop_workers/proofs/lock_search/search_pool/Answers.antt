@@ -1,7 +1,7 @@
 use Rattle.std.proofs.Common.{arith, length, refl, ◌<◌, ◌≡◌, ◌∙◌, ◌≤◌, true, subst, sym}
 use Rattle.shop_runs.specs.{Entries.{told, is_hit}, Crews.IsEntryOf, Hits.{hits_of_round, IsHitOrEnd}}
 use Rattle.shop_workers.proofs.TakenEntries.{one_taken}
-use Rattle.shop_workers.proofs.lock_search.serve.Goals as goal
+use Rattle.shop_workers.proofs.lock_search.search_pool.Goals as goal
 
 pub loop-preserved : goal.loop-preserved
 loop-preserved g c =

@@ -1,7 +1,7 @@
 use Rattle.std.proofs.Common.{◌≡◌}
 use Rattle.shop_runs.specs.{Entries.told, Hits.{hits_of_round, IsHitOrEnd}}
 use Rattle.shop_workers.proofs.TakenEntries.{AreTaken}
-use Rattle.shop_workers.proofs.lock_search.serve.Given as goal
+use Rattle.shop_workers.proofs.lock_search.search_pool.Given as goal
 
 abbrev pub invariant-loop : goal.invariant-loop
 invariant-loop g l =

@@ -1,14 +1,14 @@
 use Rattle.std.proofs.Common.{◌+◌, arith}
-use Rattle.shop_runs.proofs.BoundRowLemmas.{count_place, not_more}
-use Rattle.shop_runs.proofs.bound_rows.place_behind.Goals as goal
+use Rattle.shop_runs.proofs.BoundRowLemmas.{count_bucket, not_more}
+use Rattle.shop_runs.proofs.bound_rows.bucket_behind.Goals as goal
 
-pub returns-then-most-count-clause-place : goal.returns-then-most-count-clause-place
-returns-then-most-count-clause-place c = grind (arith, count_place)
+pub returns-then-most-count-clause-bucket : goal.returns-then-most-count-clause-bucket
+returns-then-most-count-clause-bucket c = grind (arith, count_bucket)
 
 pub returns-then-most-count-clause-count : goal.returns-then-most-count-clause-count
 returns-then-most-count-clause-count c =
     let most = not_more (c.loop-index.index + 1) c.args.stacks.now
-    in grind (arith, count_place)
+    in grind (arith, count_bucket)
 
 pub returns-clause-count : goal.returns-clause-count
 returns-clause-count c =
@@ -16,4 +16,4 @@ returns-clause-count c =
     in grind arith
 
 pub loop-index-preserved : goal.loop-index-preserved
-loop-index-preserved c = grind (arith, count_place)
+loop-index-preserved c = grind (arith, count_bucket)

@@ -1,19 +1,19 @@
--- One place written, and one entry more.
+-- An entry written by piece, and one entry more.
 use Rattle.std.proofs.Common.{◌≡◌, ℕ, ◌+◌, ◌<◌, ◌≤◌, List, [], ◌∷◌, ◌++◌, length, Option, None, arith}
 use Rattle.std.{proofs.lemmas.Grind.{common_steps, elements}, specs.Prelude.{IfSome, slice_index_or, slice_set}}
 use Rattle.shop_runs.specs.{Round.Told, Crews.IsEntryOf, declared.entries.Entry.Entry}
-use Rattle.shop_workers.specs.inner.Gathered.{Placed}
+use Rattle.shop_workers.specs.inner.Gathered.{AreByPiece}
 
--- each place keeps its number where one place is written
-pub placed_set : (r : Told) (l : List (Option Entry)) (i : ℕ) (v : Option Entry)
-    → Placed r l → IfSome v (λ e. IsEntryOf r i e) → Placed r (slice_set l i v)
-placed_set r l i v p h = grind (arith, elements)
+-- entries still stand at their pieces' numbers once one is written
+pub one_written : (r : Told) (l : List (Option Entry)) (i : ℕ) (v : Option Entry)
+    → AreByPiece r l → IfSome v (λ e. IsEntryOf r i e) → AreByPiece r (slice_set l i v)
+one_written r l i v p h = grind (arith, elements)
 
--- the entry, if any, that stands in place n is kept as e
+-- the entry of piece n, if any, is kept as e
 abbrev pub IsKept : List (Option Entry) → ℕ → Entry → Type 0
-IsKept places n e = IfSome (slice_index_or places n None) (λ kept. e ≡ kept)
+IsKept by_piece n e = IfSome (slice_index_or by_piece n None) (λ kept. e ≡ kept)
 
--- from the k-th on, places stand as they did
+-- from the k-th on, entries stand as they did
 abbrev pub AreLeftFrom : ℕ → List (Option Entry) → List (Option Entry) → Type 0
 AreLeftFrom k before after = (n : ℕ) → k ≤ n → slice_index_or after n None ≡ slice_index_or before n None
 
