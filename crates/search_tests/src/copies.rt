@@ -1,10 +1,10 @@
 // A dispatch in a copy of a state, beside one in place and one without a bound: the bounds are equal, and the states
 // behave alike. So too if the children of a word were bounded together.
-ghost use Rattle.std.specs.Prelude.{◌≡◌, ℕ, ◌++◌, ◌∷◌, [], All, IfSome, OnSome};
+ghost use Rattle.std.specs.Prelude.{◌≡◌, ◌<◌, ℕ, ◌++◌, ◌∷◌, [], All, IfSome, OnSome, length, slice_index_or};
 ghost use Rattle.shop_model.specs.Word.{IsWord};
 ghost use Rattle.shop_bound.specs.{Bound.lb, Conflicts.conflict};
 ghost use Rattle.shop_states.specs.States.{CanDispatch, HasDispatched, ListsBelow, TellsBoundBelow};
-ghost use Rattle.shop_states.specs.inner.WordStates.{IsCandidate, IsSlot, IsStateOf, IsStateWith, KnowsChild};
+ghost use Rattle.shop_states.specs.inner.WordStates.{IsCandidate, IsRoom, IsStateOf, IsStateWith, KnowsChild};
 
 use crate::in_lanes::{Tried, assert_in_lanes};
 use crate::long_machines::{LATEST, SHAPES, made};
@@ -12,7 +12,7 @@ use crate::numbers::Numbers;
 use shop_bound::lower_bound;
 use shop_lanes::StateLanes;
 use shop_model::{Instance, Job, Op, Word};
-use shop_states::{Candidate, Dispatcher, State};
+use shop_states::{Candidate, CandidateList, Dispatcher, State};
 use std::alloc::{AllocGlobal, Global};
 use std::mem;
 use std::process::Abort;
@@ -33,16 +33,16 @@ fn rooms_of<L: StateLanes>(
     alloc: Global,
     dispatcher: &Dispatcher<'_, '_, L>,
 ) -> Rooms<L>
-    ensures state { IsSlot L.StateLanes dispatcher.now.laid_out result.state }
-    ensures direct { IsSlot L.StateLanes dispatcher.now.laid_out result.direct }
-    ensures placed { IsSlot L.StateLanes dispatcher.now.laid_out result.placed }
-    ensures settled { IsSlot L.StateLanes dispatcher.now.laid_out result.settled }
+    ensures state { IsRoom L.StateLanes dispatcher.now.laid_out result.state }
+    ensures direct { IsRoom L.StateLanes dispatcher.now.laid_out result.direct }
+    ensures placed { IsRoom L.StateLanes dispatcher.now.laid_out result.placed }
+    ensures settled { IsRoom L.StateLanes dispatcher.now.laid_out result.settled }
 {
     Rooms {
-        state: dispatcher.slot(alloc).expect(rt, "memory"),
-        direct: dispatcher.slot(alloc).expect(rt, "memory"),
-        placed: dispatcher.slot(alloc).expect(rt, "memory"),
-        settled: dispatcher.slot(alloc).expect(rt, "memory"),
+        state: dispatcher.room(alloc).expect(rt, "memory"),
+        direct: dispatcher.room(alloc).expect(rt, "memory"),
+        placed: dispatcher.room(alloc).expect(rt, "memory"),
+        settled: dispatcher.room(alloc).expect(rt, "memory"),
     }
 }
 
@@ -64,7 +64,7 @@ fn dispatch_at_once<L: StateLanes>(
     direct: &mut State<L>,
     trial: Trial,
 ) -> Option<u64>
-    requires direct { IsSlot L.StateLanes dispatcher.old.laid_out direct.old }
+    requires direct { IsRoom L.StateLanes dispatcher.old.laid_out direct.old }
     requires can { CanDispatch dispatcher.old.laid_out.asked
         (λ w. IsStateWith L.StateLanes dispatcher.old.laid_out trial.candidate state.now w
         × IfSome trial.together
@@ -74,7 +74,7 @@ fn dispatch_at_once<L: StateLanes>(
         (IsStateWith L.StateLanes dispatcher.old.laid_out trial.candidate state.now)
         (λ w. IsStateOf L.StateLanes dispatcher.old.laid_out w direct.new)
         trial.candidate.job trial.bound trial.limit result }
-    ensures direct { IsSlot L.StateLanes dispatcher.old.laid_out direct.new }
+    ensures direct { IsRoom L.StateLanes dispatcher.old.laid_out direct.new }
     ensures dispatcher { dispatcher.new ≡ dispatcher.old }
 {
     let (candidate, bound, limit) = (trial.candidate, trial.bound, trial.limit);
@@ -93,7 +93,7 @@ fn dispatch_twice<L: StateLanes>(
     path: &[u16],
     trial: Trial,
 ) -> Option<u64>
-    requires direct { IsSlot L.StateLanes dispatcher.old.laid_out rooms.old.direct }
+    requires direct { IsRoom L.StateLanes dispatcher.old.laid_out rooms.old.direct }
     requires placed { IsStateOf L.StateLanes dispatcher.old.laid_out path.now rooms.old.placed }
     requires settled { IsStateOf L.StateLanes dispatcher.old.laid_out path.now rooms.old.settled }
     requires word { IsWord dispatcher.old.laid_out.asked path.now }
@@ -110,8 +110,8 @@ fn dispatch_twice<L: StateLanes>(
         (IsStateOf L.StateLanes dispatcher.old.laid_out (path.now ++ trial.candidate.job ∷ []) rooms.new.direct) }
     ensures alike { IsStateOf L.StateLanes dispatcher.old.laid_out (path.now ++ trial.candidate.job ∷ [])
         rooms.new.settled }
-    ensures direct { IsSlot L.StateLanes dispatcher.old.laid_out rooms.new.direct }
-    ensures slot { IsSlot L.StateLanes dispatcher.old.laid_out rooms.new.placed }
+    ensures direct { IsRoom L.StateLanes dispatcher.old.laid_out rooms.new.direct }
+    ensures room { IsRoom L.StateLanes dispatcher.old.laid_out rooms.new.placed }
     ensures first { rooms.new.state ≡ rooms.old.state }
     ensures dispatcher { dispatcher.new ≡ dispatcher.old }
 {
@@ -141,7 +141,7 @@ fn bound_together<L: StateLanes>(
     bound: u64,
     manner: Manner,
 ) -> Option<u64>
-    requires direct { IsSlot L.StateLanes dispatcher.old.laid_out rooms.old.direct }
+    requires direct { IsRoom L.StateLanes dispatcher.old.laid_out rooms.old.direct }
     requires state { IsStateOf L.StateLanes dispatcher.old.laid_out path.now rooms.old.state }
     requires listed { (others : ℕ) × ListsBelow dispatcher.old.laid_out.asked path.now 18446744073709551615
         (IsCandidate dispatcher.old.laid_out path.now)
@@ -150,7 +150,7 @@ fn bound_together<L: StateLanes>(
     ensures known { IfSome result (λ top.
         All (λ c. KnowsChild dispatcher.old.laid_out dispatcher.new.ceilings path.now c.job) candidates.now) }
     ensures state { rooms.new.state ≡ rooms.old.state }
-    ensures direct { IsSlot L.StateLanes dispatcher.old.laid_out rooms.new.direct }
+    ensures direct { IsRoom L.StateLanes dispatcher.old.laid_out rooms.new.direct }
     ensures placed { rooms.new.placed ≡ rooms.old.placed }
     ensures settled { rooms.new.settled ≡ rooms.old.settled }
     ensures laid_out { dispatcher.new.laid_out ≡ dispatcher.old.laid_out }
@@ -162,6 +162,14 @@ fn bound_together<L: StateLanes>(
             dispatcher.bound_children(state, direct, candidates, bound)
         }
     }
+}
+
+/// Returns the candidate at `index`.
+fn candidate_at(candidates: &[Candidate], index: usize) -> Candidate
+    requires { index < length candidates.now }
+    ensures { result ≡ slice_index_or candidates.now index result }
+{
+    candidates[index]
 }
 
 /// Asserts that two lists have the same candidates.
@@ -187,8 +195,8 @@ pub fn assert_walk<L: StateLanes>(
     requires { dispatcher.old.laid_out.asked ≡ instance.now }
 {
     let mut rooms = rooms_of(rt, alloc, dispatcher);
-    let mut candidates = Vec::with_capacity(alloc, instance.jobs()).expect(rt, "memory");
-    let mut others = Vec::with_capacity(alloc, instance.jobs()).expect(rt, "memory");
+    let mut candidates = CandidateList::new(alloc, instance.jobs()).expect(rt, "memory");
+    let mut others = CandidateList::new(alloc, instance.jobs()).expect(rt, "memory");
     let mut path = Vec::new(alloc);
     let word = Word::of_jobs(Vec::new(alloc));
     let mut bound = lower_bound(alloc, instance, &word).expect(rt, "memory");
@@ -202,13 +210,14 @@ pub fn assert_walk<L: StateLanes>(
             return;
         }
         let index = numbers.up_to(u32::MAX) as usize % count;
-        let candidate = candidates[index];
+        let listed = candidates.as_slice();
+        let candidate = candidate_at(listed, index);
         let limit = bound.saturating_add(numbers.up_to(99));
         let together = bound_together(
             dispatcher,
             &mut rooms,
             path.as_slice(),
-            &candidates,
+            listed,
             bound,
             manner,
         );
@@ -227,12 +236,12 @@ pub fn assert_walk<L: StateLanes>(
         path.push(candidate.job).expect(rt, "memory");
         dispatcher.list_candidates(&rooms.placed, u64::MAX, &mut candidates);
         dispatcher.list_candidates(&rooms.direct, u64::MAX, &mut others);
-        assert_same(rt, &candidates, &others);
+        assert_same(rt, candidates.as_slice(), others.as_slice());
         dispatcher.list_candidates(&rooms.settled, u64::MAX, &mut others);
-        assert_same(rt, &candidates, &others);
+        assert_same(rt, candidates.as_slice(), others.as_slice());
         dispatcher.fill(path.as_slice(), &mut rooms.state);
         dispatcher.list_candidates(&rooms.state, u64::MAX, &mut others);
-        assert_same(rt, &candidates, &others);
+        assert_same(rt, candidates.as_slice(), others.as_slice());
         mem::swap(&mut rooms.state, &mut rooms.direct);
         bound = below;
     }

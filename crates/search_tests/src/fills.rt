@@ -2,7 +2,7 @@
 // their candidates are the conflict sets of the words. Jobs are finished early or late, are released late, and come
 // back to machines.
 ghost use Rattle.std.specs.Prelude.{◌≡◌};
-ghost use Rattle.shop_states.specs.inner.WordStates.{IsSlot};
+ghost use Rattle.shop_states.specs.inner.WordStates.{IsRoom};
 
 use crate::in_lanes::{Tried, assert_in_lanes};
 use crate::long_machines::{LATEST, SHAPES, made};
@@ -10,7 +10,7 @@ use crate::numbers::Numbers;
 use shop_lanes::StateLanes;
 use shop_model::{Instance, Word, fits, is_full};
 use shop_nodes::conflict;
-use shop_states::{Dispatcher, State};
+use shop_states::{CandidateList, Dispatcher, State};
 use std::alloc::{AllocGlobal, Global};
 use std::process::Abort;
 
@@ -34,8 +34,8 @@ fn assert_fill<L: StateLanes>(
     path: &[u16],
 ) -> bool
     requires shop { dispatcher.old.laid_out.asked ≡ instance.now }
-    requires state { IsSlot L.StateLanes dispatcher.old.laid_out state.old }
-    ensures state { IsSlot L.StateLanes dispatcher.old.laid_out state.new }
+    requires state { IsRoom L.StateLanes dispatcher.old.laid_out state.old }
+    ensures state { IsRoom L.StateLanes dispatcher.old.laid_out state.new }
     ensures same { dispatcher.new ≡ dispatcher.old }
 {
     let alloc = rt.alloc();
@@ -43,9 +43,10 @@ fn assert_fill<L: StateLanes>(
     if !fits(instance, &word) {
         return false;
     }
-    let mut candidates = Vec::with_capacity(alloc, instance.jobs()).expect(rt, "memory");
+    let mut list = CandidateList::new(alloc, instance.jobs()).expect(rt, "memory");
     dispatcher.fill(path, state);
-    dispatcher.list_candidates(state, u64::MAX, &mut candidates);
+    dispatcher.list_candidates(state, u64::MAX, &mut list);
+    let candidates = list.as_slice();
     if is_full(instance, &word) {
         assert!(rt; candidates.is_empty());
         return true;
@@ -67,8 +68,8 @@ fn assert_fills_along<L: StateLanes>(
     state: &mut State<L>,
 )
     requires shop { dispatcher.old.laid_out.asked ≡ instance.now }
-    requires state { IsSlot L.StateLanes dispatcher.old.laid_out state.old }
-    ensures state { IsSlot L.StateLanes dispatcher.old.laid_out state.new }
+    requires state { IsRoom L.StateLanes dispatcher.old.laid_out state.old }
+    ensures state { IsRoom L.StateLanes dispatcher.old.laid_out state.new }
     ensures same { dispatcher.new ≡ dispatcher.old }
 {
     let mut path = Vec::new(rt.alloc());
@@ -94,7 +95,7 @@ pub fn assert_fills<L: StateLanes>(
     requires { dispatcher.old.laid_out.asked ≡ instance.now }
 {
     let alloc = rt.alloc();
-    let mut state = dispatcher.slot(alloc).expect(rt, "memory");
+    let mut state = dispatcher.room(alloc).expect(rt, "memory");
     assert_fills_along(rt, numbers, dispatcher, instance, &mut state);
     assert_fills_along(rt, numbers, dispatcher, instance, &mut state);
 }

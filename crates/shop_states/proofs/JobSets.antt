@@ -1,4 +1,4 @@
--- Numbers as the bits of words: which are among them, that they rise, and one bit more.
+-- Sets of jobs as the bits of numbers: which jobs are in them, that they rise, and one job more.
 use Rattle.std.proofs.Common.{◌≡◌, ℕ, zero, suc, ◌+◌, ◌*◌, ◌/◌, ◌%◌, ◌^◌, ◌≤◌, ◌<◌, ◌⊎◌, inl, inr, List, [], ◌∷◌, ◌++◌}
 use Rattle.std.proofs.Common.{length, get_or, set, drop, replicate, max, refl, sym, ◌∙◌, ap, subst, append_assoc, arith}
 use Rattle.std.proofs.{lemmas.{Bool.cases_eq, List.{append-nil, length-append}, Nat.Bits.bit_at_or}, Math.Pow.pow-lt}
@@ -35,59 +35,59 @@ append_rises (x ∷ xs) ys r s lt = (
 
 -- q is the number of a bit that is set
 abbrev IsBit : ℕ → ℕ → ℕ → ℕ → Type 0
-IsBit n at word q = (i : ℕ) × (i < n) × (q ≡ at + i) × (bit_at word i ≡ 1)
+IsBit n at number q = (i : ℕ) × (i < n) × (q ≡ at + i) × (bit_at number i ≡ 1)
 
-later_bit : (n at word q : ℕ) → IsBit n (at + 1) (word / 2) q → IsBit (suc n) at word q
-later_bit n at word q b =
-    (suc b.0, (let a = b.1 in omega arith), (let a = b.2 in omega arith), bit_at-suc word b.0 ∙ b.3)
+later_bit : (n at number q : ℕ) → IsBit n (at + 1) (number / 2) q → IsBit (suc n) at number q
+later_bit n at number q b =
+    (suc b.0, (let a = b.1 in omega arith), (let a = b.2 in omega arith), bit_at-suc number b.0 ∙ b.3)
 
-in_none : (at word q : ℕ) → IsIn (set_bits zero at word) q → ⊥
+in_none : (at number q : ℕ) → IsIn (set_bits zero at number) q → ⊥
 unfolding set_bits
-in_none at word q h = h
+in_none at number q h = h
 
-in_bits : (n at word q : ℕ) → IsIn (set_bits n at word) q → IsBit n at word q
-in_bits zero at word q h = absurd (in_none at word q h)
-in_bits (suc n) at word q h = elim (cases_eq (word % 2) 1) [
-  | inl odd ↦ elim (subst (λ (xs : List ℕ). IsIn xs q) (set_bits-odd n at word odd) h) [
-    | inl e ↦ (zero, omega arith, omega arith, bit_at_lowest word ∙ odd)
-    | inr g ↦ later_bit n at word q (in_bits n (at + 1) (word / 2) q g)
+in_bits : (n at number q : ℕ) → IsIn (set_bits n at number) q → IsBit n at number q
+in_bits zero at number q h = absurd (in_none at number q h)
+in_bits (suc n) at number q h = elim (cases_eq (number % 2) 1) [
+  | inl odd ↦ elim (subst (λ (xs : List ℕ). IsIn xs q) (set_bits-odd n at number odd) h) [
+    | inl e ↦ (zero, omega arith, omega arith, bit_at_lowest number ∙ odd)
+    | inr g ↦ later_bit n at number q (in_bits n (at + 1) (number / 2) q g)
   ]
-  | inr other ↦ grind (arith, later_bit, set_bits-even, in_bits n (at + 1) (word / 2) q)
+  | inr other ↦ grind (arith, later_bit, set_bits-even, in_bits n (at + 1) (number / 2) q)
 ]
 
-bits_in : (n at word i : ℕ) → i < n → bit_at word i ≡ 1 → IsIn (set_bits n at word) (at + i)
-bits_in zero at word i lt is = absurd (omega arith)
-bits_in (suc n) at word zero lt is = grind (arith, set_bits-odd, bit_at_lowest)
-bits_in (suc n) at word (suc i) lt is =
+bits_in : (n at number i : ℕ) → i < n → bit_at number i ≡ 1 → IsIn (set_bits n at number) (at + i)
+bits_in zero at number i lt is = absurd (omega arith)
+bits_in (suc n) at number zero lt is = grind (arith, set_bits-odd, bit_at_lowest)
+bits_in (suc n) at number (suc i) lt is =
     grind (
       arith,
       bit_at-suc,
       cases_eq,
       set_bits-odd,
       set_bits-even,
-      bits_in n (at + 1) (word / 2) i (omega arith) (sym (bit_at-suc word i) ∙ is),
+      bits_in n (at + 1) (number / 2) i (omega arith) (sym (bit_at-suc number i) ∙ is),
     )
 
-none_rise : (at word : ℕ) → Rises (set_bits zero at word)
+none_rise : (at number : ℕ) → Rises (set_bits zero at number)
 unfolding set_bits
-none_rise at word = tt
+none_rise at number = tt
 
-bits_rise : (n at word : ℕ) → Rises (set_bits n at word)
-bits_rise zero at word = none_rise at word
-bits_rise (suc n) at word =
-    grind (arith, cases_eq, set_bits-odd, in_bits, set_bits-even, bits_rise n (at + 1) (word / 2))
+bits_rise : (n at number : ℕ) → Rises (set_bits n at number)
+bits_rise zero at number = none_rise at number
+bits_rise (suc n) at number =
+    grind (arith, cases_eq, set_bits-odd, in_bits, set_bits-even, bits_rise n (at + 1) (number / 2))
 
-members_from : (at : ℕ) (words : List ℕ) (q : ℕ) → IsIn (members at words) q → at ≤ q
+members_from : (at : ℕ) (numbers : List ℕ) (q : ℕ) → IsIn (members at numbers) q → at ≤ q
 members_from at [] q h = absurd h
-members_from at (word ∷ words) q h = elim (in_append (set_bits 64 at word) (members (at + 64) words) q h) [
-  | inl g ↦ (let b = in_bits 64 at word q g in let a = b.2 in omega arith)
-  | inr g ↦ (let a = members_from (at + 64) words q g in omega arith)
+members_from at (number ∷ numbers) q h = elim (in_append (set_bits 64 at number) (members (at + 64) numbers) q h) [
+  | inl g ↦ (let b = in_bits 64 at number q g in let a = b.2 in omega arith)
+  | inr g ↦ (let a = members_from (at + 64) numbers q g in omega arith)
 ]
 
-pub members_rise : (at : ℕ) (words : List ℕ) → Rises (members at words)
+pub members_rise : (at : ℕ) (numbers : List ℕ) → Rises (members at numbers)
 members_rise at [] = tt
-members_rise at (word ∷ words) =
-    grind (arith, append_rises, bits_rise, in_bits, members_from, members_rise (at + 64) words)
+members_rise at (number ∷ numbers) =
+    grind (arith, append_rises, bits_rise, in_bits, members_from, members_rise (at + 64) numbers)
 
 -- one bit more
 one_of_two : (a b c : ℕ) → c ≡ max a b → c < 2 → a ≡ 1 → c ≡ 1
@@ -99,9 +99,9 @@ other_of_two a b c e one none = omega arith
 no_bit : (a : ℕ) → a < 2 → (a ≡ 1 → ⊥) → a ≡ 0
 no_bit a small other = omega arith
 
-pub bit_put : (at word k : ℕ) → k < 64
-    → HasPut (at + k) (set_bits 64 at word) (set_bits 64 at (bit_or word (2 ^ k)))
-bit_put at word k lt =
+pub bit_put : (at number k : ℕ) → k < 64
+    → HasPut (at + k) (set_bits 64 at number) (set_bits 64 at (bit_or number (2 ^ k)))
+bit_put at number k lt =
     grind (
       arith,
       in_bits,
@@ -125,85 +125,90 @@ pub more_before : (P : ℕ → Type 0) (old new first : List ℕ) → HasGathere
     → HasGathered P (first ++ old) (first ++ new)
 more_before P old new first put = grind (arith, in_append, append_left, append_right)
 
-member_put : (at : ℕ) (words : List ℕ) (i k : ℕ) → i < length words → k < 64
-    → HasPut (at + (64 * i + k)) (members at words)
-    (members at (set words i (bit_or (get_or words i 0) (2 ^ k))))
+member_put : (at : ℕ) (numbers : List ℕ) (i k : ℕ) → i < length numbers → k < 64
+    → HasPut (at + (64 * i + k)) (members at numbers)
+    (members at (set numbers i (bit_or (get_or numbers i 0) (2 ^ k))))
 member_put at [] i k within lt = absurd (omega arith)
-member_put at (word ∷ words) zero k within lt =
+member_put at (number ∷ numbers) zero k within lt =
     let e : at + k ≡ at + (64 * zero + k) = omega arith
-    in more_behind (λ q. q ≡ at + (64 * zero + k)) (set_bits 64 at word)
-    (set_bits 64 at (bit_or word (2 ^ k))) (members (at + 64) words)
-    (subst (λ (n : ℕ). HasPut n (set_bits 64 at word)
-    (set_bits 64 at (bit_or word (2 ^ k)))) e (bit_put at word k lt))
-member_put at (word ∷ words) (suc i) k within lt =
-    grind (arith, more_before, member_put (at + 64) words i k (omega arith) lt)
+    in more_behind (λ q. q ≡ at + (64 * zero + k)) (set_bits 64 at number)
+    (set_bits 64 at (bit_or number (2 ^ k))) (members (at + 64) numbers)
+    (subst (λ (n : ℕ). HasPut n (set_bits 64 at number)
+    (set_bits 64 at (bit_or number (2 ^ k)))) e (bit_put at number k lt))
+member_put at (number ∷ numbers) (suc i) k within lt =
+    grind (arith, more_before, member_put (at + 64) numbers i k (omega arith) lt)
 
 small_shift : (x : ℕ) → x < 2 ^ 64 → 1 * x % 2 ^ 64 ≡ x
 small_shift x small = omega arith
 
-put_bit : (words : List ℕ) (job bit : ℕ) → job < 64 * length words → bit ≡ 2 ^ (job % 64)
-    → HasPut job (members 0 words) (members 0 (set words (job / 64) (bit_or (get_or words (job / 64) 0) bit)))
-put_bit words job bit within is =
+put_bit : (numbers : List ℕ) (job bit : ℕ) → job < 64 * length numbers → bit ≡ 2 ^ (job % 64)
+    → HasPut job (members 0 numbers) (members 0 (set numbers (job / 64) (bit_or (get_or numbers (job / 64) 0) bit)))
+put_bit numbers job bit within is =
     let e : 0 + (64 * (job / 64) + job % 64) ≡ job = omega arith
-    in subst (λ (x : ℕ). HasPut job (members 0 words)
-    (members 0 (set words (job / 64) (bit_or (get_or words (job / 64) 0) x)))) (sym is)
-    (subst (λ (n : ℕ). HasPut n (members 0 words)
-    (members 0 (set words (job / 64) (bit_or (get_or words (job / 64) 0) (2 ^ (job % 64)))))) e
-    (member_put 0 words (job / 64) (job % 64) (omega arith) (omega arith)))
+    in subst (λ (x : ℕ). HasPut job (members 0 numbers)
+    (members 0 (set numbers (job / 64) (bit_or (get_or numbers (job / 64) 0) x)))) (sym is)
+    (subst (λ (n : ℕ). HasPut n (members 0 numbers)
+    (members 0 (set numbers (job / 64) (bit_or (get_or numbers (job / 64) 0) (2 ^ (job % 64)))))) e
+    (member_put 0 numbers (job / 64) (job % 64) (omega arith) (omega arith)))
 
--- a job put into words
-pub put_in : (words : List ℕ) (job word : ℕ) → job < 64 * length words → word ≡ job / 64
-    → HasPut job (members 0 words)
-    (members 0 (set words word (bit_or (get_or words word 0) (1 * 2 ^ (job % 64) % 2 ^ 64))))
-put_in words job word within at =
-    subst (λ (i : ℕ). HasPut job (members 0 words)
-    (members 0 (set words i (bit_or (get_or words i 0) (1 * 2 ^ (job % 64) % 2 ^ 64))))) (sym at)
-    (put_bit words job (1 * 2 ^ (job % 64) % 2 ^ 64) within
+-- a job put into a set
+pub put_in : (numbers : List ℕ) (job number : ℕ) → job < 64 * length numbers → number ≡ job / 64
+    → HasPut job (members 0 numbers)
+    (members 0 (set numbers number (bit_or (get_or numbers number 0) (1 * 2 ^ (job % 64) % 2 ^ 64))))
+put_in numbers job number within at =
+    subst (λ (i : ℕ). HasPut job (members 0 numbers)
+    (members 0 (set numbers i (bit_or (get_or numbers i 0) (1 * 2 ^ (job % 64) % 2 ^ 64))))) (sym at)
+    (put_bit numbers job (1 * 2 ^ (job % 64) % 2 ^ 64) within
     (small_shift (2 ^ (job % 64)) (pow-lt {i = job % 64} {j = 64} (omega arith))))
 
 pub no_members : (n at : ℕ) → members at (replicate n 0) ≡ []
 no_members zero at = refl
 no_members (suc n) at = grind (arith, set_bits-zero, no_members n (at + 64))
 
-next_word : (at i : ℕ) (words : List ℕ) → i < length words
-    → members at (drop i words) ≡ set_bits 64 at (get_or words i 0) ++ members (at + 64) (drop (suc i) words)
-next_word at i [] within = absurd (omega arith)
-next_word at zero (word ∷ words) within = refl
-next_word at (suc i) (word ∷ words) within = next_word at i words (omega arith)
+next_number : (at i : ℕ) (numbers : List ℕ) → i < length numbers
+    → members at (drop i numbers) ≡ set_bits 64 at (get_or numbers i 0) ++ members (at + 64) (drop (suc i) numbers)
+next_number at i [] within = absurd (omega arith)
+next_number at zero (number ∷ numbers) within = refl
+next_number at (suc i) (number ∷ numbers) within = next_number at i numbers (omega arith)
 
-module _ (words : List ℕ) (count : ℕ) (below : (j : ℕ) → IsIn (members 0 words) j → j < count)
-    (i : ℕ) (jobs : List ℕ) (so_far : jobs ++ members (64 * i) (drop i words) ≡ members 0 words) where
-  pub room_for_word : (room : ℕ) → i < length words → count ≤ room
-      → length jobs + length (set_bits 64 (64 * i) (get_or words i 0)) ≤ room
-  room_for_word room within enough =
-      let all = rising_short (members 0 words) 0 count (omega arith) (members_rise 0 words)
-      (λ q h. (omega arith, below q h))
-      in let left = members (64 * i) (drop i words)
-      in let word = set_bits 64 (64 * i) (get_or words i 0)
-      in let rest = members (64 * i + 64) (drop (suc i) words)
+pub few_members : (numbers : List ℕ) (count : ℕ) → ((j : ℕ) → IsIn (members 0 numbers) j → j < count)
+    → length (members 0 numbers) ≤ count
+few_members numbers count below =
+    let all = rising_short (members 0 numbers) 0 count (omega arith) (members_rise 0 numbers)
+    (λ q h. (omega arith, below q h)) in omega arith
+
+module _ (numbers : List ℕ) (count : ℕ) (below : (j : ℕ) → IsIn (members 0 numbers) j → j < count)
+    (i : ℕ) (jobs : List ℕ) (so_far : jobs ++ members (64 * i) (drop i numbers) ≡ members 0 numbers) where
+  pub room_for_number : (room : ℕ) → i < length numbers → count ≤ room
+      → length jobs + length (set_bits 64 (64 * i) (get_or numbers i 0)) ≤ room
+  room_for_number room within enough =
+      let all = few_members numbers count below
+      in let left = members (64 * i) (drop i numbers)
+      in let number = set_bits 64 (64 * i) (get_or numbers i 0)
+      in let rest = members (64 * i + 64) (drop (suc i) numbers)
       in let a = length-append jobs left
       in let b = ap (λ (l : List ℕ). length l) so_far
-      in let d = ap (λ (l : List ℕ). length l) (next_word (64 * i) i words within)
-      in let e = length-append word rest
+      in let d = ap (λ (l : List ℕ). length l) (next_number (64 * i) i numbers within)
+      in let e = length-append number rest
       in omega arith
 
-  pub in_word : i < length words → (q : ℕ) → IsIn (set_bits 64 (64 * i) (get_or words i 0)) q
-      → IsIn (members 0 words) q
-  in_word within q h = grind (arith, append_right, next_word, append_left)
+  pub in_number : i < length numbers → (q : ℕ) → IsIn (set_bits 64 (64 * i) (get_or numbers i 0)) q
+      → IsIn (members 0 numbers) q
+  in_number within q h = grind (arith, append_right, next_number, append_left)
 
--- the jobs of one word more
-pub word_more : (words : List ℕ) (i : ℕ) (done jobs : List ℕ) → i < length words
-    → jobs ≡ set_bits 64 (64 * i) (get_or words i 0)
-    → done ++ members (64 * i) (drop i words) ≡ members 0 words
-    → (done ++ jobs) ++ members (64 * (i + 1)) (drop (i + 1) words) ≡ members 0 words
-word_more words i done jobs within is so_far = grind (arith, next_word, append_assoc)
+-- the jobs of one number more
+pub number_more : (numbers : List ℕ) (i : ℕ) (done jobs : List ℕ) → i < length numbers
+    → jobs ≡ set_bits 64 (64 * i) (get_or numbers i 0)
+    → done ++ members (64 * i) (drop i numbers) ≡ members 0 numbers
+    → (done ++ jobs) ++ members (64 * (i + 1)) (drop (i + 1) numbers) ≡ members 0 numbers
+number_more numbers i done jobs within is so_far = grind (arith, next_number, append_assoc)
 
-drop_all : (i : ℕ) (words : List ℕ) → length words ≤ i → drop i words ≡ []
+drop_all : (i : ℕ) (numbers : List ℕ) → length numbers ≤ i → drop i numbers ≡ []
 drop_all zero [] past = refl
-drop_all zero (word ∷ words) past = absurd (omega arith)
+drop_all zero (number ∷ numbers) past = absurd (omega arith)
 drop_all (suc i) [] past = refl
-drop_all (suc i) (word ∷ words) past = drop_all i words (omega arith)
+drop_all (suc i) (number ∷ numbers) past = drop_all i numbers (omega arith)
 
-pub all_words : (words : List ℕ) (i : ℕ) (done : List ℕ) → length words ≤ i
-    → done ++ members (64 * i) (drop i words) ≡ members 0 words → done ≡ members 0 words
-all_words words i done past so_far = grind (arith, append-nil, drop_all)
+pub all_numbers : (numbers : List ℕ) (i : ℕ) (done : List ℕ) → length numbers ≤ i
+    → done ++ members (64 * i) (drop i numbers) ≡ members 0 numbers → done ≡ members 0 numbers
+all_numbers numbers i done past so_far = grind (arith, append-nil, drop_all)

@@ -6,7 +6,7 @@ use Rattle.shop_model.specs.Shop.{Shop}
 use Rattle.shop_layout.{proofs.Written.written_vec, specs.{LaidOuts.LaidOutState, Positions.LayoutState}}
 use Rattle.shop_states.specs.{declared.beginnings.Beginning.Beginning, inner.{AskedStates.IsKeptFor, LaneRaises.Raise}}
 use Rattle.shop_states.specs.inner.{Buffers.AreBuffersOf, LaneStates.{GoesOn, HasRoom}, MachineRaises.AreEmpty}
-use Rattle.shop_states.specs.{declared.states.State.State, inner.WordStates.{IsSlot, IsStateOf}}
+use Rattle.shop_states.specs.{declared.states.State.State, inner.WordStates.{IsRoom, IsStateOf}}
 use Rattle.shop_states.proofs.AskedStates.{kept_of}
 
 -- so does a vector whose slice was written
@@ -52,9 +52,9 @@ buffers_kept of long empty same = record {
 }
 
 -- the state of a word is room for one
-pub slot_of : {L N : Type 0} {g : Ghosts L N} {d : LaidOutState} {w : List ℕ} {s : State L N} → IsStateOf g d w s
-    → IsSlot g d s
-slot_of is =
+pub room_of : {L N : Type 0} {g : Ghosts L N} {d : LaidOutState} {w : List ℕ} {s : State L N} → IsStateOf g d w s
+    → IsRoom g d s
+room_of is =
     let of = kept_of is
     in record {
       room = record {

@@ -1,11 +1,18 @@
 -- Candidates listed one after the other.
-use Rattle.std.proofs.Common.{◌≡◌, ℕ, zero, suc, ◌+◌, ◌-◌, ◌≤◌, inl, inr, List, [], ◌∷◌, ◌++◌, length, take, refl, sym}
-use Rattle.std.proofs.{Common.{◌∙◌, ap, subst, append_assoc, arith}, lemmas.Bool.{cases_lt, le-leb, lt-leb}}
-use Rattle.std.proofs.{lemmas.List.append-nil, Math.Seq.take-append-add}
-use lib.Dec.{leb}
+use Rattle.std.proofs.Common.{Bool, ltb, ◌≡◌, ℕ, zero, suc, ◌+◌, ◌-◌, ◌≤◌, ◌<◌, inl, inr, List, [], ◌∷◌, ◌++◌, length}
+use Rattle.std.proofs.{Common.{drop, take, set, refl, sym, ◌∙◌, ap, subst, arith}, lemmas.Bool.{cases_Bool, cases_lt}}
+use Rattle.std.proofs.lemmas.{Bool.{le-ltb, lt-ltb}, List.{append-nil, drop_all, take-set, take_all, take_more_set}}
 use mir.Val.{bool_byte}
 use Rattle.shop_states.specs.declared.states.Candidate.{Candidate}
 use Rattle.shop_states.specs.inner.Candidates.{ListsOwn, empty, left_out, taken}
+
+pub at_most_one : (b : Bool) → bool_byte b ≤ 1
+at_most_one b = grind (arith, cases_Bool)
+
+-- a slice as long as the list that lent it
+pub written_back : (n len : ℕ) (slice before : List Candidate) → length slice ≡ length before → len ≡ length before
+    → take n (take len (slice ++ drop (length slice) before)) ≡ take n slice
+written_back n len slice before long lent = grind (arith, drop_all, append-nil, take_all)
 
 module _ (limit : ℕ) (own : ℕ → ℕ) where
   counted : {js : List ℕ} {cs : List Candidate} (n m : ℕ) → n ≡ m → ListsOwn limit own js cs n
@@ -13,45 +20,36 @@ module _ (limit : ℕ) (own : ℕ → ℕ) where
   counted {js} {cs} n m same list = subst (λ (k : ℕ). ListsOwn limit own js cs k) same list
 
   -- two lists as one
-  pub listed_append : {ys : List ℕ} {ds : List Candidate} (m : ℕ) → ListsOwn limit own ys ds m
+  listed_append : {ys : List ℕ} {ds : List Candidate} (m : ℕ) → ListsOwn limit own ys ds m
       → {xs : List ℕ} {cs : List Candidate} {n : ℕ} → ListsOwn limit own xs cs n
       → ListsOwn limit own (xs ++ ys) (cs ++ ds) (n + m)
   listed_append m behind empty = counted m (zero + m) (omega arith) behind
-  listed_append m behind (taken {n = n} j c same is rest) = taken j c same is (listed_append m behind rest)
+  listed_append m behind (taken {n = n} j c same is low rest) = taken j c same is low (listed_append m behind rest)
   listed_append m behind (left_out {n = n} j low rest) =
       counted (suc (n + m)) (suc n + m) (omega arith) (left_out j low (listed_append m behind rest))
 
-  -- one candidate more, listed or not
-  one_listed : (c : Candidate) (others : ℕ) → others ≡ bool_byte (leb limit c.own) → c.own ≡ own c.job
-      → (others ≤ 1) × ListsOwn limit own (c.job ∷ []) (take (1 - others) (c ∷ [])) others
-  one_listed c others told is = elim (cases_lt c.own limit) [
-    | inl below ↦ subst (λ (k : ℕ). (k ≤ 1) × ListsOwn limit own (c.job ∷ []) (take (1 - k) (c ∷ [])) k)
-        (sym (told ∙ ap bool_byte (lt-leb limit c.own below))) (omega arith, taken c.job c refl is empty)
-    | inr low ↦ subst (λ (k : ℕ). (k ≤ 1) × ListsOwn limit own (c.job ∷ []) (take (1 - k) (c ∷ [])) k)
-        (sym (told ∙ ap bool_byte (le-leb limit c.own low))) (omega arith, left_out c.job (omega arith) empty)
+  -- a candidate is written behind those listed so far, and counted if it is below the limit
+  pub one_more : (js : List ℕ) (all : List Candidate) (seen count more : ℕ) (c : Candidate)
+      → count ≤ seen → count < length all → more ≡ bool_byte (ltb c.own limit) → c.own ≡ own c.job
+      → ListsOwn limit own js (take count all) (seen - count)
+      → ListsOwn limit own (js ++ c.job ∷ []) (take (count + more) (set all count c)) (seen + 1 - (count + more))
+  one_more js all seen count more c some room told is list = elim (cases_lt c.own limit) [
+    | inl below ↦ (let one : more ≡ 1 = told ∙ ap bool_byte (lt-ltb c.own limit below)
+        in subst (λ (k : ℕ). ListsOwn limit own (js ++ c.job ∷ []) (take (count + k) (set all count c))
+        (seen + 1 - (count + k))) (sym one)
+        (subst (λ (cs : List Candidate). ListsOwn limit own (js ++ c.job ∷ []) cs (seen + 1 - (count + 1)))
+        (sym (take_more_set all count c room))
+        (counted (seen - count + 0) (seen + 1 - (count + 1)) (omega arith)
+        (listed_append 0 (taken c.job c refl is (omega arith) empty) list))))
+    | inr low ↦ (let none : more ≡ 0 = told ∙ ap bool_byte (le-ltb c.own limit low)
+        in let same : take count all ++ [] ≡ take (count + 0) (set all count c) = append-nil (take count all)
+        ∙ (sym (take-set all count c) ∙ ap (λ (k : ℕ). take k (set all count c)) (omega arith))
+        in subst (λ (k : ℕ). ListsOwn limit own (js ++ c.job ∷ []) (take (count + k) (set all count c))
+        (seen + 1 - (count + k))) (sym none)
+        (subst (λ (cs : List Candidate). ListsOwn limit own (js ++ c.job ∷ []) cs (seen + 1 - (count + 0))) same
+        (counted (seen - count + 1) (seen + 1 - (count + 0)) (omega arith)
+        (listed_append 1 (left_out c.job (omega arith) empty) list))))
   ]
-
-  pub one_more : (js : List ℕ) (cs pushed new : List Candidate) (n len others : ℕ) (c : Candidate)
-      → others ≡ bool_byte (leb limit c.own) → pushed ≡ cs ++ c ∷ [] → len ≡ length cs + 1
-      → new ≡ take (len - others) pushed → c.own ≡ own c.job → ListsOwn limit own js cs n
-      → ListsOwn limit own (js ++ c.job ∷ []) new (n + others)
-  one_more js cs pushed new n len others c told put long cut is list =
-      let one = one_listed c others told is
-      in let left : len - others ≡ length cs + (1 - others) = (let few = one.0 in omega arith)
-      in subst (λ (ds : List Candidate). ListsOwn limit own (js ++ c.job ∷ []) ds (n + others))
-      (sym (cut ∙ (ap (λ (k : ℕ). take k pushed) left ∙ (ap (take (length cs + (1 - others))) put
-      ∙ take-append-add cs (c ∷ []) (1 - others)))))
-      (listed_append others one.1 list)
-
-  -- what was done before, and more
-  pub regrouped : (js done more : List ℕ) (cs : List Candidate) (n a b : ℕ)
-      → ListsOwn limit own ((js ++ done) ++ more) cs ((n + a) + b)
-      → ListsOwn limit own (js ++ (done ++ more)) cs (n + (a + b))
-  regrouped js done more cs n a b list = grind (arith, append_assoc, counted)
-
-  pub begun : (js : List ℕ) (cs : List Candidate) (n : ℕ) → ListsOwn limit own js cs n
-      → ListsOwn limit own (js ++ []) cs (n + 0)
-  begun js cs n list = grind (arith, append-nil, counted)
 
   -- nothing is left to do
   pub ended : (js done left whole : List ℕ) (cs : List Candidate) (n : ℕ) → done ++ left ≡ whole → left ≡ []

@@ -166,7 +166,7 @@ module _ {greatest : ℕ} {shop : Shop} {w : List ℕ} {l : LayoutState} {heads 
         → ((j : ℕ) → IsIn js j → IsIn (conflict shop w) j)
         → ListsBelow shop w limit (λ c. IsCandidateOf shop w l c.job c.own) js cs n
     listing limit own tells empty all = none
-    listing limit own tells (taken j c same own_is rest) all =
+    listing limit own tells (taken j c same own_is low rest) all =
         listed j c same
         (is_one j (all j (inl refl)) c same (ap (max (lb shop w)) (own_is ∙ tells j (all j (inl refl)))))
         (listing limit own tells rest (λ i h. all i (inr h)))

@@ -1,4 +1,5 @@
 -- What a state of a word is known by.
+--     CandidateListState            the candidates of a list, and for how many there is room
 --     IsOfSomeWord P                P holds of some word
 --     HasSoleCandidate shop P job   P holds of some word whose conflict set is one job
 --     CanDispatch shop P job bound  P holds of some word, which can go on with the job and has this bound
@@ -17,6 +18,10 @@ use Rattle.std.specs.Prelude.{OnSome}
 use Rattle.shop_model.specs.{Shop.Shop, Word.IsWord}
 use Rattle.shop_bound.specs.{Bound.lb, Conflicts.conflict}
 use Rattle.shop_states.specs.declared.states.Candidate.{Candidate}
+
+pub record CandidateListState : Type 0 where
+  pub items : List Candidate
+  pub room : ℕ
 
 pub record IsOfSomeWord (P : List ℕ → Type 0) : Type 0 where
   pub word : List ℕ

@@ -1,15 +1,15 @@
 // `Dispatcher`: fills states of words, lists their candidates, and dispatches operations in them.
 ghost use Rattle.std.specs.Prelude.{◌≡◌, ℕ, ◌≤◌, ◌^◌, List, [], ◌∷◌, ◌++◌, All, false, IfOk, IfSome, IsTrue, length};
-ghost use Rattle.std.specs.Prelude.{max, min, vec_capacity};
+ghost use Rattle.std.specs.Prelude.{max, min};
 ghost use Rattle.shop_model.specs.Word.{IsWord};
 ghost use Rattle.shop_bound.specs.{Bound.lb, Conflicts.conflict};
 ghost use Rattle.shop_states.specs.States.{CanDispatch, HasDispatched, HasListed, HasSoleCandidate, IsOfSomeWord};
 ghost use Rattle.shop_states.specs.States.{ListsBelow, Settles};
-ghost use Rattle.shop_states.specs.inner.WordStates.{IsCandidate, IsSlot, IsStateOf, IsStateWith, KnowsChild};
+ghost use Rattle.shop_states.specs.inner.WordStates.{IsCandidate, IsRoom, IsStateOf, IsStateWith, KnowsChild};
 
 use crate::advances::{advance_below, advance_unbounded, dispatch_in_copy, set_next, strike};
 use crate::beginnings::Beginning;
-use crate::candidate_lists::list_candidates;
+use crate::candidate_lists::{CandidateList, list_candidates};
 use crate::dispatches::Dispatch;
 use crate::fills::fill_state;
 use crate::lane_bounds::BoundRange;
@@ -128,8 +128,8 @@ impl<'l, 'a, L: StateLanes> Dispatcher<'l, 'a, L> {
 
     /// Makes room for a state. Fails with `NoMemory` if memory runs out.
     #[inline(never)]
-    pub fn slot(&self, alloc: Global) -> Result<State<L>, NoMemory>
-        ensures { IfOk result (IsSlot L.StateLanes self.now.laid_out) }
+    pub fn room(&self, alloc: Global) -> Result<State<L>, NoMemory>
+        ensures { IfOk result (IsRoom L.StateLanes self.now.laid_out) }
     {
         let jobs = self.laid_out.instance().jobs();
         let lanes = L::new(alloc, self.laid_out.grid().positions(), jobs)?;
@@ -139,7 +139,7 @@ impl<'l, 'a, L: StateLanes> Dispatcher<'l, 'a, L> {
 
     /// Makes `state` the state of the word `path`.
     pub fn fill(&mut self, path: &[u16], state: &mut State<L>)
-        requires slot { IsSlot L.StateLanes self.old.laid_out state.old }
+        requires room { IsRoom L.StateLanes self.old.laid_out state.old }
         requires word { IsWord self.old.laid_out.asked path.now }
         ensures state { IsStateOf L.StateLanes self.old.laid_out path.now state.new }
         ensures same { self.new ≡ self.old }
@@ -160,14 +160,14 @@ impl<'l, 'a, L: StateLanes> Dispatcher<'l, 'a, L> {
         &mut self,
         state: &State<L>,
         limit: u64,
-        candidates: &mut Vec<Candidate>,
+        candidates: &mut CandidateList,
     ) -> usize
         requires state { IsOfSomeWord (λ w. IsStateOf L.StateLanes self.old.laid_out w state.now) }
-        requires room { length self.old.laid_out.asked.jobs ≤ vec_capacity candidates.old }
+        requires room { length self.old.laid_out.asked.jobs ≤ candidates.old.room }
         ensures listed { (w : List ℕ) → IsStateOf L.StateLanes self.old.laid_out w state.now
             → ListsBelow self.old.laid_out.asked w limit (IsCandidate self.old.laid_out w)
             (conflict self.old.laid_out.asked w) candidates.new.items result }
-        ensures room { vec_capacity candidates.old ≤ vec_capacity candidates.new }
+        ensures room { candidates.new.room ≡ candidates.old.room }
         ensures same { self.new ≡ self.old }
     {
         let owns = self.owns.as_mut_slice();
@@ -201,7 +201,7 @@ impl<'l, 'a, L: StateLanes> Dispatcher<'l, 'a, L> {
         ensures dispatched { HasDispatched self.old.laid_out.asked
             (IsStateWith L.StateLanes self.old.laid_out candidate state.old)
             (λ w. IsStateOf L.StateLanes self.old.laid_out w state.new) candidate.job bound limit result }
-        ensures slot { IsSlot L.StateLanes self.old.laid_out state.new }
+        ensures room { IsRoom L.StateLanes self.old.laid_out state.new }
         ensures same { self.new ≡ self.old }
     {
         let grid = self.laid_out.grid();
@@ -227,7 +227,7 @@ impl<'l, 'a, L: StateLanes> Dispatcher<'l, 'a, L> {
         bound: u64,
         limit: u64,
     ) -> Option<u64>
-        requires to { IsSlot L.StateLanes self.old.laid_out to.old }
+        requires to { IsRoom L.StateLanes self.old.laid_out to.old }
         requires can { CanDispatch self.old.laid_out.asked
             (λ w. IsStateWith L.StateLanes self.old.laid_out candidate from.now w
             × (IsTrue IS_KNOWN → KnowsChild self.old.laid_out self.old.ceilings w candidate.job))
@@ -235,7 +235,7 @@ impl<'l, 'a, L: StateLanes> Dispatcher<'l, 'a, L> {
         ensures dispatched { HasDispatched self.old.laid_out.asked
             (IsStateWith L.StateLanes self.old.laid_out candidate from.now)
             (λ w. IsStateOf L.StateLanes self.old.laid_out w to.new) candidate.job bound limit result }
-        ensures slot { IsSlot L.StateLanes self.old.laid_out to.new }
+        ensures room { IsRoom L.StateLanes self.old.laid_out to.new }
         ensures same { self.new ≡ self.old }
     {
         let grid = self.laid_out.grid();
@@ -256,7 +256,7 @@ impl<'l, 'a, L: StateLanes> Dispatcher<'l, 'a, L> {
         candidates: &[Candidate],
         bound: u64,
     ) -> Option<u64>
-        requires room { IsSlot L.StateLanes self.old.laid_out room.old }
+        requires room { IsRoom L.StateLanes self.old.laid_out room.old }
         requires can { HasListed self.old.laid_out.asked
             (λ w. IsStateOf L.StateLanes self.old.laid_out w state.now)
             (IsCandidate self.old.laid_out) candidates.now bound }
@@ -266,7 +266,7 @@ impl<'l, 'a, L: StateLanes> Dispatcher<'l, 'a, L> {
             (conflict self.old.laid_out.asked w) candidates.now others
             → Settles self.old.laid_out.asked w bound top candidates.now
             × All (λ c. KnowsChild self.old.laid_out self.new.ceilings w c.job) candidates.now) }
-        ensures room { IsSlot L.StateLanes self.old.laid_out room.new }
+        ensures room { IsRoom L.StateLanes self.old.laid_out room.new }
         ensures same { self.new.laid_out ≡ self.old.laid_out }
     {
         if candidates.len() < LEAST_TOGETHER {
@@ -288,7 +288,7 @@ impl<'l, 'a, L: StateLanes> Dispatcher<'l, 'a, L> {
         requires { IsOfSomeWord (IsStateWith L.StateLanes self.now.laid_out candidate state.old) }
         ensures state { (w : List ℕ) → IsStateWith L.StateLanes self.now.laid_out candidate state.old w
             → IsStateOf L.StateLanes self.now.laid_out (w ++ candidate.job ∷ []) state.new }
-        ensures slot { IsSlot L.StateLanes self.now.laid_out state.new }
+        ensures room { IsRoom L.StateLanes self.now.laid_out state.new }
     {
         let grid = self.laid_out.grid();
         let dispatch = Dispatch::of(state, grid, candidate.job as usize);

@@ -5,6 +5,7 @@ ghost use Rattle.shop_states.specs.inner.Fills.{CanFill, HasFilledJob, IsAtLeg, 
 ghost use Rattle.shop_states.specs.inner.{LaidLanes.rows_in, LaneStates.{HasRoom, IsKeptInLanes}};
 ghost use Rattle.shop_states.specs.inner.PlacedNexts.{IsPlacedAt, IsWordAt};
 
+use crate::lane_times::number_of;
 use shop_lanes::StateLanes;
 use shop_layout::LaidOut;
 
@@ -39,7 +40,7 @@ fn fill_route<L: StateLanes>(
             return;
         }
         let head = begin.max(free[leg.machine as usize]);
-        lanes.set_head(position, head + 1);
+        lanes.set_head(position, number_of(head));
         begin = head + leg.time;
         at += 1;
     }
@@ -75,7 +76,7 @@ fn fill_job<L: StateLanes>(
         return leg.position;
     }
     let head = ready.max(free[leg.machine as usize]);
-    lanes.set_end(job, head + leg.time + 1);
+    lanes.set_end(job, number_of(head + leg.time));
     fill_route(lanes, laid_out, free, index, ready);
     leg.position
 }

@@ -11,6 +11,7 @@ mod job_sets;
 mod lane_bounds;
 mod lane_choices;
 mod lane_raises;
+mod lane_times;
 mod late_raises;
 mod machine_raises;
 mod machine_sets;
@@ -19,5 +20,6 @@ mod raises;
 mod siblings;
 mod states;
 
+pub use candidate_lists::CandidateList;
 pub use dispatchers::Dispatcher;
 pub use states::{Candidate, State};

@@ -8,6 +8,7 @@ ghost use Rattle.shop_states.specs.inner.Siblings.{BoundsRaises, CanRaiseLate, H
 use crate::dispatches::{Dispatch, MOST_MARKED};
 use crate::lane_bounds::{BoundRange, kept_ceiling, machine_bound, take_any_spans, take_spans_of};
 use crate::lane_raises::{LaneRaise, no_raise, take_raise};
+use crate::lane_times::{number_of, number_of_limit, time_of};
 use crate::late_raises::{LateMachine, raise_late};
 use crate::machine_sets::MachineSet;
 use crate::raises::{raise_any, raise_marked};
@@ -108,14 +109,14 @@ impl<L: StateLanes> MachineRaises<L> {
         let raises = self.raises.as_mut_slice();
         let each = grid.fixed_blocks_each();
         let higher = BoundRange {
-            least: range.least + 1,
-            limit: range.limit + 1,
+            least: number_of(range.least),
+            limit: number_of(range.limit),
             ceilings: range.ceilings,
         };
         if each == 0 {
-            return take_any_spans(raises, raised, lanes, grid, &higher) - 1;
+            return time_of(take_any_spans(raises, raised, lanes, grid, &higher));
         }
-        take_spans_of(each, raises, raised, lanes, grid, &higher) - 1
+        time_of(take_spans_of(each, raises, raised, lanes, grid, &higher))
     }
 
     /// Raises heads on routes after the operations that wait on a late machine, as `late_raises::raise_late` does.
@@ -166,8 +167,8 @@ impl<L: StateLanes> MachineRaises<L> {
         ensures long { length ceilings.new ≡ length ceilings.old }
     {
         let raises = self.raises.as_mut_slice();
-        let lowest = least + 1;
-        let most = limit.saturating_add(1);
+        let lowest = number_of(least);
+        let most = number_of_limit(limit);
         ceilings.fill(lowest);
         let each = grid.fixed_blocks_each();
         let rows = grid.rows(lanes);
@@ -181,6 +182,6 @@ impl<L: StateLanes> MachineRaises<L> {
             ceilings[machine] = ceilings[machine].max(ceiling);
             greatest = greatest.max(ceiling);
         }
-        greatest - 1
+        time_of(greatest)
     }
 }

@@ -3,9 +3,7 @@ use shop_lanes::StateLanes;
 
 /// The state of a word: the head of each waiting operation, by position, and each job's next operation with its end;
 /// or mere room for one. Heads, ends and what is computed of them *in lanes* are one higher than the times that they
-/// mean, so that a head of 0 says that nothing waits; times and tails are as they are. The one is added to heads and
-/// ends in `fills.rt`, and to the range of a bound in `machine_raises.rt`; it is taken off bounds there, and off own
-/// spans in `candidate_lists.rt`.
+/// mean (`lane_times.rt`), so that a head of 0 says that nothing waits; times and tails are as they are.
 #[derive(Drop)]
 pub struct State<L: StateLanes> {
     pub(crate) lanes: L,

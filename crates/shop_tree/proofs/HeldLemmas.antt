@@ -22,13 +22,13 @@ module _ {S : Type 0} (old : List (Held S)) (kids : List (Kept S)) where
   states_moved is word new e below above = subst (All (IsHeld is word)) (sym e)
       (All-append (IsHeld is word) old (map held kids) below (All-map (IsHeld is word) held kids above))
 
-pub some_raised : {S : Type 0} (place depth known count : ℕ) (stack : List (Held S)) (d h : Held S) → 0 < known
-    → known ≤ count → h ≡ get_or stack place d
-    → HasSetRestBelow place depth known count stack
-    (set stack place (record { waiting = Rest depth count; state = h.state }))
-some_raised {S} place depth zero count stack d h some more read below kids at is = absurd (omega arith)
-some_raised {S} place depth (suc known) zero stack d h some more read below kids at is = absurd (omega arith)
-some_raised {S} place depth (suc known) (suc count) stack d h some more read below kids at is =
+pub some_raised : {S : Type 0} (index depth known count : ℕ) (stack : List (Held S)) (d h : Held S) → 0 < known
+    → known ≤ count → h ≡ get_or stack index d
+    → HasSetRestBelow index depth known count stack
+    (set stack index (record { waiting = Rest depth count; state = h.state }))
+some_raised {S} index depth zero count stack d h some more read below kids at is = absurd (omega arith)
+some_raised {S} index depth (suc known) zero stack d h some more read below kids at is = absurd (omega arith)
+some_raised {S} index depth (suc known) (suc count) stack d h some more read below kids at is =
     grind (arith, append_assoc, get_or-append_seam, set-append_seam)
 
 pub waiting_rest : {S : Type 0} (old : List (Held S)) (depth n : ℕ)

@@ -6,13 +6,8 @@ use Rattle.shop_bound.specs.Bound.{lb}
 use Rattle.shop_states.specs.{States.ListsBelow, States.ListsBelow.{none, listed, closed}}
 use Rattle.shop_states.specs.declared.states.Candidate.{Candidate}
 use Rattle.shop_nodes.{specs.{Branching.conflict, declared.halts.Open.Open}, proofs.ChildrenLemmas.child-word}
-use Rattle.shop_tree.{specs.inner.Opens.{AreChildren, IsPlaceAbove}, proofs.AddLemmas.conflict_few}
+use Rattle.shop_tree.{specs.inner.Opens.{AreChildren, IsIndexAbove}, proofs.AddLemmas.conflict_few}
 use Rattle.shop_tree.proofs.PushLemmas.{IsGathered, gathered_none, gathered_open, gathered_other, all_gathered}
-
-pub one_listed : (cs : List Candidate) (c d : Candidate) → length cs ≡ 1 → c ≡ get_or cs 0 d → cs ≡ c ∷ []
-one_listed [] c d long is = absurd (omega arith)
-one_listed (x ∷ []) c d long is = ap (λ (y : Candidate). y ∷ []) (sym is)
-one_listed (x ∷ y ∷ cs) c d long is = absurd (omega arith)
 
 -- the jobs up to the last candidate, and those after it, which are closed
 pub record IsSplit (shop : Shop) (word : List ℕ) (limit : ℕ) (is : Candidate → Type 0) (js : List ℕ)
@@ -105,9 +100,9 @@ module _ {shop : Shop} {word : List ℕ} {limit : ℕ} {is : Candidate → Type 
   lists_all (listed {js = js} {cs = cs} j d same own rest) e = grind (arith, lists_all rest e)
   lists_all (closed {n = n} j high rest) e = absurd (omega arith)
 
-  pub sole_listed : (cs : List Candidate) (c d : Candidate) {n : ℕ} → length cs ≡ 1 → c ≡ get_or cs 0 d → n ≡ 0
+  pub sole_listed : {cs : List Candidate} {c : Candidate} {n : ℕ} → cs ≡ c ∷ [] → n ≡ 0
       → ListsBelow shop word limit is (conflict shop word) cs n → conflict shop word ≡ c.job ∷ []
-  sole_listed cs c d long is each all = lists_all all each ∙ ap (map (λ x. x.job)) (one_listed cs c d long is)
+  sole_listed one each all = lists_all all each ∙ ap (map (λ x. x.job)) one
 
   pub few_closed : {cs : List Candidate} {n : ℕ} → ListsBelow shop word limit is (conflict shop word) cs n
       → length cs + n ≤ length shop.jobs
@@ -149,13 +144,13 @@ module _ {shop : Shop} {word : List ℕ} {limit : ℕ} {is : Candidate → Type 
         → o.bound ≡ lb shop (word ++ c.job ∷ []) → o.bound < limit → AreChildren shop limit word (o ∷ []) n
     alone_kept o is_word depth job bound below =
         let same : word ++ c.job ∷ [] ≡ word ++ o.job ∷ [] = ap (λ (j : ℕ). word ++ j ∷ []) (sym job)
-        in let place : IsPlaceAbove o.bound [] 0 = record {
+        in let index : IsIndexAbove o.bound [] 0 = record {
           within = omega arith;
           above = λ k d le to. absurd (omega arith);
           below = λ d some. absurd (omega arith);
         }
         in let kept = gathered_open (o ∷ []) o 0 after_gathered (subst (IsWord shop) same (alone_fits is_word)) depth
-        (bound ∙ ap (lb shop) same) below place refl
+        (bound ∙ ap (lb shop) same) below index refl
         in let whole = closed_gathered alone.front_lists refl (o ∷ []) alone.after (o.job ∷ alone.back ++ []) kept
         in subst (λ (k : ℕ). AreChildren shop limit word (o ∷ []) k) (let a = alone.count in omega arith)
         (all_gathered whole (ap (λ (j : ℕ). alone.front ++ j ∷ (alone.back ++ [])) job ∙ jobs_are))

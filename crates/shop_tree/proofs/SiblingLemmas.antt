@@ -12,7 +12,7 @@ use Rattle.shop_nodes.specs.Halts.{open_child, word_at}
 use Rattle.shop_nodes.specs.declared.halts.{Open.Open, Waiting.{Waiting, TheVariants.{Child, Rest}}}
 use Rattle.shop_tree.specs.{declared.walk_states.{WalkStates.WalkStates, Branching.Branching}, inner.Opens.AreChildren}
 use Rattle.shop_tree.specs.{inner.Held.{IsHeldOf, IsKept, Kept, held, opens_in}, declared.held.Held.Held}
-use Rattle.shop_tree.specs.inner.{Slots.{AreBounded, IsBranchingOf, IsStateIn, Lists}, Tried.HasGiven}
+use Rattle.shop_tree.specs.inner.{WalkStates.{AreBounded, IsBranchingOf, IsStateIn, Lists}, Tried.HasGiven}
 use Rattle.shop_tree.{specs.inner.Tried.HasPutChildren, proofs.{StripLemmas.{at_kid, many}, TrialLemmas.IsChildBelow}}
 use Rattle.shop_states.specs.inner.WordStates.{KnowsChild}
 

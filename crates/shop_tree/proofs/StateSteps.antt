@@ -4,7 +4,7 @@ use Rattle.std.proofs.Common.{None}
 use Rattle.shop_model.specs.Shop.{operation_count}
 use Rattle.shop_bound.specs.Bound.{lb}
 use Rattle.shop_tree.specs.{declared.held.Held.Held, inner.Held.{IsKept, Kept, held, with_held_rest}}
-use Rattle.shop_tree.specs.{declared.walkers.Walker.Walker, inner.Slots.{IsStateIn, Lists}}
+use Rattle.shop_tree.specs.{declared.walkers.Walker.Walker, inner.WalkStates.{IsStateIn, Lists}}
 use Rattle.shop_tree.specs.inner.StateWalkers.{stage_of, AreHeld, HasGoneOn, HasReached, HasStates, IsListedAt}
 use Rattle.shop_tree.specs.{inner.StateWalkers.{StandsAs, StandsAt}, inner.Walkers.{Stage, HasExpanded, IsInOrder}}
 use Rattle.shop_lanes.specs.declared.state_lanes.StateLanes.{Ghosts}
@@ -25,12 +25,12 @@ module _ {L N : Type 0} {g : Ghosts L N} {v w : Walker L N g} (s : StandsAs v w)
   path_same : w.path.items ≡ v.path.items
   path_same = ap (λ (t : Stage). t.word) s.stage
 
-  best_same : w.best ≡ v.best
-  best_same = ap (λ (t : Stage). t.walk.best) s.stage
+  incumbent_same : w.incumbent ≡ v.incumbent
+  incumbent_same = ap (λ (t : Stage). t.walk.best) s.stage
 
-  candidates_stand : {n : ℕ} → Lists v.states v.path.items v.best v.candidates.items n
-      → Lists w.states w.path.items w.best w.candidates.items n
-  candidates_stand h = rw (s.laid_out, s.candidates, path_same, best_same) h
+  candidates_stand : {n : ℕ} → Lists v.states v.path.items v.incumbent v.candidates.items n
+      → Lists w.states w.path.items w.incumbent w.candidates.items n
+  candidates_stand h = rw (s.laid_out, s.candidates, path_same, incumbent_same) h
 
   state_stands : IsStateIn v.states v.path.items → IsStateIn w.states w.path.items
   state_stands h = grind (arith, path_same)
@@ -40,7 +40,7 @@ pub still_at : {L N : Type 0} {g : Ghosts L N} {v : Walker L N g} (w : Walker L 
     → stage_of w ≡ stage_of v → HasStates w → IsStateIn w.states w.path.items → StandsAt w b
 still_at {v} w at same states state = record {
   bound = at.bound ∙ sym (ap (λ (t : Stage). lb t.shop t.word) same);
-  below = (let a = at.below in let e : w.best ≡ v.best = ap (λ (t : Stage). t.walk.best) same
+  below = (let a = at.below in let e : w.incumbent ≡ v.incumbent = ap (λ (t : Stage). t.walk.best) same
       in omega arith);
   in_order = subst IsInOrder (sym same) at.in_order;
   states = states;
@@ -78,7 +78,7 @@ pub listed_at : {L N : Type 0} {g : Ghosts L N} {v w : Walker L N g} {b n : ℕ}
     → stage_of w ≡ stage_of v → w.stack.items ≡ v.stack.items
     → w.states.dispatcher.laid_out ≡ v.states.dispatcher.laid_out
     → w.states.current.value ≡ v.states.current.value → length w.path.items < w.operations
-    → Lists v.states w.path.items w.best w.candidates.items n → IsListedAt w b n
+    → Lists v.states w.path.items w.incumbent w.candidates.items n → IsListedAt w b n
 listed_at {g = g} {v} {w} {n = n} at stage stack same current short lists =
     let word : w.path.items ≡ v.path.items = ap (λ (t : Stage). t.word) stage
     in record {

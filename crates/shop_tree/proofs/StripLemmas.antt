@@ -5,16 +5,16 @@ use Rattle.std.proofs.lemmas.List.{get_or-append-add, get_or-map, length-append,
 use Rattle.std.{proofs.lemmas.List.Elements.All-set, specs.{Global.Box, List.insert, Prelude.OnSome}}
 use Rattle.shop_nodes.specs.Halts.{word_at}
 use Rattle.shop_tree.specs.{declared.held.Held.Held, inner.Held.{IsHeldOf, IsKept, Kept, held, opens_in}}
-use Rattle.shop_tree.specs.inner.Tried.{AreSlotsFrom, HasPutTried, HasStripped}
+use Rattle.shop_tree.specs.inner.Tried.{AreRoomsFrom, HasPutTried, HasStripped}
 use Rattle.shop_tree.proofs.TrialLemmas.{IsTrying, tried_child, turn_kept}
 use Rattle.shop_states.specs.{States.TellsBoundBelow, declared.states.Candidate.Candidate}
 use Rattle.shop_model.specs.{Shop.Shop, Word.IsWord}
 use Rattle.shop_bound.specs.Bound.{lb}
 
-held_slot : {S : Type 0} (is : List ℕ → S → Type 0) (slot : S → Type 0) → ((w : List ℕ) (s : S) → is w s → slot s)
-    → (w : List ℕ) (state : Option (Box S)) → IsHeldOf is w state → IsHeldOf (λ v s. slot s) [] state
-held_slot is slot law w None of = tt
-held_slot is slot law w (Some b) of = law w b.value of
+held_room : {S : Type 0} (is : List ℕ → S → Type 0) (room : S → Type 0) → ((w : List ℕ) (s : S) → is w s → room s)
+    → (w : List ℕ) (state : Option (Box S)) → IsHeldOf is w state → IsHeldOf (λ v s. room s) [] state
+held_room is room law w None of = tt
+held_room is room law w (Some b) of = law w b.value of
 
 -- the children on top of a stack
 module _ {S : Type 0} (below : List (Held S)) (kids : List (Kept S)) (from : ℕ) (e : from ≡ length below)
@@ -32,13 +32,13 @@ module _ {S : Type 0} (below : List (Held S)) (kids : List (Kept S)) (from : ℕ
       in there ∙ (get_or-append-add below (map held kids) n d ∙ get_or-map (held {S = S}) kids n k d (omega arith))
 
   module _ (is : List ℕ → S → Type 0) (word : List ℕ) (each : All (IsKept is word) kids) where
-    pub are_slots : (slot : S → Type 0) → ((w : List ℕ) (s : S) → is w s → slot s) → AreSlotsFrom slot from stack
-    are_slots slot law i d low high =
+    pub are_rooms : (room : S → Type 0) → ((w : List ℕ) (s : S) → is w s → room s) → AreRoomsFrom room from stack
+    are_rooms room law i d low high =
         let k : Kept S = record { «open» = record { depth = 0; job = 0; bound = 0 }; state = None }
         in let long = many
         in let own = get_or kids (i - from) k
-        in subst (λ (h : Held S). IsHeldOf (λ v s. slot s) [] h.state) (sym (at_kid i low high d k))
-        (held_slot is slot law (word_at word own.open) own.state (each (i - from) k (omega arith)))
+        in subst (λ (h : Held S). IsHeldOf (λ v s. room s) [] h.state) (sym (at_kid i low high d k))
+        (held_room is room law (word_at word own.open) own.state (each (i - from) k (omega arith)))
 
     -- the same children, of which one has no state any more
     pub record AreStripped (new : List (Held S)) : Type 0 where

@@ -4,6 +4,6 @@ pub mod Opens
 pub mod Walkers
 pub mod Held
 pub mod Tried
-pub mod Slots
+pub mod WalkStates
 pub mod StateWalkers
 pub mod LaneWalkers

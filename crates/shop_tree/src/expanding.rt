@@ -2,7 +2,7 @@
 ghost use Rattle.std.specs.Prelude.{◌≡◌, ◌≤◌, ◌<◌, ◌+◌, length, [], ◌∷◌, ◌++◌, OnOk, IfOk};
 ghost use Rattle.shop_model.specs.{Limits.IsWithinLimits, Word.IsWord};
 ghost use Rattle.shop_states.specs.inner.WordStates.{IsStateOf};
-ghost use Rattle.shop_tree.specs.inner.{Opens.AreChildren, Slots.IsStateIn};
+ghost use Rattle.shop_tree.specs.inner.{Opens.AreChildren, WalkStates.IsStateIn};
 ghost use Rattle.shop_tree.specs.inner.StateWalkers.{stage_of, AreHeld, HasGoneOn, HasStates, IsListedAt, StandsAs};
 ghost use Rattle.shop_tree.specs.inner.{StateWalkers.StandsAt, Walkers.{gone_on, HasBranched, HasExpanded, IsInOrder}};
 
@@ -41,7 +41,7 @@ impl<'l, 'a, L: StateLanes> Walker<'l, 'a, L> {
         requires word { IsWord self.old.instance.now self.old.path.items }
         requires limits { IsWithinLimits self.old.instance.now }
         requires short { length self.old.path.items < self.old.operations }
-        requires closed { AreChildren self.old.instance.now self.old.best self.old.path.items [] count }
+        requires closed { AreChildren self.old.instance.now self.old.incumbent self.old.path.items [] count }
         requires in_order { IsInOrder (stage_of self.old) }
         requires states { HasStates self.old }
         ensures expanded { OnOk result (HasExpanded (stage_of self.old) (stage_of self.new)) }
@@ -65,13 +65,13 @@ impl<'l, 'a, L: StateLanes> Walker<'l, 'a, L> {
         requires listed { IsListedAt self.old bound closed }
         ensures { IfOk result (HasGoneOn self.old self.new) }
     {
-        let candidate = self.candidates[0];
+        let candidate = self.candidates.sole();
         if closed == 0 {
             self.states.strike(candidate.job);
             self.take_job(candidate.job);
             return Ok(Some(bound));
         }
-        let Some(bound) = self.states.dispatch_below(candidate, bound, self.best) else {
+        let Some(bound) = self.states.dispatch_below(candidate, bound, self.incumbent) else {
             self.close(closed + 1)?;
             return Ok(None);
         };
@@ -109,13 +109,14 @@ impl<'l, 'a, L: StateLanes> Walker<'l, 'a, L> {
         let left = self.operations - depth;
         self.stripped = self.stripped.min(below);
         put_rest(&mut self.stack, depth, closed)?;
+        let candidates = self.candidates.as_slice();
         let branching = Branching {
             word: self.path.as_slice(),
             bound,
-            limit: self.best,
-            candidates: self.candidates.as_slice(),
+            limit: self.incumbent,
+            candidates,
             closed,
-            is_together: self.candidates.len().saturating_mul(left) >= self.together,
+            is_together: candidates.len().saturating_mul(left) >= self.together,
         };
         let all = self
             .states
@@ -130,14 +131,14 @@ impl<'l, 'a, L: StateLanes> Walker<'l, 'a, L> {
         ensures expanded { OnOk result (HasExpanded (stage_of self.old) (stage_of self.new)) }
         ensures states { OnOk result (HasStates self.new) }
     {
-        if self.candidates.is_empty() {
+        if self.candidates.as_slice().is_empty() {
             return self.close(closed);
         }
         self.reclaim()?;
         self.push_children(alloc, bound, closed)
     }
 
-    /// Keeps the current word, which is full, as the word found, and its bound `bound` as the best makespan. Fails with
+    /// Keeps the current word, which is full, as the word found, and its bound `bound` as the incumbent. Fails with
     /// `NoMemory` if memory runs out.
     #[inline(never)]
     fn keep_found(&mut self, alloc: Global, bound: u64) -> Result<(), NoMemory>
@@ -148,11 +149,11 @@ impl<'l, 'a, L: StateLanes> Walker<'l, 'a, L> {
     {
         let word = SharedWord::of_path(alloc, self.path.as_slice())?;
         self.found = Some(Word::of_shared(word));
-        self.best = bound;
+        self.incumbent = bound;
         Ok(())
     }
 
-    /// Expands the current word, whose bound `bound` is below the best makespan. Follows a sole listed candidate while
+    /// Expands the current word, whose bound `bound` is below the incumbent. Follows a sole listed candidate while
     /// the budget lasts, then branches. Keeps a full word as found. Fails with `NoMemory` if memory runs out.
     pub(crate) fn expand(&mut self, alloc: Global, bound: u64) -> Result<(), NoMemory>
         requires at { StandsAt self.old bound }
@@ -161,7 +162,9 @@ impl<'l, 'a, L: StateLanes> Walker<'l, 'a, L> {
     {
         let mut bound = bound;
         while self.path.len() < self.operations {
-            let closed = self.states.list_candidates(self.best, &mut self.candidates);
+            let closed = self
+                .states
+                .list_candidates(self.incumbent, &mut self.candidates);
             if self.candidates.len() != 1 || self.budget == 0 {
                 return self.branch(alloc, bound, closed);
             }

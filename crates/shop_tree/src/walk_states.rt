@@ -1,15 +1,15 @@
 // The states that a walk keeps: that of its current word, one in which it tries children, and spare ones.
-ghost use Rattle.std.specs.Prelude.{◌≡◌, ℕ, ◌≤◌, List, [], ◌∷◌, ◌++◌, length, vec_capacity, IfOk, OnOk};
+ghost use Rattle.std.specs.Prelude.{◌≡◌, ℕ, ◌≤◌, List, [], ◌∷◌, ◌++◌, length, IfOk, OnOk};
 ghost use Rattle.shop_model.specs.Word.{IsWord};
-ghost use Rattle.shop_states.specs.{States.{HasSoleCandidate, IsOfSomeWord}, inner.WordStates.{IsSlot, IsStateOf}};
+ghost use Rattle.shop_states.specs.{States.{HasSoleCandidate, IsOfSomeWord}, inner.WordStates.{IsRoom, IsStateOf}};
 ghost use Rattle.shop_nodes.specs.Branching.{conflict};
-ghost use Rattle.shop_tree.specs.inner.Held.{AreSlots, IsHeldOf};
+ghost use Rattle.shop_tree.specs.inner.Held.{AreRooms, IsHeldOf};
 
 mod trials;
 
 use shop_lanes::StateLanes;
 use shop_layout::LaidOut;
-use shop_states::{Candidate, Dispatcher, State};
+use shop_states::{Candidate, CandidateList, Dispatcher, State};
 use std::alloc::{AllocError as NoMemory, Global};
 use std::mem;
 
@@ -38,11 +38,11 @@ pub(crate) struct WalkStates<'l, 'a, L: StateLanes> {
     spare: Vec<Box<State<L>>>,
     /// how many more states the walk may allocate
     unmade: usize,
-    pub ghost slots: { AreSlots (IsSlot L.StateLanes dispatcher.laid_out) current.value trial.value spare.items },
+    pub ghost rooms: { AreRooms (IsRoom L.StateLanes dispatcher.laid_out) current.value trial.value spare.items },
 }
 
 impl<'l, 'a, L: StateLanes> WalkStates<'l, 'a, L> {
-    ghost use Rattle.shop_tree.specs.inner.Slots.{CanTake, HasTaken, HaveStayed, IsStateIn, Lists};
+    ghost use Rattle.shop_tree.specs.inner.WalkStates.{CanTake, HasTaken, HaveStayed, IsStateIn, Lists};
 
     /// Makes the current state and the trial's. Allows at most `most` further states, for waiting children, which are
     /// allocated when they are needed. Fails with `NoMemory` if memory runs out.
@@ -55,8 +55,8 @@ impl<'l, 'a, L: StateLanes> WalkStates<'l, 'a, L> {
     {
         let dispatcher = Dispatcher::new(alloc, laid_out)?;
         Ok(WalkStates {
-            current: Box::new(alloc, dispatcher.slot(alloc)?)?,
-            trial: Box::new(alloc, dispatcher.slot(alloc)?)?,
+            current: Box::new(alloc, dispatcher.room(alloc)?)?,
+            trial: Box::new(alloc, dispatcher.room(alloc)?)?,
             dispatcher,
             spare: Vec::new(alloc),
             unmade: most,
@@ -74,12 +74,12 @@ impl<'l, 'a, L: StateLanes> WalkStates<'l, 'a, L> {
 
     /// Replaces `candidates` by the current word's candidates with `own` below `limit`. Returns how many are left out.
     #[inline(always)]
-    pub(crate) fn list_candidates(&mut self, limit: u64, candidates: &mut Vec<Candidate>) -> usize
+    pub(crate) fn list_candidates(&mut self, limit: u64, candidates: &mut CandidateList) -> usize
         requires state { IsOfSomeWord (IsStateIn self.old) }
-        requires room { length self.old.dispatcher.laid_out.asked.jobs ≤ vec_capacity candidates.old }
+        requires room { length self.old.dispatcher.laid_out.asked.jobs ≤ candidates.old.room }
         ensures laid_out { self.new.dispatcher.laid_out ≡ self.old.dispatcher.laid_out }
         ensures listed { (w : List ℕ) → IsStateIn self.old w → Lists self.old w limit candidates.new.items result }
-        ensures room { vec_capacity candidates.old ≤ vec_capacity candidates.new }
+        ensures room { candidates.new.room ≡ candidates.old.room }
         ensures current { self.new.current.value ≡ self.old.current.value }
     {
         self.dispatcher
@@ -121,7 +121,7 @@ impl<'l, 'a, L: StateLanes> WalkStates<'l, 'a, L> {
 
     /// Keeps `state`, if there is one, as a spare state. Fails with `NoMemory` if memory runs out.
     pub(crate) fn give_back(&mut self, state: Option<Box<State<L>>>) -> Result<(), NoMemory>
-        requires slot { IsHeldOf (λ _ s. IsSlot L.StateLanes self.old.dispatcher.laid_out s) [] state }
+        requires room { IsHeldOf (λ _ s. IsRoom L.StateLanes self.old.dispatcher.laid_out s) [] state }
         ensures laid_out { self.new.dispatcher.laid_out ≡ self.old.dispatcher.laid_out }
         ensures stayed { OnOk result (HaveStayed self.old self.new) }
     {
@@ -157,7 +157,7 @@ impl<'l, 'a, L: StateLanes> WalkStates<'l, 'a, L> {
     /// memory runs out.
     #[inline(always)]
     fn spare_state(&mut self, alloc: Global) -> Result<Option<Box<State<L>>>, NoMemory>
-        ensures slot { IfOk result (IsHeldOf (λ _ s. IsSlot L.StateLanes self.old.dispatcher.laid_out s) []) }
+        ensures room { IfOk result (IsHeldOf (λ _ s. IsRoom L.StateLanes self.old.dispatcher.laid_out s) []) }
         ensures stayed { HaveStayed self.old self.new }
     {
         if let Some(state) = self.spare.pop() {
@@ -169,14 +169,14 @@ impl<'l, 'a, L: StateLanes> WalkStates<'l, 'a, L> {
     /// Allocates a state; returns `None` if the walk may allocate no more. Fails with `NoMemory` if memory runs out.
     #[inline(never)]
     fn new_state(&mut self, alloc: Global) -> Result<Option<Box<State<L>>>, NoMemory>
-        ensures slot { IfOk result (IsHeldOf (λ _ s. IsSlot L.StateLanes self.old.dispatcher.laid_out s) []) }
+        ensures room { IfOk result (IsHeldOf (λ _ s. IsRoom L.StateLanes self.old.dispatcher.laid_out s) []) }
         ensures stayed { HaveStayed self.old self.new }
     {
         if self.unmade == 0 {
             return Ok(None);
         }
         self.unmade -= 1;
-        Ok(Some(Box::new(alloc, self.dispatcher.slot(alloc)?)?))
+        Ok(Some(Box::new(alloc, self.dispatcher.room(alloc)?)?))
     }
 
     /// Takes out the trial's state, and puts a spare or new one in its place. Returns `None` if neither can be had.

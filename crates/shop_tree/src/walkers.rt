@@ -11,7 +11,7 @@ use shop_lanes::StateLanes;
 use shop_layout::LayoutFor;
 use shop_model::{Instance, Word};
 use shop_nodes::{Halt, Left, Node, Open, Piece, Sheet, Waiting};
-use shop_states::{Candidate, State};
+use shop_states::{CandidateList, State};
 use std::alloc::{AllocError as NoMemory, Global};
 use std::sync::ArcSlice;
 
@@ -21,25 +21,25 @@ use std::sync::ArcSlice;
 /// are walked, each in a state that is filled from its word. Measured from 10 x 10 to 200 x 15.
 const TOGETHER: usize = 36;
 
-/// A walk: the word found last, the best makespan, and how many more nodes it may take (`budget`); its states, path to
-/// the current word, stack of waiting children, and room for candidates.
+/// A walk: the word found last, the incumbent (the makespan to beat), and how many more nodes it may take (`budget`);
+/// its states, path to the current word, stack of waiting children, and room for candidates.
 pub(crate) struct Walker<'l, 'a, L: StateLanes> {
     pub(crate) instance: &'a Instance,
     pub(crate) operations: usize,
     /// `TOGETHER` times the number of machines, to compare with candidates times operations left on all machines
     pub(crate) together: usize,
     pub(crate) found: Option<Word>,
-    pub(crate) best: u64,
+    pub(crate) incumbent: u64,
     pub(crate) budget: u64,
     pub(crate) states: WalkStates<'l, 'a, L>,
     pub(crate) path: Vec<u16>,
     pub(crate) stack: Vec<Held<State<L>>>,
-    pub(crate) candidates: Vec<Candidate>,
+    pub(crate) candidates: CandidateList,
     /// entries of the stack below this index have no states any more
     pub(crate) stripped: usize,
     pub ghost counted: { operations ≡ operation_count instance.now },
     pub ghost same_shop: { states.dispatcher.laid_out.asked ≡ instance.now },
-    pub ghost room: { length instance.now.jobs ≤ vec_capacity candidates },
+    pub ghost room: { length instance.now.jobs ≤ candidates.room },
     pub ghost path_room: { operation_count instance.now ≤ vec_capacity path },
 }
 
@@ -51,7 +51,7 @@ impl<L: StateLanes> Drop for Walker<'_, '_, L> {
             operations: _,
             together: _,
             found: _,
-            best: _,
+            incumbent: _,
             budget: _,
             states: _,
             path: _,
@@ -90,17 +90,17 @@ impl<'l, 'a, L: StateLanes> Walker<'l, 'a, L> {
             operations: instance.operations(),
             together: TOGETHER * instance.machines(),
             found: None,
-            best: 0,
+            incumbent: 0,
             budget: 0,
             states: WalkStates::new(alloc, layout.laid_out(), most)?,
             path: Vec::with_capacity(alloc, instance.operations())?,
             stack: Vec::new(alloc),
-            candidates: Vec::with_capacity(alloc, instance.jobs())?,
+            candidates: CandidateList::new(alloc, instance.jobs())?,
             stripped: 0,
         })
     }
 
-    /// Takes `child`, which lay on top of the stack. If its bound is below the best makespan, goes on to its word and
+    /// Takes `child`, which lay on top of the stack. If its bound is below the incumbent, goes on to its word and
     /// returns the bound; else gives its state back and returns `None`. Fails with `NoMemory` if memory runs out.
     #[inline(always)]
     fn reach(&mut self, child: Open, state: Option<Box<State<L>>>) -> Result<Option<u64>, NoMemory>
@@ -114,7 +114,7 @@ impl<'l, 'a, L: StateLanes> Walker<'l, 'a, L> {
             (HasReachedFrom (on_top (stage_of self.old) (open_child child)) self.new)) }
     {
         self.budget -= 1;
-        if child.bound >= self.best {
+        if child.bound >= self.incumbent {
             self.states.give_back(state)?;
             return Ok(None);
         }
@@ -145,9 +145,9 @@ impl<'l, 'a, L: StateLanes> Walker<'l, 'a, L> {
         Ok(())
     }
 
-    /// Takes waiting children off the stack, as long as the budget lasts, up to the first whose bound is below the best
-    /// makespan. Goes on to its word and returns the bound; returns `None` if the stack or the budget ends first. Fails
-    /// with `NoMemory` if memory runs out.
+    /// Takes waiting children off the stack, as long as the budget lasts, up to the first whose bound is below the
+    /// incumbent. Goes on to its word and returns the bound; returns `None` if the stack or the budget ends first.
+    /// Fails with `NoMemory` if memory runs out.
     #[inline(always)]
     fn reach_next(&mut self) -> Result<Option<u64>, NoMemory>
         requires in_order { IsInOrder (stage_of self.old) }
@@ -173,7 +173,7 @@ impl<'l, 'a, L: StateLanes> Walker<'l, 'a, L> {
         Ok(None)
     }
 
-    /// Expands the current word, whose bound `bound` is below the best makespan, then walks the waiting children on the
+    /// Expands the current word, whose bound `bound` is below the incumbent, then walks the waiting children on the
     /// stack, depth first, as long as the budget lasts. Fails with `NoMemory` if memory runs out.
     fn walk_from(&mut self, alloc: Global, bound: u64) -> Result<(), NoMemory>
         requires at { StandsAt self.old bound }
@@ -203,7 +203,7 @@ impl<'l, 'a, L: StateLanes> Walker<'l, 'a, L> {
         ensures states { OnOk result (HasStates self.new) }
     {
         self.budget -= 1;
-        if node.bound >= self.best {
+        if node.bound >= self.incumbent {
             return Ok(());
         }
         self.instance.keeps_limits();
@@ -249,7 +249,7 @@ impl<'l, 'a, L: StateLanes> Walker<'l, 'a, L> {
         requires in_order { IsInOrder (stage_of self.now) }
         ensures words { IfOk result (λ h. halted_words self.now.instance.now h
             ≡ stack_words self.now.instance.now self.now.path.items (stage_of self.now).stack) }
-        ensures halt { IfOk result (λ h. AreHalted self.now.instance.now self.now.best h) }
+        ensures halt { IfOk result (λ h. AreHalted self.now.instance.now self.now.incumbent h) }
     {
         if self.stack.is_empty() {
             return Ok(None);
@@ -276,13 +276,13 @@ impl<'l, 'a, L: StateLanes> Walker<'l, 'a, L> {
     {
         self.clear()?;
         self.found = None;
-        self.best = best;
+        self.incumbent = best;
         self.budget = budget;
         let nodes = piece.nodes.as_slice();
         let index = self.walk_nodes(alloc, nodes)?;
         let halt = self.halt(alloc)?;
         let instance = self.instance;
-        let makespan = self.best;
+        let makespan = self.incumbent;
         Ok(Sheet {
             number: piece.number,
             found: self.found.take(),

@@ -45,7 +45,7 @@ pub record IsCandidateOf (shop : Shop) (w : List ℕ) (l : LayoutState) (job own
 pub data ListsOwn (limit : ℕ) (own : ℕ → ℕ) : List ℕ → List Candidate → ℕ → Type 0 where
   empty : ListsOwn limit own [] [] zero
   taken : {js : List ℕ} {cs : List Candidate} {n : ℕ} (j : ℕ) (c : Candidate) → c.job ≡ j
-      → c.own ≡ own j → ListsOwn limit own js cs n → ListsOwn limit own (j ∷ js) (c ∷ cs) n
+      → c.own ≡ own j → own j < limit → ListsOwn limit own js cs n → ListsOwn limit own (j ∷ js) (c ∷ cs) n
   left_out : {js : List ℕ} {cs : List Candidate} {n : ℕ} (j : ℕ) → limit ≤ own j
       → ListsOwn limit own js cs n → ListsOwn limit own (j ∷ js) cs (suc n)
 

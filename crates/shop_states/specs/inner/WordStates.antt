@@ -1,7 +1,7 @@
 -- The state of a word over a layout d, and what a dispatch in it takes. `g` reads lanes as numbers.
 --     DispatcherState         what contracts see of a dispatcher: its layout, and the ceilings of the word whose
 --                             children were bounded together last
---     IsSlot g d s            s has room for a state
+--     IsRoom g d s            s has room for a state
 --     IsStateOf g d w s       s is the state of word w
 --     IsCandidate d w c       the candidate's job and own bound are right for word w
 --     IsStateWith g d c s w   s is the state of word w, of which c is a candidate
@@ -25,7 +25,7 @@ module _ (d : LaidOutState) where
     pub known : AreChildCeilings d.shop w d.layout job ceilings
 
 module _ {L N : Type 0} (g : Ghosts L N) (d : LaidOutState) where
-  pub record IsSlot (s : State L N) : Type 0 where
+  pub record IsRoom (s : State L N) : Type 0 where
     pub room : HasRoom d.shop d.layout (g.heads s.lanes) (g.ends s.lanes) s.next.items
 
   -- no record, so that proofs of a walk don't look into it

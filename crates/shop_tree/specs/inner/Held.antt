@@ -7,8 +7,8 @@
 --     held k                          the entry of the stack for a kept child
 --     bound_of x                      the bound of an open child that waits, and 0 of closed ones
 --     with_held_rest stack depth n    the stack with n closed children of a word of `depth` entries on top, if any
---     HasSetRestBelow i depth n m ..  n closed children at place i, below some kids, become m
---     AreSlots slot current ..        the current state, the trial's and the spare ones are slots
+--     HasSetRestBelow i depth n m ..  n closed children at index i, below some kids, become m
+--     AreRooms room current ..        the current state, the trial's and the spare ones have room
 use Rattle.std.specs.Prelude.{◌≡◌, ℕ, zero, suc, [], ◌∷◌, ◌++◌, Option, Some, None, List, length, map, take, All}
 use Rattle.std.specs.Global.{Box}
 use Rattle.shop_nodes.specs.declared.halts.{Open.Open, Waiting.{Waiting, TheVariants.{Child, Rest}}}
@@ -38,7 +38,7 @@ module _ {S : Type 0} where
   with_held_rest stack depth (suc n) = stack ++ record { waiting = Rest depth (suc n); state = None } ∷ []
 
 abbrev pub HasSetRestBelow : {S : Type 0} → ℕ → ℕ → ℕ → ℕ → List (Held S) → List (Held S) → Type 0
-HasSetRestBelow {S} place depth known count old new = (below kids : List (Held S)) → place ≡ length below
+HasSetRestBelow {S} index depth known count old new = (below kids : List (Held S)) → index ≡ length below
     → old ≡ with_held_rest below depth known ++ kids → new ≡ with_held_rest below depth count ++ kids
 
 module _ {S : Type 0} (is : List ℕ → S → Type 0) where
@@ -56,7 +56,7 @@ module _ {S : Type 0} (is : List ℕ → S → Type 0) where
   abbrev pub IsHeld : List ℕ → Held S → Type 0
   IsHeld word h = IsHeldAs word h.waiting h.state
 
-pub record AreSlots {S : Type 0} (slot : S → Type 0) (current trial : S) (spare : List (Box S)) : Type 0 where
-  pub current_is : slot current
-  pub trial_is : slot trial
-  pub spare_are : All (λ b. slot b.value) spare
+pub record AreRooms {S : Type 0} (room : S → Type 0) (current trial : S) (spare : List (Box S)) : Type 0 where
+  pub current_is : room current
+  pub trial_is : room trial
+  pub spare_are : All (λ b. room b.value) spare

@@ -4,7 +4,7 @@
 --     IsFrom n x, IsAt n x                 with at least, with just n entries
 --     IsRising stack                       no entry begins with less of the word than one below it
 --     AreWaiting shop best word stack      each entry waits, and they rise
---     IsPlaceAbove bound opens i           from place i on all bounds are below this one, and the one before, if any,
+--     IsIndexAbove bound opens i           from index i on all bounds are below this one, and the one before, if any,
 --                                          is not
 --     AreChildren shop limit word opens n  the children of word with bounds below the limit, the first one last, and
 --                                          how many others there are
@@ -36,7 +36,7 @@ pub record AreWaiting (shop : Shop) (best : ℕ) (word : List ℕ) (stack : List
   pub each : AllByRecursion (IsWaiting shop best word) stack
   pub rising : IsRising stack
 
-pub record IsPlaceAbove (bound : ℕ) (opens : List Open) (i : ℕ) : Type 0 where
+pub record IsIndexAbove (bound : ℕ) (opens : List Open) (i : ℕ) : Type 0 where
   pub within : i ≤ length opens
   pub above : (k : ℕ) (d : Open) → i ≤ k → k < length opens → (slice_index_or opens k d).bound < bound
   pub below : (d : Open) → 0 < i → bound ≤ (slice_index_or opens (i - 1) d).bound

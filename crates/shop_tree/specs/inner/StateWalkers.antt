@@ -5,7 +5,7 @@
 --     stage_of w          where it stands: what waits is told without states
 --     HasStates w         each child on its stack has its own state, if any
 --     StandsAs v w        w stands where v stood, with the same current state
---     StandsAt w b        its word has bound b, which is below the best; all that waits, and its states, are in order
+--     StandsAt w b        its word has bound b, below the incumbent; all that waits, and its states, are in order
 --     IsListedAt w b n    so, its word isn't full, and its candidates are at hand, but for n others
 --     HasReachedFrom s w b  the walk went on from stage s to a child that waited there, with bound b, and took it
 --     HasReached v w b    the walk went on from v's word to one with bound b, and took it
@@ -16,7 +16,7 @@ use Rattle.shop_nodes.specs.Walking.{Walk}
 use Rattle.shop_lanes.specs.declared.state_lanes.StateLanes.{Ghosts}
 use Rattle.shop_states.specs.inner.WordStates.{IsStateOf}
 use Rattle.shop_tree.specs.declared.{held.Held.Held, walkers.Walker.Walker}
-use Rattle.shop_tree.specs.inner.{Held.{IsHeld, waiting_in}, Slots.{IsStateIn, Lists}}
+use Rattle.shop_tree.specs.inner.{Held.{IsHeld, waiting_in}, WalkStates.{IsStateIn, Lists}}
 use Rattle.shop_tree.specs.inner.Walkers.{Stage, HasExpanded, HasFollowed, IsInOrder, stack_walk, turns_left, walk_on}
 
 abbrev pub AreHeld : {S : Type 0} → (List ℕ → S → Type 0) → List ℕ → List (Held S) → Type 0
@@ -24,7 +24,7 @@ AreHeld is word hs = All (IsHeld is word) hs
 
 module _ {L N : Type 0} {g : Ghosts L N} where
   abbrev pub walked : Walker L N g → Walk
-  walked w = record { found = w.found; best = w.best; left = []; budget = w.budget }
+  walked w = record { found = w.found; best = w.incumbent; left = []; budget = w.budget }
 
   abbrev pub stage_of : Walker L N g → Stage
   stage_of w = record {
@@ -46,7 +46,7 @@ pub record StandsAs {L N : Type 0} {g : Ghosts L N} (v w : Walker L N g) : Type 
 
 pub record StandsAt {L N : Type 0} {g : Ghosts L N} (w : Walker L N g) (b : ℕ) : Type 0 where
   pub bound : b ≡ lb w.instance.now w.path.items
-  pub below : b < w.best
+  pub below : b < w.incumbent
   pub in_order : IsInOrder (stage_of w)
   pub states : HasStates w
   pub state : IsStateIn w.states w.path.items
@@ -61,7 +61,7 @@ pub record HasReachedFrom {L N : Type 0} {g : Ghosts L N} (s : Stage) (w : Walke
 pub record IsListedAt {L N : Type 0} {g : Ghosts L N} (w : Walker L N g) (b n : ℕ) : Type 0 where
   pub at : StandsAt w b
   pub short : length w.path.items < w.operations
-  pub candidates : Lists w.states w.path.items w.best w.candidates.items n
+  pub candidates : Lists w.states w.path.items w.incumbent w.candidates.items n
 
 pub record HasReached {L N : Type 0} {g : Ghosts L N} (v w : Walker L N g) (b : ℕ) : Type 0 where
   pub followed : HasFollowed (stage_of v) (stage_of w)

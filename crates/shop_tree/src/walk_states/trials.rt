@@ -1,9 +1,9 @@
 // Trials of a word's children: each in a copy of the state of the word, or in this state itself. Where children are
 // bounded together first, settled ones go on the stack without a trial.
 ghost use Rattle.std.specs.Prelude.{◌≡◌, ℕ, ◌≤◌, false, IsTrue, List, [], ◌∷◌, ◌++◌, All, IfOk, IfSome, OnOk, length};
-ghost use Rattle.shop_states.specs.{States.IsOfSomeWord, inner.WordStates.{IsCandidate, IsSlot, IsStateOf}};
-ghost use Rattle.shop_tree.specs.inner.Slots.{AreBounded, CanTake, CanTakeKnown, HasPutAll, HasTaken, IsBranchingOf};
-ghost use Rattle.shop_tree.specs.inner.{Slots.IsStateIn, Tried.{AreSlotsFrom, HasGiven, HasPutTried}};
+ghost use Rattle.shop_states.specs.{States.IsOfSomeWord, inner.WordStates.{IsCandidate, IsRoom, IsStateOf}};
+ghost use Rattle.shop_tree.specs.inner.WalkStates.{AreBounded, CanTake, CanTakeKnown, HasPutAll, HasTaken};
+ghost use Rattle.shop_tree.specs.inner.{Tried.{AreRoomsFrom, HasGiven, HasPutTried}, WalkStates.{IsBranchingOf, IsStateIn}};
 
 use super::{Branching, WalkStates};
 use crate::held::{Held, bare_top, put, strip_top};
@@ -106,7 +106,7 @@ impl<'l, 'a, L: StateLanes> WalkStates<'l, 'a, L> {
         from: usize,
         child: Open,
     ) -> Result<(), NoMemory>
-        requires slots { AreSlotsFrom (IsSlot L.StateLanes self.old.dispatcher.laid_out) from stack.old.items }
+        requires rooms { AreRoomsFrom (IsRoom L.StateLanes self.old.dispatcher.laid_out) from stack.old.items }
         requires from { from ≤ length stack.old.items }
         ensures laid_out { self.new.dispatcher.laid_out ≡ self.old.dispatcher.laid_out }
         ensures put { OnOk result (HasPutTried from child self.old.trial.value stack.old.items stack.new.items) }

@@ -3,7 +3,7 @@ use Rattle.std.proofs.Common.{◌≡◌, ℕ, ◌<◌, ◌%◌, ◌++◌, ◌∷
 use Rattle.shop_model.specs.{Shop.Shop, Word.IsWord}
 use Rattle.shop_bound.specs.Conflicts.{conflict}
 use Rattle.shop_states.specs.{States.ListsBelow, declared.states.Candidate.Candidate, inner.WordStates.KnowsChild}
-use Rattle.shop_states.proofs.{AskedStates.word_of, Candidates.candidate_fits, KeptRoom.slot_of}
+use Rattle.shop_states.proofs.{AskedStates.word_of, Candidates.candidate_fits, KeptRoom.room_of}
 use Rattle.shop_states.proofs.ListedCandidates.{listed_at}
 use Rattle.search_tests.proofs.copies.assert_walk.Goals as goal
 
@@ -25,7 +25,7 @@ known_at P xs None i c here is all = tt
 pub bound_together-together-requires-clause-listed : goal.bound_together-together-requires-clause-listed
 bound_together-together-requires-clause-listed g c = (
   c.list_candidates.result,
-  rw (ap (λ d. d.laid_out) c.list_candidates.ensures.same, c.as_slice.ensures.value, c.deref.ensures.value)
+  rw (ap (λ d. d.laid_out) c.list_candidates.ensures.same, c.as_slice.ensures.value, c.as_slice-listed.ensures)
       (c.list_candidates.ensures.listed c.loop.path.items c.loop.invariant.state),
 )
 
@@ -34,9 +34,9 @@ dispatch_twice-told-requires-clause-state g c =
     let same = c.bound_together-together.ensures.laid_out ∙ ap (λ d. d.laid_out) c.list_candidates.ensures.same
     in let state = c.loop.invariant.state in let w = c.loop.path.items
     in let some = c.if-count-eq0.false in let count = c.len-count.ensures
-    in let long = c.list_candidates.new.candidates.ok.0
     in let its = picked (word_of state) (c.list_candidates.ensures.listed w state) (c.up_to.result % c.len-count.result)
-    c.index-candidate.result.now (omega arith) c.index-candidate.ensures
+    c.candidate_at-candidate.result (omega arith)
+    (rw c.as_slice-listed.ensures at c.candidate_at-candidate.ensures)
     in (
       rw (same, c.as_slice-in-loop.ensures.value, c.bound_together-together.ensures.state) state,
       rw (same, c.as_slice-in-loop.ensures.value) its.1,
@@ -45,21 +45,21 @@ dispatch_twice-told-requires-clause-state g c =
 pub dispatch_twice-told-requires-clause-known : goal.dispatch_twice-told-requires-clause-known
 dispatch_twice-told-requires-clause-known g c =
     let some = c.if-count-eq0.false in let count = c.len-count.ensures
-    in let long = c.list_candidates.new.candidates.ok.0
     in rw (c.bound_together-together.ensures.laid_out, c.as_slice-in-loop.ensures.value)
     (known_at (λ x. KnowsChild c.list_candidates.new.self.laid_out c.bound_together-together.new.dispatcher.ceilings
     c.loop.path.items x.job) c.list_candidates.new.candidates.items c.bound_together-together.result
-    (c.up_to.result % c.len-count.result) c.index-candidate.result.now (omega arith) c.index-candidate.ensures
-    (rw (c.as_slice.ensures.value, c.deref.ensures.value) at c.bound_together-together.ensures.known))
+    (c.up_to.result % c.len-count.result) c.candidate_at-candidate.result (omega arith)
+    (rw c.as_slice-listed.ensures at c.candidate_at-candidate.ensures)
+    (rw (c.as_slice.ensures.value, c.as_slice-listed.ensures) at c.bound_together-together.ensures.known))
 
 pub dispatch_twice-told-requires-clause-fits : goal.dispatch_twice-told-requires-clause-fits
 dispatch_twice-told-requires-clause-fits g c =
     let same = c.bound_together-together.ensures.laid_out ∙ ap (λ d. d.laid_out) c.list_candidates.ensures.same
     in let state = c.loop.invariant.state in let w = c.loop.path.items
     in let some = c.if-count-eq0.false in let count = c.len-count.ensures
-    in let long = c.list_candidates.new.candidates.ok.0
     in let its = picked (word_of state) (c.list_candidates.ensures.listed w state) (c.up_to.result % c.len-count.result)
-    c.index-candidate.result.now (omega arith) c.index-candidate.ensures
+    c.candidate_at-candidate.result (omega arith)
+    (rw c.as_slice-listed.ensures at c.candidate_at-candidate.ensures)
     in rw (same, c.as_slice-in-loop.ensures.value) its.0
 
 pub dispatch_twice-told-requires-clause-placed : goal.dispatch_twice-told-requires-clause-placed
@@ -91,10 +91,10 @@ loop-preserved-in_default g c =
       others = rw all was.others;
     }
 
-pub fill-requires-in_default-2-clause-slot : goal.fill-requires-in_default-2-clause-slot
-fill-requires-in_default-2-clause-slot g c =
+pub fill-requires-in_default-2-clause-room : goal.fill-requires-in_default-2-clause-room
+fill-requires-in_default-2-clause-room g c =
     rw (ap (λ d. d.laid_out) c.fill-in_default.ensures.same ∙ ap (λ d. d.laid_out)
-    c.dispatch_twice-told.ensures.dispatcher) (slot_of c.dispatch_twice-told.ensures.alike)
+    c.dispatch_twice-told.ensures.dispatcher) (room_of c.dispatch_twice-told.ensures.alike)
 
 pub loop-preserved : goal.loop-preserved
 loop-preserved g c =
@@ -109,12 +109,12 @@ loop-preserved g c =
     in let lists = last ∙ (filled ∙ (third ∙ (second ∙ first))) in let before = lists ∙ twice
     in let all = before ∙ together
     in let was = c.loop.invariant
-    in let pushed : c.push.new.self.items ≡ c.loop.path.items ++ c.index-candidate.result.now.job ∷ [] = grind arith
+    in let pushed : c.push.new.self.items ≡ c.loop.path.items ++ c.candidate_at-candidate.result.job ∷ [] = grind arith
     in record {
       state = rw (before, pushed, c.swap.ensures.x_after)
           (rw c.as_slice-in-loop.ensures.value at c.in-Some.ensures.same);
       bound = rw (before, pushed) (rw c.as_slice-in-loop.ensures.value at c.in-Some.ensures.told.0);
-      direct = rw (last ∙ filled, c.swap.ensures.y_after) (slot_of c.fill-in-loop.ensures.state);
+      direct = rw (last ∙ filled, c.swap.ensures.y_after) (room_of c.fill-in-loop.ensures.state);
       placed = rw (before, pushed) (rw c.as_slice-in-loop.ensures.value at c.in-Some.ensures.placed);
       settled = rw (before, pushed) (rw c.as_slice-in-loop.ensures.value at c.dispatch_twice-told.ensures.alike);
       room = rw all (let a = was.room in let b = c.list_candidates.ensures.room
@@ -124,8 +124,8 @@ loop-preserved g c =
           in omega arith);
     }
 
-pub fill-requires-in-loop-clause-slot : goal.fill-requires-in-loop-clause-slot
-fill-requires-in-loop-clause-slot g c =
+pub fill-requires-in-loop-clause-room : goal.fill-requires-in-loop-clause-room
+fill-requires-in-loop-clause-room g c =
     let listed = ap (λ d. d.laid_out) c.list_candidates.ensures.same
     in let together = c.bound_together-together.ensures.laid_out ∙ listed
     in let twice = ap (λ d. d.laid_out) c.dispatch_twice-told.ensures.dispatcher
@@ -136,4 +136,17 @@ fill-requires-in-loop-clause-slot g c =
       (third ∙ (second ∙ first)) ∙ (twice ∙ together),
       c.dispatch_twice-told.ensures.first
           ∙ c.bound_together-together.ensures.state,
-    ) (slot_of c.loop.invariant.state)
+    ) (room_of c.loop.invariant.state)
+
+pub fill-requires-in_default-clause-word : goal.fill-requires-in_default-clause-word
+fill-requires-in_default-clause-word g c =
+    let together = c.bound_together-together.ensures.laid_out ∙ ap (λ d. d.laid_out) c.list_candidates.ensures.same
+    in let twice = ap (λ d. d.laid_out) c.dispatch_twice-told.ensures.dispatcher
+    in rw (twice ∙ together, c.as_slice-in_default.ensures.value) (word_of c.loop.invariant.state)
+
+pub fill-requires-in_default-2-clause-word : goal.fill-requires-in_default-2-clause-word
+fill-requires-in_default-2-clause-word g c =
+    let together = c.bound_together-together.ensures.laid_out ∙ ap (λ d. d.laid_out) c.list_candidates.ensures.same
+    in let twice = ap (λ d. d.laid_out) c.dispatch_twice-told.ensures.dispatcher
+    in let first = ap (λ d. d.laid_out) c.fill-in_default.ensures.same
+    in rw (first ∙ (twice ∙ together), c.as_slice-in_default-2.ensures.value) (word_of c.loop.invariant.state)

@@ -35,8 +35,8 @@ pub returns-clause-alike : goal.returns-clause-alike
 returns-clause-alike g c =
     c.dispatch_settled.ensures.state c.args.path.now (c.requires.settled, c.requires.state.1)
 
-pub returns-clause-slot : goal.returns-clause-slot
-returns-clause-slot g c = c.dispatch_below-told.ensures.slot
+pub returns-clause-room : goal.returns-clause-room
+returns-clause-room g c = c.dispatch_below-told.ensures.room
 
 pub returns-clause-direct : goal.returns-clause-direct
 returns-clause-direct g c =

@@ -1,4 +1,4 @@
-use Rattle.std.proofs.Common.{◌≡◌, ℕ, List, ◌+◌, ◌++◌, length, map, vec_capacity}
+use Rattle.std.proofs.Common.{◌≡◌, ℕ, ◌≤◌, List, ◌+◌, ◌-◌, ◌++◌, length, map, take}
 use Rattle.shop_states.specs.inner.{Candidates.{IsTold, ListsOwn, told_at}, RisingLists.IsIn}
 use Rattle.shop_states.proofs.candidate_lists.list_marked.Given as goal
 
@@ -8,10 +8,12 @@ invariant-loop-job g l =
     in (done : List ℕ) × record {
       all : done ++ l.left ≡ l.fn.jobs;
       told : (j : ℕ) → IsIn l.left j → IsTold l.next l.first (length l.owns) j;
-      listed : (js : List ℕ) (n : ℕ) → ListsOwn l.limit own js l.fn.candidates.items n
-          → ListsOwn l.limit own (js ++ done) l.candidates.items (n + l.others);
-      count : length l.candidates.items + l.others ≡ length l.fn.candidates.items + length done;
-      capacity : vec_capacity l.candidates ≡ vec_capacity l.fn.candidates;
+      listed : (js : List ℕ) → ListsOwn l.limit own js (take l.fn.before.listed l.fn.list)
+          (l.fn.before.seen - l.fn.before.listed) → ListsOwn l.limit own (js ++ done) (take l.tally.listed l.list)
+          (l.tally.seen - l.tally.listed);
+      tally : l.tally.listed ≤ l.tally.seen;
+      seen : l.tally.seen ≡ l.fn.before.seen + length done;
+      room : length l.list ≡ length l.fn.list;
     }
 
 abbrev pub decreases-loop-job : goal.decreases-loop-job

@@ -3,7 +3,7 @@ use Rattle.std.proofs.lemmas.List.{get_or_default}
 use Rattle.shop_bound.specs.Bound.{lb}
 use Rattle.shop_layout.{specs.{Lanes.rows_of, Positions.LayoutState}, proofs.Written.written_vec}
 use Rattle.shop_states.specs.{declared.states.Candidate.Candidate, inner.Advances.IsAdvancing}
-use Rattle.shop_states.{specs.inner.Ceilings.AreChildCeilings, proofs.KeptRoom.{buffers_kept, long_kept, slot_of}}
+use Rattle.shop_states.{specs.inner.Ceilings.AreChildCeilings, proofs.KeptRoom.{buffers_kept, long_kept, room_of}}
 use Rattle.shop_states.proofs.{AskedStates.{bound_behind, bound_there, listed_here}, OwnSpans.candidate_advancing}
 use Rattle.shop_states.proofs.{ListedCandidates.{are_siblings, listed_at}, ReadStates.{candidate_read, kept_copied}}
 use Rattle.shop_states.proofs.AskedStates.{kept_of}
@@ -69,11 +69,11 @@ bound_children-requires-clause-room g c = ap length c.as_mut_slice-ceilings.ensu
 
 pub copy_from-requires-clause-positions : goal.copy_from-requires-clause-positions
 copy_from-requires-clause-positions g c =
-    c.requires.room.room.positions ∙ sym (slot_of c.requires.can.is_word).room.positions
+    c.requires.room.room.positions ∙ sym (room_of c.requires.can.is_word).room.positions
 
 pub copy_from-requires-clause-jobs : goal.copy_from-requires-clause-jobs
 copy_from-requires-clause-jobs g c =
-    c.requires.room.room.jobs_with_ends ∙ sym (slot_of c.requires.can.is_word).room.jobs_with_ends
+    c.requires.room.room.jobs_with_ends ∙ sym (room_of c.requires.can.is_word).room.jobs_with_ends
 
 pub returns-clause-room : goal.returns-clause-room
 returns-clause-room g c = grind arith

@@ -84,8 +84,8 @@ returns-clause-dispatched g c = rw (← c.self.view_is) (record {
       (ready.kept c.self.inside.laid_out.shop w (kept_of of.0).kept of.1.fits _ _ on)));
 })
 
-pub returns-clause-slot : goal.returns-clause-slot
-returns-clause-slot g c =
+pub returns-clause-room : goal.returns-clause-room
+returns-clause-room g c =
     let can = rw (← c.self.view_is) at c.requires.can
     in rw (← c.self.view_is) (record {
       room = room_behind (kept_of can.is.0) c.args.state.now.next refl c.as_mut_slice.ensures.value
@@ -100,8 +100,8 @@ pub invariant_of-self-2 : goal.invariant_of-self-2
 invariant_of-self-2 g c =
     buffers_kept c.self.invariant c.advance_below.ensures.machines c.advance_below.ensures.rest refl
 
-pub returns-in_err-told-clause-slot : goal.returns-in_err-told-clause-slot
-returns-in_err-told-clause-slot g c = record {
+pub returns-in_err-told-clause-room : goal.returns-in_err-told-clause-room
+returns-in_err-told-clause-room g c = record {
   room = room_kept (kept_of c.requires.can.is.0) _ _ _ c.advance_below.ensures.positions c.advance_below.ensures.ends
       refl;
 }

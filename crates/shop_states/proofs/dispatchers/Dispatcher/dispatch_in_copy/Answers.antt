@@ -1,7 +1,7 @@
 use Rattle.std.proofs.Common.{◌∙◌, refl, sym}
 use Rattle.shop_states.proofs.CandidateDispatches.{candidate_can, candidate_kept, candidate_told, its_ceilings}
 use Rattle.shop_states.proofs.AskedStates.{bound_there, kept_of, state_on, told_behind}
-use Rattle.shop_states.proofs.KeptRoom.{buffers_kept, room_kept, slot_of}
+use Rattle.shop_states.proofs.KeptRoom.{buffers_kept, room_kept, room_of}
 use Rattle.shop_states.proofs.dispatchers.Dispatcher.dispatch_in_copy.Goals as goal
 
 pub dispatch_in_copy-requires-clause-can : goal.dispatch_in_copy-requires-clause-can
@@ -30,15 +30,15 @@ invariant_of-self g c =
 
 pub dispatch_in_copy-requires-clause-long : goal.dispatch_in_copy-requires-clause-long
 dispatch_in_copy-requires-clause-long g c =
-    let from = (slot_of c.requires.can.is.0.0).room in let to = c.requires.to.room
+    let from = (room_of c.requires.can.is.0.0).room in let to = c.requires.to.room
     in record {
       positions = to.positions ∙ sym from.positions;
       jobs = to.jobs_with_ends ∙ sym from.jobs_with_ends;
       nexts = to.jobs_with_nexts ∙ sym from.jobs_with_nexts;
     }
 
-pub returns-clause-slot : goal.returns-clause-slot
-returns-clause-slot g c = record {
+pub returns-clause-room : goal.returns-clause-room
+returns-clause-room g c = record {
   room = room_kept (kept_of c.requires.can.is.0.0) _ _ _ c.dispatch_in_copy.ensures.room.positions
       c.dispatch_in_copy.ensures.room.jobs c.dispatch_in_copy.ensures.room.nexts;
 }

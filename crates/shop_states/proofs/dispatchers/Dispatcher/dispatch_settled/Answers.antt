@@ -29,8 +29,8 @@ returns-clause-state g c = rw (← c.self.view_is) (λ w of. of_word (kept_on (k
     (rw (c.grid-grid.ensures.grid, c.of-dispatch.ensures.job)
     at c.advance_unbounded.ensures.state c.self.inside.laid_out.shop w (kept_of of.0).kept of.1.fits)))
 
-pub returns-clause-slot : goal.returns-clause-slot
-returns-clause-slot g c = record {
+pub returns-clause-room : goal.returns-clause-room
+returns-clause-room g c = record {
   room = room_kept (kept_of c.requires.is.0) _ _ _ c.advance_unbounded.ensures.room.positions
       c.advance_unbounded.ensures.room.jobs c.advance_unbounded.ensures.room.nexts;
 }

@@ -8,7 +8,7 @@ use Rattle.shop_states.proofs.dispatchers.Dispatcher.fill.Goals as goal
 pub returns-clause-state : goal.returns-clause-state
 returns-clause-state g c =
     let d = c.self.inside.laid_out
-    in let slot = rw (← c.self.view_is) at c.requires.slot
+    in let room = rw (← c.self.view_is) at c.requires.room
     in let word = rw (← c.self.view_is) at c.requires.word
     in let alike = numbers_alike d.asked d.shop c.grid.ensures.limits
     c.grid.ensures.ready.limits c.grid.ensures.renumbered
@@ -16,7 +16,7 @@ returns-clause-state g c =
     c.place_word.ensures.placed
     in let nexts = written_vec c.args.state.now.next c.as_mut_slice-next.result.now c.fill_state.new.next
     c.as_mut_slice-next.ensures.value (kept.are_next.jobs
-    ∙ (sym slot.room.jobs_with_nexts ∙ sym (ap length c.as_mut_slice-next.ensures.value)))
+    ∙ (sym room.room.jobs_with_nexts ∙ sym (ap length c.as_mut_slice-next.ensures.value)))
     in rw (← c.self.view_is) (of_word (kept_for alike (kept_read refl nexts kept) c.grid.ensures.limits))
 
 pub invariant_of-self : goal.invariant_of-self

@@ -3,7 +3,7 @@ use Rattle.shop_model.specs.Shop.{Shop}
 use Rattle.shop_layout.specs.{Lanes.rows_of, Positions.LayoutState}
 use Rattle.shop_states.specs.{declared.states.Candidate.Candidate, inner.Candidates.AreCandidatesOf}
 use Rattle.shop_states.{specs.inner.LaneStates.IsKeptInLanes, proofs.AskedStates.{kept_of, listed_there}}
-use Rattle.shop_states.proofs.{KeptRoom.{long_kept, slot_of}, ReadStates.kept_read}
+use Rattle.shop_states.proofs.{KeptRoom.{long_kept, room_of}, ReadStates.kept_read}
 use Rattle.shop_states.proofs.dispatchers.Dispatcher.list_candidates.Goals as goal
 
 gathered : (greatest : ℕ) (shop : Shop) (l read : LayoutState) → read ≡ l → (heads ends nexts : List ℕ)
@@ -37,4 +37,4 @@ invariant_of-self g c = grind (arith, long_kept)
 pub list_candidates-requires-clause-room : goal.list_candidates-requires-clause-room
 list_candidates-requires-clause-room g c =
     let has = rw (← c.self.view_is) at c.requires.state in let room = rw (← c.self.view_is) at c.requires.room
-    in let long = (slot_of has.is).room.jobs_with_nexts in let jobs = c.grid.ensures.renumbered.jobs in omega arith
+    in let long = (room_of has.is).room.jobs_with_nexts in let jobs = c.grid.ensures.renumbered.jobs in omega arith

@@ -1,7 +1,7 @@
 use Rattle.std.proofs.Common.{◌≡◌, ℕ, List, All, IfSome, subst}
 use Rattle.shop_bound.specs.Bound.{lb}
 use Rattle.shop_states.specs.States.{Settles}
-use Rattle.shop_tree.{specs.inner.Slots.Lists, proofs.SiblingLemmas.bounded_together}
+use Rattle.shop_tree.{specs.inner.WalkStates.Lists, proofs.SiblingLemmas.bounded_together}
 use Rattle.shop_states.specs.inner.WordStates.{IsStateOf, KnowsChild}
 use Rattle.shop_tree.proofs.walk_states.WalkStates.bound_children.Goals as goal
 

@@ -15,10 +15,10 @@ dispatch_below-requires g c =
 
 pub invariant_of-self : goal.invariant_of-self
 invariant_of-self g c =
-    let old = c.args.self.now.slots
+    let old = c.args.self.now.rooms
     in rw c.dispatch_below.ensures.same (record {
-      slots = record {
-        current_is = c.dispatch_below.ensures.slot;
+      rooms = record {
+        current_is = c.dispatch_below.ensures.room;
         trial_is = old.trial_is;
         spare_are = old.spare_are;
       };

@@ -4,10 +4,10 @@ use Rattle.shop_tree.proofs.walk_states.WalkStates.dispatch_settled.Goals as goa
 
 pub invariant_of-self : goal.invariant_of-self
 invariant_of-self g c =
-    let old = c.loop-index.self.slots
+    let old = c.loop-index.self.rooms
     in record {
-      slots = record {
-        current_is = c.dispatch_settled.ensures.slot;
+      rooms = record {
+        current_is = c.dispatch_settled.ensures.room;
         trial_is = old.trial_is;
         spare_are = old.spare_are;
       };

@@ -3,13 +3,13 @@ use Rattle.std.{proofs.Common.{length, refl}, specs.List.insert}
 use Rattle.shop_model.proofs.WordLengths.{word_length}
 use Rattle.shop_bound.specs.Bound.{lb}
 use Rattle.shop_states.specs.declared.states.Candidate.{Candidate}
-use Rattle.shop_tree.{specs.inner.Tried.{AreSlotsFrom, HasPutChildren}, proofs.AddLemmas.conflict_few}
-use Rattle.shop_tree.proofs.{StripLemmas.{are_slots, many, tried_kept}, SiblingLemmas.{bounded_stays, branching_stays}}
+use Rattle.shop_tree.{specs.inner.Tried.{AreRoomsFrom, HasPutChildren}, proofs.AddLemmas.conflict_few}
+use Rattle.shop_tree.proofs.{StripLemmas.{are_rooms, many, tried_kept}, SiblingLemmas.{bounded_stays, branching_stays}}
 use Rattle.shop_tree.proofs.{SiblingLemmas.{put_given, settled_bound, settled_child}, TrialLemmas.IsTrying}
 use Rattle.shop_tree.proofs.TrialLemmas.{trying_begins, next_own, next_fits, turn_counted, turn_kept, told_high}
 use Rattle.shop_tree.proofs.TrialLemmas.{all_tried}
-use Rattle.shop_states.specs.inner.WordStates.{IsCandidate, IsSlot, IsStateOf}
-use Rattle.shop_states.proofs.KeptRoom.{slot_of}
+use Rattle.shop_states.specs.inner.WordStates.{IsCandidate, IsRoom, IsStateOf}
+use Rattle.shop_states.proofs.KeptRoom.{room_of}
 use Rattle.shop_states.proofs.AskedStates.{limits_of, word_of}
 use Rattle.shop_tree.proofs.walk_states.WalkStates.settle_candidates.Goals as goal
 
@@ -131,15 +131,15 @@ loop-index-preserved-in_default g c =
       same = same ∙ now.same;
     }
 
-pub put_tried-requires-clause-slots : goal.put_tried-requires-clause-slots
-put_tried-requires-clause-slots g c =
+pub put_tried-requires-clause-rooms : goal.put_tried-requires-clause-rooms
+put_tried-requires-clause-rooms g c =
     let now = c.loop-index.invariant in let d = c.loop-index.self.dispatcher.laid_out
-    in let slot = IsSlot g.L.StateLanes
+    in let room = IsRoom g.L.StateLanes
     in let a = c.len-from.ensures in let b = c.args.stack.now.ok.0
-    in subst (λ x. AreSlotsFrom (slot x) c.len-from.result c.loop-index.stack.items)
+    in subst (λ x. AreRoomsFrom (room x) c.len-from.result c.loop-index.stack.items)
     (sym (ap (λ x. x.laid_out) c.try_child.ensures.dispatcher))
-    (are_slots c.args.stack.now.items now.kids c.len-from.result (omega arith) c.loop-index.stack.items now.stack
-    (IsStateOf g.L.StateLanes d) _ now.trying.states (slot d) (λ w s. slot_of))
+    (are_rooms c.args.stack.now.items now.kids c.len-from.result (omega arith) c.loop-index.stack.items now.stack
+    (IsStateOf g.L.StateLanes d) _ now.trying.states (room d) (λ w s. room_of))
 
 pub put_tried-requires-clause-from : goal.put_tried-requires-clause-from
 put_tried-requires-clause-from g c =

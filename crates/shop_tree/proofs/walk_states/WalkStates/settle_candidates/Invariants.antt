@@ -1,5 +1,5 @@
 use Rattle.std.proofs.Common.{◌≡◌, ◌≤◌, ◌++◌, List, map}
-use Rattle.shop_tree.specs.{inner.Held.{Kept, held}, inner.Slots.{AreBounded, IsBranchingOf}}
+use Rattle.shop_tree.specs.{inner.Held.{Kept, held}, inner.WalkStates.{AreBounded, IsBranchingOf}}
 use Rattle.shop_tree.proofs.TrialLemmas.{IsTrying}
 use Rattle.shop_states.specs.inner.WordStates.{IsCandidate, IsStateOf}
 use Rattle.shop_states.specs.declared.states.State.{State}

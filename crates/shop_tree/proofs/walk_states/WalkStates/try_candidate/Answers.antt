@@ -13,9 +13,9 @@ dispatch_in_copy-requires-clause-can g c =
 
 pub invariant_of-self : goal.invariant_of-self
 invariant_of-self g c =
-    let kept = c.dispatch_below-child.new.self.slots
+    let kept = c.dispatch_below-child.new.self.rooms
     in record {
-      slots = record {
+      rooms = record {
         current_is = rw c.swap.ensures.x_after kept.trial_is;
         trial_is = rw c.swap.ensures.y_after kept.current_is;
         spare_are = kept.spare_are;
@@ -24,11 +24,11 @@ invariant_of-self g c =
 
 pub invariant_of-self-2 : goal.invariant_of-self-2
 invariant_of-self-2 g c =
-    let old = c.args.self.now.slots
+    let old = c.args.self.now.rooms
     in rw c.dispatch_in_copy.ensures.same (record {
-      slots = record {
+      rooms = record {
         current_is = old.current_is;
-        trial_is = c.dispatch_in_copy.ensures.slot;
+        trial_is = c.dispatch_in_copy.ensures.room;
         spare_are = old.spare_are;
       };
     })

@@ -12,11 +12,11 @@ dispatch_in_copy-requires-clause-can g c =
 
 pub invariant_of-self : goal.invariant_of-self
 invariant_of-self g c =
-    let old = c.args.self.now.slots
+    let old = c.args.self.now.rooms
     in rw c.dispatch_in_copy.ensures.same (record {
-      slots = record {
+      rooms = record {
         current_is = old.current_is;
-        trial_is = c.dispatch_in_copy.ensures.slot;
+        trial_is = c.dispatch_in_copy.ensures.room;
         spare_are = old.spare_are;
       };
     })

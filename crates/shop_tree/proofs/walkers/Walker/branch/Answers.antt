@@ -1,4 +1,4 @@
-use Rattle.std.proofs.{Common.{◌≡◌, ◌<◌, [], length, subst, arith, rules}, lemmas.List.nil_from_length}
+use Rattle.std.proofs.{Common.{◌≡◌, ◌<◌, [], ap, length, subst, arith, rules}, lemmas.List.nil_from_length}
 use Rattle.shop_model.specs.Shop.{Shop, operation_count}
 use Rattle.shop_tree.specs.inner.{Opens.AreChildren, StateWalkers.stage_of, Walkers.{Stage, HasBranched, HasExpanded}}
 use Rattle.shop_tree.proofs.{ListLemmas.on_ok, ExpandLemmas.expands_branched, ListedLemmas.none_kept}
@@ -9,8 +9,8 @@ pub close-requires-clause-closed : goal.close-requires-clause-closed
 close-requires-clause-closed g c =
     let self = c.args.self.now in let word = self.path.items
     in let none : self.candidates.items ≡ [] = nil_from_length self.candidates.items (let a = c.is_empty.ensures
-    in let b = self.candidates.ok.0 in search rules)
-    in subst (λ (x : Shop). AreChildren x self.best word [] c.args.closed) self.same_shop
+    in let b = ap length c.as_slice.ensures in search rules)
+    in subst (λ (x : Shop). AreChildren x self.incumbent word [] c.args.closed) self.same_shop
     (none_kept self.candidates.items c.args.closed none c.requires.listed.candidates)
 
 pub push_children-requires : goal.push_children-requires

@@ -6,7 +6,7 @@ use Rattle.shop_nodes.specs.{Branching.conflict, declared.halts.Open.Open}
 use Rattle.shop_tree.specs.inner.{Held.waiting_in, Opens.AreChildren, StateWalkers.{stage_of, AreHeld}, Walkers.Stage}
 use Rattle.shop_tree.{specs.inner.Walkers.gone_on, proofs.ExpandLemmas.{HasGone, follows_kept, follows_one}}
 use Rattle.shop_tree.proofs.{HeldLemmas.{rest_waits, states_rest}, ListedLemmas.{alone_closed, alone_fits, alone_kept}}
-use Rattle.shop_tree.proofs.{ListedLemmas.{alone_own, few_closed, one_listed, sole_listed}, StateLemmas.held_on}
+use Rattle.shop_tree.proofs.{ListedLemmas.{alone_own, few_closed, sole_listed}, StateLemmas.held_on}
 use Rattle.shop_tree.proofs.{StateSteps.reached, TrialLemmas.{told_high, told_low, told_state}}
 use Rattle.shop_states.specs.inner.WordStates.{IsStateOf}
 use Rattle.shop_states.proofs.AskedStates.{limits_of, word_of, sole_of}
@@ -17,30 +17,27 @@ strike-requires g c = record {
   sole = record {
     word = c.args.self.now.path.items;
     is = c.requires.listed.at.state;
-    sole = sole_listed c.args.self.now.candidates.items c.index-candidate.result.now _ c.requires.one
-        c.index-candidate.ensures c.if-closed-eq0.true c.requires.listed.candidates;
+    sole = sole_listed c.sole-candidate.ensures c.if-closed-eq0.true c.requires.listed.candidates;
   };
 }
 
 pub take_job-requires-clause-held : goal.take_job-requires-clause-held
 take_job-requires-clause-held g c =
     let self = c.args.self.now in let e = c.strike.new.self.dispatcher.laid_out
-    in held_on (IsStateOf g.L.StateLanes e) self.instance.now self.best self.path.items
-    c.index-candidate.result.now.job self.stack.items c.requires.listed.at.in_order
+    in held_on (IsStateOf g.L.StateLanes e) self.instance.now self.incumbent self.path.items
+    c.sole-candidate.result.job self.stack.items c.requires.listed.at.in_order
     (subst (λ x. AreHeld (IsStateOf g.L.StateLanes x) self.path.items self.stack.items)
     (sym c.strike.ensures.laid_out) c.requires.listed.at.states)
 
 pub take_job-requires-clause-state : goal.take_job-requires-clause-state
 take_job-requires-clause-state g c = c.strike.ensures.state c.args.self.now.path.items c.requires.listed.at.state
-    (sole_listed c.args.self.now.candidates.items c.index-candidate.result.now _ c.requires.one
-    c.index-candidate.ensures c.if-closed-eq0.true c.requires.listed.candidates)
+    (sole_listed c.sole-candidate.ensures c.if-closed-eq0.true c.requires.listed.candidates)
 
 pub returns-then-closed-eq0 : goal.returns-then-closed-eq0
 returns-then-closed-eq0 g c =
     let self = c.args.self.now in let d = self.states.dispatcher.laid_out in let shop = self.instance.now
-    in let word = self.path.items in let job = c.index-candidate.result.now.job in let at = c.requires.listed.at
-    in let alone = sole_listed self.candidates.items c.index-candidate.result.now _ c.requires.one
-    c.index-candidate.ensures c.if-closed-eq0.true c.requires.listed.candidates
+    in let word = self.path.items in let job = c.sole-candidate.result.job in let at = c.requires.listed.at
+    in let alone = sole_listed c.sole-candidate.ensures c.if-closed-eq0.true c.requires.listed.candidates
     in let short : length word < operation_count shop =
     (let a = c.requires.listed.short in let b = self.counted in omega arith)
     in let keeps : SoleCandidateKeepsBound shop word = subst (λ (x : Shop). SoleCandidateKeepsBound x word)
@@ -56,8 +53,8 @@ returns-then-closed-eq0 g c =
 pub dispatch_below-requires : goal.dispatch_below-requires
 dispatch_below-requires g c =
     let self = c.args.self.now in let d = self.states.dispatcher.laid_out in let word = self.path.items
-    in let cand = c.index-candidate.result.now
-    in let one = one_listed self.candidates.items cand _ c.requires.one c.index-candidate.ensures
+    in let cand = c.sole-candidate.result
+    in let one = c.sole-candidate.ensures
     in let at = c.requires.listed.at
     in record {
       can = record {
@@ -85,12 +82,12 @@ close-requires-clause-limits g c = let self = c.args.self.now in subst IsWithinL
 pub close-requires-clause-closed : goal.close-requires-clause-closed
 close-requires-clause-closed g c =
     let self = c.args.self.now in let shop = self.states.dispatcher.laid_out.asked
-    in let word = self.path.items in let cand = c.index-candidate.result.now in let at = c.requires.listed.at
-    in let one = one_listed self.candidates.items cand _ c.requires.one c.index-candidate.ensures
+    in let word = self.path.items in let cand = c.sole-candidate.result in let at = c.requires.listed.at
+    in let one = c.sole-candidate.ensures
     in let bound = at.bound ∙ ap (λ (x : Shop). lb x word) (sym self.same_shop)
-    in let high = told_high self.best (lb shop (word ++ cand.job ∷ [])) c.dispatch_below.result c.in_default.is
+    in let high = told_high self.incumbent (lb shop (word ++ cand.job ∷ [])) c.dispatch_below.result c.in_default.is
     (c.dispatch_below.ensures.taken.bounded word (at.state, alone_own one c.requires.listed.candidates) bound)
-    in subst (λ (x : Shop). AreChildren x self.best word [] (c.args.closed + 1)) self.same_shop
+    in subst (λ (x : Shop). AreChildren x self.incumbent word [] (c.args.closed + 1)) self.same_shop
     (alone_closed one c.requires.listed.candidates high)
 
 pub close-requires-clause-states : goal.close-requires-clause-states
@@ -113,8 +110,8 @@ put_rest-requires g c =
 pub take_job-requires-2-clause-held : goal.take_job-requires-2-clause-held
 take_job-requires-2-clause-held g c =
     let self = c.args.self.now in let is = IsStateOf g.L.StateLanes self.states.dispatcher.laid_out
-    in let next = self.path.items ++ c.index-candidate.result.now.job ∷ [] in let at = c.requires.listed.at
-    in let longer = held_on is self.instance.now self.best self.path.items c.index-candidate.result.now.job
+    in let next = self.path.items ++ c.sole-candidate.result.job ∷ [] in let at = c.requires.listed.at
+    in let longer = held_on is self.instance.now self.incumbent self.path.items c.sole-candidate.result.job
     self.stack.items at.in_order at.states
     in subst (λ x. AreHeld (IsStateOf g.L.StateLanes x) next c.put_rest.new.stack.items)
     (sym c.dispatch_below.ensures.laid_out) (subst (λ hs. AreHeld is next hs) (sym c.in_ok-put_rest.ensures)
@@ -122,8 +119,8 @@ take_job-requires-2-clause-held g c =
 
 pub take_job-requires-2-clause-state : goal.take_job-requires-2-clause-state
 take_job-requires-2-clause-state g c =
-    let self = c.args.self.now in let word = self.path.items in let cand = c.index-candidate.result.now
-    in let one = one_listed self.candidates.items cand _ c.requires.one c.index-candidate.ensures
+    let self = c.args.self.now in let word = self.path.items in let cand = c.sole-candidate.result
+    in let one = c.sole-candidate.ensures
     in let is = IsStateOf g.L.StateLanes in let after = c.dispatch_below.new.self.current.value
     in subst (λ x. is x (word ++ cand.job ∷ []) after) (sym c.dispatch_below.ensures.laid_out)
     (told_state (is self.states.dispatcher.laid_out (word ++ cand.job ∷ []) after) c.in-Some.bound
@@ -133,17 +130,17 @@ take_job-requires-2-clause-state g c =
 pub returns : goal.returns
 returns g c =
     let self = c.args.self.now in let d = self.states.dispatcher.laid_out in let shop = d.asked
-    in let word = self.path.items in let cand = c.index-candidate.result.now
-    in let one = one_listed self.candidates.items cand _ c.requires.one c.index-candidate.ensures
+    in let word = self.path.items in let cand = c.sole-candidate.result
+    in let one = c.sole-candidate.ensures
     in let at = c.requires.listed.at
     in let bound = at.bound ∙ ap (λ (x : Shop). lb x word) (sym self.same_shop)
     in let own = alone_own one c.requires.listed.candidates
     in let is_word = (word_of at.state)
-    in let low = told_low self.best (lb shop (word ++ cand.job ∷ [])) c.in-Some.bound c.dispatch_below.result
+    in let low = told_low self.incumbent (lb shop (word ++ cand.job ∷ [])) c.in-Some.bound c.dispatch_below.result
     c.in-Some.is (c.dispatch_below.ensures.taken.bounded word (at.state, own) bound)
     in let o : Open = record { depth = length word; job = cand.job; bound = c.in-Some.bound }
-    in let kids : AreChildren self.instance.now self.best word (o ∷ []) c.args.closed =
-    subst (λ (x : Shop). AreChildren x self.best word (o ∷ []) c.args.closed) self.same_shop
+    in let kids : AreChildren self.instance.now self.incumbent word (o ∷ []) c.args.closed =
+    subst (λ (x : Shop). AreChildren x self.incumbent word (o ∷ []) c.args.closed) self.same_shop
     (alone_kept one c.requires.listed.candidates o is_word refl refl low.0 low.1)
     in let short : length word < operation_count self.instance.now = (let a = c.requires.listed.short
     in let b = self.counted in omega arith)

@@ -13,7 +13,7 @@ returns-clause-expanded g c =
     let self = c.args.self.now
     in let long : operation_count self.instance.now ≤ length self.path.items = (let a = c.requires.full
     in let b = self.counted in omega arith)
-    in let below : lb self.instance.now self.path.items < self.best = (let a = c.requires.at.bound
+    in let below : lb self.instance.now self.path.items < self.incumbent = (let a = c.requires.at.bound
     in let b = c.requires.at.below in omega arith)
     in let same : _ ≡ found_at (stage_of self) = search rules
     in subst (HasExpanded (stage_of self)) (sym same)

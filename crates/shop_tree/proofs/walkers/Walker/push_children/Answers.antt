@@ -2,7 +2,7 @@ use Rattle.std.proofs.Common.{◌≡◌, ◌<◌, ◌++◌, ◌∙◌, List, ap,
 use Rattle.std.proofs.lemmas.List.{length-append}
 use Rattle.shop_model.{specs.{Shop.{operation_count}, Word.IsWord}, proofs.WordLengths.word_length}
 use Rattle.shop_tree.specs.{declared.held.Held.Held, inner.Held.{held, opens_in, waiting_in}}
-use Rattle.shop_tree.specs.inner.{Slots.{IsStateIn, Lists}, StateWalkers.stage_of, Walkers.HasBranched}
+use Rattle.shop_tree.specs.inner.{WalkStates.{IsStateIn, Lists}, StateWalkers.stage_of, Walkers.HasBranched}
 use Rattle.shop_bound.specs.Bound.{lb}
 use Rattle.shop_tree.proofs.{ListLemmas.on_ok, AddLemmas.few_open, ExpandLemmas.branched, ListedLemmas.few_closed}
 use Rattle.shop_tree.proofs.{HeldLemmas.{rest_long, waiting_put}, StateSteps.held_branched}
@@ -35,7 +35,7 @@ set_rest_below-requires g c =
     in let few = few_open put.children
     in let jobs = limits.jobs in let k = c.len-depth.ensures in let n = self.path.ok.0
     in record {
-      place = omega arith;
+      index = omega arith;
       depth = omega arith;
       more = c.in_ok-all.ensures.children.more;
       count = omega arith;
@@ -44,7 +44,7 @@ set_rest_below-requires g c =
 pub returns-clause-branched : goal.returns-clause-branched
 returns-clause-branched g c =
     let self = c.args.self.now in let d = self.states.dispatcher.laid_out in let word = self.path.items
-    in let best = self.best in let put = c.in_ok-all.ensures.children.put in let opens = opens_in put.kids
+    in let best = self.incumbent in let put = c.in_ok-all.ensures.children.put in let opens = opens_in put.kids
     in let n = c.in_ok-all.all
     in let kids = rw (self.same_shop, c.as_slice.ensures.value) at put.children
     in let is : IsWord self.instance.now word = subst (λ x. IsWord x word) self.same_shop
@@ -53,7 +53,7 @@ returns-clause-branched g c =
     in let b = self.counted in omega arith)
     in let depth : c.len-depth.result ≡ length word = (let a = c.len-depth.ensures in let b = self.path.ok.0
     in omega arith)
-    in let place : c.len-below.result ≡ length self.stack.items = (let a = c.len-below.ensures
+    in let index : c.len-below.result ≡ length self.stack.items = (let a = c.len-below.ensures
     in let b = self.stack.ok.0 in omega arith)
     in let before = put.stack
     ∙ ap (λ (hs : List (Held (State g.row.L.Denot g.row.L-Number.Denot))). hs ++ map held put.kids)
@@ -62,7 +62,7 @@ returns-clause-branched g c =
     in on_ok _ (HasBranched (stage_of self) (record (stage_of self) { stack = waiting_in stack }))
     (λ e. branched (stage_of self) opens n c.len-depth.result (waiting_in stack) is short kids depth
     (waiting_put self.stack.items put.kids stack c.len-depth.result n
-    (e self.stack.items (map held put.kids) place before)))
+    (e self.stack.items (map held put.kids) index before)))
     c.set_rest_below.result c.set_rest_below.ensures
 
 pub returns-clause-states : goal.returns-clause-states
@@ -77,8 +77,8 @@ try_candidates-requires g c =
         state = subst (IsStateIn s) word at.state;
         bound = at.bound ∙ (ap (λ x. lb x self.path.items) (sym self.same_shop)
             ∙ ap (lb s.dispatcher.laid_out.asked) word);
-        listed = subst (λ v. Lists s v self.best c.as_slice-2.result.now c.args.closed) word
-            (subst (λ cs. Lists s self.path.items self.best cs c.args.closed) (sym c.as_slice-2.ensures.value)
+        listed = subst (λ v. Lists s v self.incumbent c.as_slice-candidates.result.now c.args.closed) word
+            (subst (λ cs. Lists s self.path.items self.incumbent cs c.args.closed) (sym c.as_slice-candidates.ensures)
             c.requires.listed.candidates);
       };
     }

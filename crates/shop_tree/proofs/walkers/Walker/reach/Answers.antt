@@ -1,6 +1,6 @@
 use Rattle.std.{proofs.{Common.{◌≡◌, ◌∙◌, ◌<◌, refl, subst, arith}, lemmas.List.length-take-le}, specs.Prelude.take}
 use Rattle.shop_bound.{proofs.WordLengths.room_left}
-use Rattle.shop_tree.specs.inner.{Held.waiting_in, Slots.IsStateIn, StateWalkers.stage_of}
+use Rattle.shop_tree.specs.inner.{Held.waiting_in, WalkStates.IsStateIn, StateWalkers.stage_of}
 use Rattle.shop_tree.proofs.{OpenLemmas.popped, StateLemmas.held_below, WalkerLemmas.turn_cut}
 use Rattle.shop_tree.proofs.WalkerLemmas.{went_in_order, went_turns, went_walk}
 use Rattle.shop_nodes.specs.{Halts.{open_child, word_at}}
@@ -37,7 +37,7 @@ returns g c =
     in let own = (popped (waiting_in hs) (open_child o) c.requires.on).own
     in let went : c.push.new.self.items ≡ word_at word o =
     rw (c.unwrap.ensures, c.truncate.ensures.items) at c.push.ensures.items
-    in let below : o.bound < self.best = (let a = c.if-child-self.false in omega arith)
+    in let below : o.bound < self.incumbent = (let a = c.if-child-self.false in omega arith)
     in record {
       walk = rw went (went_walk s o c.requires.on c.requires.some below);
       fewer = went_turns s o c.requires.some;
@@ -48,7 +48,7 @@ returns g c =
         below = below;
         in_order = rw went (went_in_order s o c.requires.on);
         states = rw (c.go_on_in.ensures.laid_out, went) (held_below (IsStateOf g.L.StateLanes d)
-            self.instance.now self.best word hs o c.requires.on c.requires.states);
+            self.instance.now self.incumbent word hs o c.requires.on c.requires.states);
         state = subst (IsStateIn c.go_on_in.new.self) c.as_slice.ensures.value
             c.in_ok-go_on_in.ensures.state;
       };

@@ -1,5 +1,5 @@
 use Rattle.std.proofs.{Common.arith, lemmas.List.length-replicate}
-use Rattle.shop_states.proofs.dispatchers.Dispatcher.slot.Goals as goal
+use Rattle.shop_states.proofs.dispatchers.Dispatcher.room.Goals as goal
 
 pub returns : goal.returns
 returns g c = grind (arith, length-replicate)
