@@ -110,7 +110,7 @@ fn assert_search_with_states(rt: &impl Abort, alloc: Global, row: &Search, most:
     let piece = piece_of(rt, alloc, &instance, words);
     let layout = Layout::of(alloc, &instance).expect(rt, "memory");
     assert!(rt; budget <= 100);
-    let mut searcher = Searcher::with_states(&instance, &layout, most);
+    let mut searcher = Searcher::with_states(&layout, most);
     let first = searcher.search(alloc, &piece, best, budget);
     let first = first.expect(rt, "memory");
     let second = searcher.search(alloc, &piece, best, budget);

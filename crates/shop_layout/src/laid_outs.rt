@@ -90,7 +90,7 @@ impl<'l, 'a, L: StateLanes> Model for LaidOut<'l, 'a, L> {
 impl<'l, 'a, L: StateLanes> LaidOut<'l, 'a, L> {
     /// The instance as it was given: its machines may have other numbers in the layout.
     #[inline(always)]
-    pub fn instance(&self) -> &Instance
+    pub fn instance(&self) -> &'a Instance
         ensures instance { result.now ≡ self.now.asked }
         ensures renumbered { IsRenumbered self.now.asked self.now.shop }
         ensures limits { IsWithinLimits self.now.asked }

@@ -12,9 +12,9 @@ fn searcher_for<'r>(round: &'r Round<'r>) -> Searcher<'r, 'r>
     ensures { result ≡ round.now.instance.now }
 {
     if round.budget > 1 {
-        return Searcher::over(round.instance, round.layout());
+        return Searcher::over(round.layout());
     }
-    Searcher::with_states(round.instance, round.layout(), 0)
+    Searcher::with_states(round.layout(), 0)
 }
 
 /// Searches pieces of a round one after the other, over the round's layout. Contracts see the round.

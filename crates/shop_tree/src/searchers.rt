@@ -38,30 +38,22 @@ impl Drop for LaneWalker<'_, '_> {
 impl<'l, 'a> LaneWalker<'l, 'a> {
     ghost use Rattle.shop_tree.specs.inner.LaneWalkers.{shop_walked, HasLaneStates, IsWalkOf};
 
-    /// Makes a walk for pieces of `instance`, in the lanes of its layout, with at most `most` states for waiting
-    /// children. Fails with `NoMemory` if memory runs out.
+    /// Makes a walk for pieces of the instance that `layout` lays out, in its lanes, with at most `most` states for
+    /// waiting children. Fails with `NoMemory` if memory runs out.
     fn new(
         alloc: Global,
-        instance: &'a Instance,
         layout: &'l Layout<'a>,
         most: usize,
     ) -> Result<LaneWalker<'l, 'a>, NoMemory>
-        requires { layout.now.asked ≡ instance.now }
-        ensures { IfOk result (IsWalkOf instance.now) }
+        ensures { IfOk result (IsWalkOf layout.now.asked) }
     {
         Ok(match layout.lanes() {
-            LaneLayout::In16By2(layout) => Self::In16By2(Walker::new(
-                alloc, instance, layout, most,
-            )?),
-            LaneLayout::In16By3(layout) => Self::In16By3(Walker::new(
-                alloc, instance, layout, most,
-            )?),
-            LaneLayout::In16By4(layout) => Self::In16By4(Walker::new(
-                alloc, instance, layout, most,
-            )?),
-            LaneLayout::In16(layout) => Self::In16(Walker::new(alloc, instance, layout, most)?),
-            LaneLayout::In32(layout) => Self::In32(Walker::new(alloc, instance, layout, most)?),
-            LaneLayout::In64(layout) => Self::In64(Walker::new(alloc, instance, layout, most)?),
+            LaneLayout::In16By2(layout) => Self::In16By2(Walker::new(alloc, layout, most)?),
+            LaneLayout::In16By3(layout) => Self::In16By3(Walker::new(alloc, layout, most)?),
+            LaneLayout::In16By4(layout) => Self::In16By4(Walker::new(alloc, layout, most)?),
+            LaneLayout::In16(layout) => Self::In16(Walker::new(alloc, layout, most)?),
+            LaneLayout::In32(layout) => Self::In32(Walker::new(alloc, layout, most)?),
+            LaneLayout::In64(layout) => Self::In64(Walker::new(alloc, layout, most)?),
         })
     }
 
@@ -113,7 +105,6 @@ fn bytes_of_number(layout: &Layout) -> usize
 /// Searches pieces of an instance in turn, over a layout that searchers share. The first search makes a walk's states
 /// and stack, and later searches use them again. Its value in contracts is the instance.
 pub struct Searcher<'l, 'a> {
-    instance: &'a Instance,
     layout: &'l Layout<'a>,
     /// how many states the walk may keep for waiting children
     most: usize,
@@ -125,7 +116,6 @@ pub struct Searcher<'l, 'a> {
 impl Drop for Searcher<'_, '_> {
     fn drop(self) {
         let Searcher {
-            instance: _,
             layout: _,
             most: _,
             walker: _,
@@ -134,44 +124,37 @@ impl Drop for Searcher<'_, '_> {
 }
 
 impl<'l, 'a> Model for Searcher<'l, 'a> {
-    ghost use Rattle.std.specs.Prelude.{◌≡◌, IfSome};
+    ghost use Rattle.std.specs.Prelude.{IfSome};
     ghost use Rattle.shop_model.specs.Shop.{Shop};
     ghost use Rattle.shop_tree.specs.inner.LaneWalkers.{IsWalkOf};
 
     ghost Value = { Shop };
 
-    ghost view = { λ s. s.instance.now };
+    ghost view = { λ s. s.layout.now.asked };
 
-    ghost invariant = { λ s. (s.layout.now.asked ≡ s.instance.now)
-        × IfSome s.walker (λ b. IsWalkOf s.instance.now b.value) };
+    ghost invariant = { λ s. IfSome s.walker (λ b. IsWalkOf s.layout.now.asked b.value) };
 }
 
 impl<'l, 'a> Searcher<'l, 'a> {
     ghost use Rattle.shop_tree.specs.inner.LaneWalkers.{IsWalkOf};
 
-    /// Makes a searcher for pieces of `instance`, over its layout. Takes no memory.
-    pub fn over(instance: &'a Instance, layout: &'l Layout<'a>) -> Searcher<'l, 'a>
-        requires { layout.now.asked ≡ instance.now }
-        ensures { result ≡ instance.now }
+    /// Makes a searcher for pieces of the instance that `layout` lays out. Takes no memory.
+    pub fn over(layout: &'l Layout<'a>) -> Searcher<'l, 'a>
+        ensures { result ≡ layout.now.asked }
     {
+        let instance = layout.instance();
         instance.keeps_limits();
         let numbers = instance.operations() + instance.jobs() + 1;
-        Searcher::with_states(instance, layout, ROOM / bytes_of_number(layout) / numbers)
+        Searcher::with_states(layout, ROOM / bytes_of_number(layout) / numbers)
     }
 
-    /// Makes a searcher for pieces of `instance`, over its layout, with at most `most` states for waiting children. A
-    /// search fills the state of any other child from its word when it walks the child. The result of a search doesn't
-    /// depend on `most`. Takes no memory.
-    pub fn with_states(
-        instance: &'a Instance,
-        layout: &'l Layout<'a>,
-        most: usize,
-    ) -> Searcher<'l, 'a>
-        requires { layout.now.asked ≡ instance.now }
-        ensures { result ≡ instance.now }
+    /// Makes a searcher for pieces of the instance that `layout` lays out, with at most `most` states for waiting
+    /// children. A search fills the state of any other child from its word when it walks the child. The result of a
+    /// search doesn't depend on `most`. Takes no memory.
+    pub fn with_states(layout: &'l Layout<'a>, most: usize) -> Searcher<'l, 'a>
+        ensures { result ≡ layout.now.asked }
     {
         Searcher {
-            instance,
             layout,
             most,
             walker: None,
@@ -186,7 +169,7 @@ impl<'l, 'a> Searcher<'l, 'a> {
         if let Some(walker) = self.walker.take() {
             return Ok(walker);
         }
-        let walker = LaneWalker::new(alloc, self.instance, self.layout, self.most)?;
+        let walker = LaneWalker::new(alloc, self.layout, self.most)?;
         Ok(Box::new(alloc, walker)?)
     }
 
@@ -227,6 +210,6 @@ pub fn search<'r>(
     ensures { IfOk result (Searches instance.now piece.now best budget) }
 {
     let layout = Layout::of(alloc, instance)?;
-    let mut searcher = Searcher::over(instance, &layout);
+    let mut searcher = Searcher::over(&layout);
     searcher.search(alloc, piece, best, budget)
 }

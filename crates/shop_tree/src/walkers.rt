@@ -24,6 +24,7 @@ const TOGETHER: usize = 36;
 /// A walk: the word found last, the incumbent (the makespan to beat), and how many more nodes it may take (`budget`);
 /// its states, path to the current word, stack of waiting children, and room for candidates.
 pub(crate) struct Walker<'l, 'a, L: StateLanes> {
+    /// the layout's, held here too, where it plainly stays the same while states change
     pub(crate) instance: &'a Instance,
     pub(crate) operations: usize,
     /// `TOGETHER` times the number of machines, to compare with candidates times operations left on all machines
@@ -70,20 +71,20 @@ impl<'l, 'a, L: StateLanes> Walker<'l, 'a, L> {
     ghost use Rattle.shop_tree.specs.inner.{Held.IsHeldOf, Walkers.{IsTurn, on_top, stack_walk, node_walk, walk_on}};
     ghost use Rattle.shop_tree.specs.inner.Walkers.{IsInOrder, HasWalked, HasWalkedUpTo};
 
-    /// Makes a walk for pieces of `instance`, over its layout, with at most `most` states for waiting children. Fails
-    /// with `NoMemory` if memory runs out.
+    /// Makes a walk for pieces of the instance that `layout` lays out, with at most `most` states for waiting children.
+    /// Fails with `NoMemory` if memory runs out.
     // out of line: a caller with one inlined body for each of six kinds of lanes would take six times the stack memory
     #[inline(never)]
     pub(crate) fn new(
         alloc: Global,
-        instance: &'a Instance,
         layout: LayoutFor<'l, 'a, L>,
         most: usize,
     ) -> Result<Walker<'l, 'a, L>, NoMemory>
-        requires shop { layout.asked ≡ instance.now }
-        ensures instance { IfOk result (λ w. w.instance.now ≡ instance.now) }
+        ensures instance { IfOk result (λ w. w.instance.now ≡ layout.entry.asked) }
         ensures states { IfOk result HasStates }
     {
+        let laid_out = layout.laid_out();
+        let instance = laid_out.instance();
         instance.keeps_limits();
         Ok(Walker {
             instance,
@@ -92,7 +93,7 @@ impl<'l, 'a, L: StateLanes> Walker<'l, 'a, L> {
             found: None,
             incumbent: 0,
             budget: 0,
-            states: WalkStates::new(alloc, layout.laid_out(), most)?,
+            states: WalkStates::new(alloc, laid_out, most)?,
             path: Vec::with_capacity(alloc, instance.operations())?,
             stack: Vec::new(alloc),
             candidates: CandidateList::new(alloc, instance.jobs())?,

@@ -7,16 +7,16 @@ none_kept : {kept : Option (Box LaneWalker)} (shop : Shop) → kept ≡ None →
 none_kept shop is = rw is tt
 
 pub invariant_of-self-2 : goal.invariant_of-self-2
-invariant_of-self-2 c = (c.self.invariant.0, none_kept _ c.take.ensures.after)
+invariant_of-self-2 c = none_kept _ c.take.ensures.after
 
 pub invariant_of-self-in_err-new : goal.invariant_of-self-in_err-new
-invariant_of-self-in_err-new c = (c.self.invariant.0, none_kept _ c.take.ensures.after)
+invariant_of-self-in_err-new c = none_kept _ c.take.ensures.after
 
 pub invariant_of-self-in_err-walker : goal.invariant_of-self-in_err-walker
-invariant_of-self-in_err-walker c = (c.self.invariant.0, none_kept _ c.take.ensures.after)
+invariant_of-self-in_err-walker c = none_kept _ c.take.ensures.after
 
 pub returns-clause-walker : goal.returns-clause-walker
-returns-clause-walker c = let made = subst (IsWalkOf c.self.inside.instance.now) (sym c.in_ok-new.ensures.ok)
+returns-clause-walker c = let made = subst (IsWalkOf c.self.inside.layout.now.asked) (sym c.in_ok-new.ensures.ok)
     c.in_ok-walker.ensures in (made.0 ∙ c.self.view_is, made.1)
 
 pub returns-in_err-new-clause-instance : goal.returns-in_err-new-clause-instance
