@@ -7,7 +7,7 @@ use Rattle.std.proofs.lemmas.List.{Elements.{All-head, All-tail}, Sums.sum_by-co
 use Rattle.std.{proofs.lemmas.List.Sorted.sum_by-IsPermutation, specs.BinaryHeap.{heap_items, heap_len, heap_capacity}}
 use Rattle.std.specs.{List.All, Prelude.IsPermutation, Option.{is_some, unwrap_or}}
 use Rattle.shop_bound.specs.{declared.triples.Triple.Triple, declared.queues.Work.Work, inner.Thresholds.no_triple}
-use Rattle.shop_bound.specs.inner.Serving.{work_at, fresh, undone_of, IsReleasedAt, IsServed, IsStop, IsReady}
+use Rattle.shop_bound.specs.inner.Serving.{work_at, fresh, undone_of, IsServable, IsServed, IsStop, IsReady}
 use Rattle.shop_bound.specs.{inner.HeapOrders.{Coming, Released}, inner.Queues.KeepsRoom, declared.queues.Queue.Queue}
 use Rattle.shop_bound.specs.inner.Queues.{coming_place, released_place, times, IsToCome, IsReleased, AreQueued}
 use Rattle.shop_bound.specs.inner.Queues.{ComeLater, IsNextRelease, IsBehind, IsFirst, TakesReleased, IsQueue}
@@ -121,7 +121,7 @@ module _ (ws : List Work) (clock : ℕ) (cs : List Coming) (hs : List Released) 
         }
 
     -- where the heap of the released is empty, none is released that is not done
-    pub none_released : IsFirst hs None → (k : ℕ) → IsReleasedAt ws clock k → ⊥
+    pub none_released : IsFirst hs None → (k : ℕ) → IsServable ws clock k → ⊥
     none_released none k w = grind (arith, is_released, not_coming, times-none, count_undone)
 
     -- what is ready

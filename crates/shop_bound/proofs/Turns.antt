@@ -5,7 +5,7 @@ use Rattle.std.proofs.lemmas.{Bool.{cases_lt, cases_eq, true≢false}, List.{get
 use Rattle.std.{proofs.lemmas.List.length-set, specs.List.{filter, sum_by}}
 use Rattle.shop_bound.specs.{declared.{triples.Triple.Triple, queues.Work.Work}, OneMachine.{one, greatest_of, IsSmall}}
 use Rattle.shop_bound.specs.inner.{Thresholds.{is_above, span_above}, Serving.{no_work, work_at, triples_of}}
-use Rattle.shop_bound.specs.inner.Serving.{fresh, IsReleasedAt, IsServed, IsStop, IsRelease, IsReady, worked, IsBusy}
+use Rattle.shop_bound.specs.inner.Serving.{fresh, IsServable, IsServed, IsStop, IsLeastRelease, IsReady, worked, IsBusy}
 use Rattle.shop_bound.specs.inner.Serving.{IsRun, turns_left, undone}
 use Rattle.shop_bound.proofs.{Lists.get_or-le-greatest_of, WorkSums.IsFresh}
 use Rattle.shop_bound.proofs.WorkSums.{span_above-parts, worked-none, none_above, triple_at, triples-set, set_all}
@@ -87,7 +87,7 @@ module _ (ws : List Work) (clock best i d : ℕ) (v : Work) (run : IsRun ws cloc
       | inl more ↦ record {
         from = clock + d;
         before = omega arith;
-        released = λ (j : ℕ) (w : IsReleasedAt (set ws i v) (clock + d) j)
+        released = λ (j : ℕ) (w : IsServable (set ws i v) (clock + d) j)
             (h : tail ≤ (work_at (set ws i v) j).triple.tail).
             later more j w h;
         enough = omega arith;
@@ -99,7 +99,7 @@ module _ (ws : List Work) (clock best i d : ℕ) (v : Work) (run : IsRun ws cloc
           in record {
             from = (run.busy tail).from;
             before = omega arith;
-            released = λ (j : ℕ) (w : IsReleasedAt (set ws i v) (clock + d) j)
+            released = λ (j : ℕ) (w : IsServable (set ws i v) (clock + d) j)
                 (h : tail ≤ (work_at (set ws i v) j).triple.tail).
                 as_before few j w h;
             enough = omega arith;
@@ -117,7 +117,7 @@ module _ (ws : List Work) (clock best i d : ℕ) (v : Work) (run : IsRun ws cloc
       undone_before : (j : ℕ) → j ≢ i → (work_at (set ws i v) j).done ≡ false → (work_at ws j).done ≡ false
       undone_before j ne h = sym (ap (λ (w : Work). w.done) (get_or-set_other ws i j v no_work ne)) ∙ h
 
-      later : (work_at ws i).triple.tail < tail → (j : ℕ) → IsReleasedAt (set ws i v) (clock + d) j
+      later : (work_at ws i).triple.tail < tail → (j : ℕ) → IsServable (set ws i v) (clock + d) j
           → tail ≤ (work_at (set ws i v) j).triple.tail → clock + d ≤ (work_at (set ws i v) j).triple.head
       later more j w h =
           let a = same_head j in let b = same_tail j
@@ -131,7 +131,7 @@ module _ (ws : List Work) (clock best i d : ℕ) (v : Work) (run : IsRun ws cloc
             ]
           ]
 
-      as_before : tail ≤ (work_at ws i).triple.tail → (j : ℕ) → IsReleasedAt (set ws i v) (clock + d) j
+      as_before : tail ≤ (work_at ws i).triple.tail → (j : ℕ) → IsServable (set ws i v) (clock + d) j
           → tail ≤ (work_at (set ws i v) j).triple.tail → (run.busy tail).from ≤ (work_at (set ws i v) j).triple.head
       as_before few j w h =
           let a = same_head j in let b = same_tail j in let before = (run.busy tail).before
@@ -192,7 +192,7 @@ module _ (ws : List Work) (clock best i d : ℕ) (v : Work) (run : IsRun ws cloc
           ]
 
 -- a jump over idle time
-pub jumped : (ws : List Work) (clock ready best : ℕ) → IsRun ws clock best → IsRelease (length ws) ws clock ready
+pub jumped : (ws : List Work) (clock ready best : ℕ) → IsRun ws clock best → IsLeastRelease (length ws) ws clock ready
     → IsRun ws ready best
 jumped ws clock ready best run r = grind (arith, get_or-le-greatest_of, greatest_of-map)
 
@@ -206,8 +206,8 @@ started ws fresh = grind (arith, true≢false, worked-none, none_above)
 
 -- what is ready after a turn
 pub ready_or_done : (ws : List Work) (clock ready : ℕ) → IsReady ws clock ready
-    → ((k : ℕ) × IsReleasedAt ws ready k) ⊎ ((k : ℕ) → k < length ws → (work_at ws k).done ≡ true)
-ready_or_done ws clock ready (inl w) = inl (w.0.0, subst (λ (t : ℕ). IsReleasedAt ws t w.0.0) (sym w.1) w.0.1)
+    → ((k : ℕ) × IsServable ws ready k) ⊎ ((k : ℕ) → k < length ws → (work_at ws k).done ≡ true)
+ready_or_done ws clock ready (inl w) = inl (w.0.0, subst (λ (t : ℕ). IsServable ws t w.0.0) (sym w.1) w.0.1)
 ready_or_done ws clock ready (inr (inl r)) = grind arith
 ready_or_done ws clock ready (inr (inr d)) = inr d.0
 

@@ -86,7 +86,7 @@ fn bucket_behind(
     first: usize,
     most: usize,
 ) -> Result<(Option<usize>, usize), NoMemory>
-    ensures bucket { IfOk result (λ p. IfSome p.0 (IsBehind first most stacks.now)) }
+    ensures behind { IfOk result (λ p. IfSome p.0 (IsBehind first most stacks.now)) }
     ensures count { IfOk result (λ p. p.1 ≤ length (nodes_in_row 0 stacks.now)) }
 {
     let mut count = 0_usize;
@@ -230,9 +230,9 @@ impl BoundRow {
         if self.wait > 0 {
             return Ok(());
         }
-        let (bucket, count) = bucket_behind(self.stacks.as_slice(), self.first, most)?;
+        let (behind, count) = bucket_behind(self.stacks.as_slice(), self.first, most)?;
         self.wait = self.stacks.len().saturating_add(count / 8);
-        let Some(end) = bucket else {
+        let Some(end) = behind else {
             return Ok(());
         };
         count_from(self.stacks.as_slice(), end, distant)?;

@@ -33,7 +33,7 @@ append_rises (x ∷ xs) ys r s lt = (
   append_rises xs ys r.1 s (λ a b h g. lt a b (inr h) g),
 )
 
--- q is the number of a bit that is set
+-- the bit at q is set
 abbrev IsBit : ℕ → ℕ → ℕ → ℕ → Type 0
 IsBit n at number q = (i : ℕ) × (i < n) × (q ≡ at + i) × (bit_at number i ≡ 1)
 

@@ -26,8 +26,8 @@ put_high low high m bit from here is =
     (subst (λ (n : ℕ). HasPut n (set_bits 64 64 high) (set_bits 64 64 (bit_or high (2 ^ (m - 64))))) e
     (bit_put 64 high (m - 64) (omega arith))))
 
-pub put_small : (word k : ℕ) → word < 2 ^ 64 → k < 64 → bit_or word (1 * 2 ^ k % 2 ^ 64) < 2 ^ 64
-put_small word k small here = or_lt 64 word (1 * 2 ^ k % 2 ^ 64) small (omega arith)
+pub put_small : (number k : ℕ) → number < 2 ^ 64 → k < 64 → bit_or number (1 * 2 ^ k % 2 ^ 64) < 2 ^ 64
+put_small number k small here = or_lt 64 number (1 * 2 ^ k % 2 ^ 64) small (omega arith)
 
 pub none_put : machines_of 0 0 ≡ []
 none_put = ap (λ (l : List ℕ). l ++ set_bits 64 64 0) (set_bits-zero 64 0) ∙ set_bits-zero 64 64

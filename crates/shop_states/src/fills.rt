@@ -5,7 +5,7 @@ ghost use Rattle.shop_states.specs.inner.Fills.{CanFill, HasFilledJob, IsAtLeg, 
 ghost use Rattle.shop_states.specs.inner.{LaidLanes.rows_in, LaneStates.{HasRoom, IsKeptInLanes}};
 ghost use Rattle.shop_states.specs.inner.PlacedNexts.{IsPlacedAt, IsWordAt};
 
-use crate::lane_times::number_of;
+use crate::lane_times::lane_number;
 use shop_lanes::StateLanes;
 use shop_layout::LaidOut;
 
@@ -40,7 +40,7 @@ fn fill_route<L: StateLanes>(
             return;
         }
         let head = begin.max(free[leg.machine as usize]);
-        lanes.set_head(position, number_of(head));
+        lanes.set_head(position, lane_number(head));
         begin = head + leg.time;
         at += 1;
     }
@@ -76,7 +76,7 @@ fn fill_job<L: StateLanes>(
         return leg.position;
     }
     let head = ready.max(free[leg.machine as usize]);
-    lanes.set_end(job, number_of(head + leg.time));
+    lanes.set_end(job, lane_number(head + leg.time));
     fill_route(lanes, laid_out, free, index, ready);
     leg.position
 }

@@ -3,7 +3,7 @@ ghost use Rattle.std.specs.Prelude.{◌≡◌, ◌+◌, ◌-◌, ◌^◌, ◌<�
 
 /// Returns the number in lanes that means `time`.
 #[inline(always)]
-pub(crate) fn number_of(time: u64) -> u64
+pub(crate) fn lane_number(time: u64) -> u64
     requires { time + 1 < 2 ^ 64 }
     ensures { result ≡ time + 1 }
 {
@@ -12,7 +12,7 @@ pub(crate) fn number_of(time: u64) -> u64
 
 /// Returns the number in lanes that means `limit`; `u64::MAX` stays.
 #[inline(always)]
-pub(crate) fn number_of_limit(limit: u64) -> u64
+pub(crate) fn lane_limit(limit: u64) -> u64
     ensures { result ≡ min (limit + 1) (2 ^ 64 - 1) }
 {
     limit.saturating_add(1)
@@ -20,7 +20,7 @@ pub(crate) fn number_of_limit(limit: u64) -> u64
 
 /// Returns the time that `number`, a bound in lanes, means.
 #[inline(always)]
-pub(crate) fn time_of(number: u64) -> u64
+pub(crate) fn bound_time(number: u64) -> u64
     requires { 0 < number }
     ensures { result ≡ number - 1 }
 {

@@ -8,7 +8,7 @@ ghost use Rattle.shop_states.specs.inner.Siblings.{BoundsRaises, CanRaiseLate, H
 use crate::dispatches::{Dispatch, MOST_MARKED};
 use crate::lane_bounds::{BoundRange, kept_ceiling, machine_bound, take_any_spans, take_spans_of};
 use crate::lane_raises::{LaneRaise, no_raise, take_raise};
-use crate::lane_times::{number_of, number_of_limit, time_of};
+use crate::lane_times::{bound_time, lane_limit, lane_number};
 use crate::late_raises::{LateMachine, raise_late};
 use crate::machine_sets::MachineSet;
 use crate::raises::{raise_any, raise_marked};
@@ -109,14 +109,14 @@ impl<L: StateLanes> MachineRaises<L> {
         let raises = self.raises.as_mut_slice();
         let each = grid.fixed_blocks_each();
         let higher = BoundRange {
-            least: number_of(range.least),
-            limit: number_of(range.limit),
+            least: lane_number(range.least),
+            limit: lane_number(range.limit),
             ceilings: range.ceilings,
         };
         if each == 0 {
-            return time_of(take_any_spans(raises, raised, lanes, grid, &higher));
+            return bound_time(take_any_spans(raises, raised, lanes, grid, &higher));
         }
-        time_of(take_spans_of(each, raises, raised, lanes, grid, &higher))
+        bound_time(take_spans_of(each, raises, raised, lanes, grid, &higher))
     }
 
     /// Raises heads on routes after the operations that wait on a late machine, as `late_raises::raise_late` does.
@@ -167,8 +167,8 @@ impl<L: StateLanes> MachineRaises<L> {
         ensures long { length ceilings.new ≡ length ceilings.old }
     {
         let raises = self.raises.as_mut_slice();
-        let lowest = number_of(least);
-        let most = number_of_limit(limit);
+        let lowest = lane_number(least);
+        let most = lane_limit(limit);
         ceilings.fill(lowest);
         let each = grid.fixed_blocks_each();
         let rows = grid.rows(lanes);
@@ -182,6 +182,6 @@ impl<L: StateLanes> MachineRaises<L> {
             ceilings[machine] = ceilings[machine].max(ceiling);
             greatest = greatest.max(ceiling);
         }
-        time_of(greatest)
+        bound_time(greatest)
     }
 }

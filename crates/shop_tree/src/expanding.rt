@@ -131,7 +131,7 @@ impl<'l, 'a, L: StateLanes> Walker<'l, 'a, L> {
         ensures expanded { OnOk result (HasExpanded (stage_of self.old) (stage_of self.new)) }
         ensures states { OnOk result (HasStates self.new) }
     {
-        if self.candidates.as_slice().is_empty() {
+        if self.candidates.len() == 0 {
             return self.close(closed);
         }
         self.reclaim()?;

@@ -18,7 +18,7 @@ abbrev pub fresh : Triple → Work
 fresh t = record { triple = t; spent = 0; done = false }
 
 -- operation i is released at the clock, and not done
-pub record IsReleasedAt (ws : List Work) (clock i : ℕ) : Type 0 where
+pub record IsServable (ws : List Work) (clock i : ℕ) : Type 0 where
   pub here : i < length ws
   pub undone : (work_at ws i).done ≡ false
   pub released : (work_at ws i).triple.head ≤ clock
@@ -42,16 +42,16 @@ pub record IsStop (n : ℕ) (ws : List Work) (clock end stop : ℕ) : Type 0 whe
       × ((work_at ws k).triple.head ≡ stop))
 
 -- of the first n, the least release of those that are not done, all of which are later than the clock
-pub record IsRelease (n : ℕ) (ws : List Work) (clock ready : ℕ) : Type 0 where
+pub record IsLeastRelease (n : ℕ) (ws : List Work) (clock ready : ℕ) : Type 0 where
   pub later : clock < ready
   pub least : (k : ℕ) → k < n → (work_at ws k).done ≡ false → ready ≤ (work_at ws k).triple.head
   pub reason : (k : ℕ) × (k < n) × ((work_at ws k).done ≡ false) × ((work_at ws k).triple.head ≡ ready)
 
--- the clock where `IsReleasedAt` holds of one or all are done, else the next release
+-- the clock where `IsServable` holds of one or all are done, else the next release
 abbrev pub IsReady : List Work → ℕ → ℕ → Type 0
 IsReady ws clock ready =
-    (((k : ℕ) × IsReleasedAt ws clock k) × (ready ≡ clock))
-    ⊎ (IsRelease (length ws) ws clock ready
+    (((k : ℕ) × IsServable ws clock k) × (ready ≡ clock))
+    ⊎ (IsLeastRelease (length ws) ws clock ready
     ⊎ (((k : ℕ) → k < length ws → (work_at ws k).done ≡ true)
     × (ready ≡ clock)))
 
@@ -67,7 +67,7 @@ worked head tail ws = sum_by (spent_above head tail) ws
 pub record IsBusy (ws : List Work) (clock tail : ℕ) : Type 0 where
   pub from : ℕ
   pub before : from ≤ clock
-  pub released : (i : ℕ) → IsReleasedAt ws clock i → tail ≤ (work_at ws i).triple.tail
+  pub released : (i : ℕ) → IsServable ws clock i → tail ≤ (work_at ws i).triple.tail
       → from ≤ (work_at ws i).triple.head
   pub enough : clock ≤ from + worked from tail ws
 

@@ -2,8 +2,8 @@ use Rattle.std.proofs.Common.{◌+◌, arith}
 use Rattle.shop_runs.proofs.BoundRowLemmas.{count_bucket, not_more}
 use Rattle.shop_runs.proofs.bound_rows.bucket_behind.Goals as goal
 
-pub returns-then-most-count-clause-bucket : goal.returns-then-most-count-clause-bucket
-returns-then-most-count-clause-bucket c = grind (arith, count_bucket)
+pub returns-then-most-count-clause-behind : goal.returns-then-most-count-clause-behind
+returns-then-most-count-clause-behind c = grind (arith, count_bucket)
 
 pub returns-then-most-count-clause-count : goal.returns-then-most-count-clause-count
 returns-then-most-count-clause-count c =

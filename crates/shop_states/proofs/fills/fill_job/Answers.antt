@@ -29,8 +29,8 @@ overflow_add-head g c =
     c.if-leg-positions.false c.requires.of.at c.max-head.ensures).1
     in let computable = c.requires.fill.computable in omega arith
 
-pub number_of-requires : goal.number_of-requires
-number_of-requires g c =
+pub lane_number-requires : goal.lane_number-requires
+lane_number-requires g c =
     let fits = (leg_fits c.requires.fill c.requires.job (filling_begins c.requires.fill c.requires.job c.requires.of.at)
     (c.routes.ensures ∙ c.grid-grid.ensures.grid) c.leg-leg.ensures (rw c.grid-grid.ensures.grid at c.positions.ensures)
     c.if-leg-positions.false c.requires.of.at c.max-head.ensures).1
@@ -41,13 +41,13 @@ set_end-requires-clause-fits g c =
     let fits = (leg_fits c.requires.fill c.requires.job (filling_begins c.requires.fill c.requires.job c.requires.of.at)
     (c.routes.ensures ∙ c.grid-grid.ensures.grid) c.leg-leg.ensures (rw c.grid-grid.ensures.grid at c.positions.ensures)
     c.if-leg-positions.false c.requires.of.at c.max-head.ensures).1
-    in let is = c.number_of.ensures in omega arith
+    in let is = c.lane_number.ensures in omega arith
 
 pub returns-clause-next : goal.returns-clause-next
 returns-clause-next g c = λ s at p placed. end_set c.requires.fill c.requires.job at
     (c.routes.ensures ∙ c.grid-grid.ensures.grid) c.leg-leg.ensures (rw c.grid-grid.ensures.grid at c.positions.ensures)
     p placed c.if-leg-positions.false c.max-head.ensures
-    (rw c.number_of.ensures at (c.fill_route.ensures.ends ∙ c.set_end.ensures.ends))
+    (rw c.lane_number.ensures at (c.fill_route.ensures.ends ∙ c.set_end.ensures.ends))
     (let many = c.requires.ends in let known = c.requires.job in omega arith)
 
 pub fill_route-requires-clause-fill : goal.fill_route-requires-clause-fill

@@ -23,8 +23,8 @@ bounds-free-leg g c = leg_machine_within c.requires.fill c.requires.of.known
     c.requires.of.some.at) (c.routes-routes.ensures ∙ c.grid-grid.ensures.grid) c.leg-leg.ensures (rw
     c.grid-grid.ensures.grid at c.positions-end.ensures) c.if-position-end.false c.requires.of.some.at
 
-pub number_of-requires : goal.number_of-requires
-number_of-requires g c =
+pub lane_number-requires : goal.lane_number-requires
+lane_number-requires g c =
     let fits = (leg_fits c.requires.fill c.requires.of.known (c.loop-routes.invariant.filling
     c.requires.of.job c.requires.of.known c.requires.of.some.placement c.requires.of.some.at) (c.routes-routes.ensures ∙
     c.grid-grid.ensures.grid) c.leg-leg.ensures (rw c.grid-grid.ensures.grid at c.positions-end.ensures)
@@ -35,7 +35,7 @@ pub set_head-requires-clause-in_range : goal.set_head-requires-clause-in_range
 set_head-requires-clause-in_range g c = grind arith
 
 pub set_head-requires-clause-fits : goal.set_head-requires-clause-fits
-set_head-requires-clause-fits g c = rw c.number_of.ensures ((leg_fits c.requires.fill c.requires.of.known
+set_head-requires-clause-fits g c = rw c.lane_number.ensures ((leg_fits c.requires.fill c.requires.of.known
     (c.loop-routes.invariant.filling c.requires.of.job c.requires.of.known c.requires.of.some.placement
     c.requires.of.some.at) (c.routes-routes.ensures ∙ c.grid-grid.ensures.grid) c.leg-leg.ensures
     (rw c.grid-grid.ensures.grid at c.positions-end.ensures) c.if-position-end.false c.requires.of.some.at
@@ -69,6 +69,6 @@ loop-routes-preserved g c = record {
       c.if-position-end.false at c.max-head.ensures (rows_of c.args.laid_out.now.layout
       (g.L.StateLanes.heads c.set_head.new.self) (g.L.StateLanes.ends c.set_head.new.self))
       (put_is c.args.laid_out.now.layout (g.L.StateLanes.heads c.loop-routes.lanes) c.leg-leg.result.position
-      (c.max-head.result + 1) (rw c.number_of.ensures at c.set_head.ensures.heads) c.set_head.ensures.ends);
+      (c.max-head.result + 1) (rw c.lane_number.ensures at c.set_head.ensures.heads) c.set_head.ensures.ends);
   ends = c.set_head.ensures.ends ∙ c.loop-routes.invariant.ends;
 }

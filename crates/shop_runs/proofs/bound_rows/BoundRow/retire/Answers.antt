@@ -15,7 +15,7 @@ returns c =
     in let distant = c.args.distant.now
     in let later : DistantNodes = record { horizon = c.min-distant.result; counts = c.count_from.new.distant.counts }
     in let found = subst (λ o. IfSome o (IsBehind first most c.as_slice.result.now)) c.in-Some.is
-    c.in_ok-bucket.ensures.bucket
+    c.in_ok-behind.ensures.behind
     in let behind : IsBehind first most os end = subst (λ s. IsBehind first most s end) c.as_slice.ensures.value found
     in let added : AreAdded (nodes_in_row end (drop end os)) distant.counts.items later.counts.items =
     subst (λ s. AreAdded (nodes_in_row end
@@ -30,7 +30,7 @@ returns c =
 pub invariant_of-self-in_err-set_aside : goal.invariant_of-self-in_err-set_aside
 invariant_of-self-in_err-set_aside c =
     let behind = subst (λ o. IfSome o (IsBehind c.self.inside.first c.args.most c.as_slice.result.now)) c.in-Some.is
-    c.in_ok-bucket.ensures.bucket
+    c.in_ok-behind.ensures.behind
     in grind (arith, cut_empty)
 
 pub invariant_of-self-2 : goal.invariant_of-self-2

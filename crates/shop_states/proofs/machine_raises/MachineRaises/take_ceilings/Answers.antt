@@ -53,7 +53,7 @@ loop-machine-preserved g c =
     in let within : m < length c.loop-machine.ceilings = omega arith
     in let most = c.max.ensures in let greatest = c.max-greatest.ensures
     in record {
-      found = subst (λ (rs : List Raise). IsFoundSo c.number_of-lowest.result old on rs c.pop_first.new.self
+      found = subst (λ (rs : List Raise). IsFoundSo c.lane_number-lowest.result old on rs c.pop_first.new.self
           (set c.loop-machine.ceilings m c.max.result) c.max-greatest.result) (sym c.take_raise-raise.ensures.empty)
           (found_more so c.in-Some.ensures (nothing_raised g.L.StateLanes.GREATEST) refl c.max.result refl within
           (elim c.kept_ceiling-ceiling.ensures [
@@ -67,7 +67,7 @@ pub returns-clause-bounds : goal.returns-clause-bounds
 returns-clause-bounds g c =
     let so = c.loop-machine.invariant.found
     in let all = found_all c.in_default.ensures.0 so
-    in rw (← c.number_of-lowest.ensures, c.time_of.ensures) (bounds_written g.L.StateLanes.value
+    in rw (← c.lane_number-lowest.ensures, c.bound_time.ensures) (bounds_written g.L.StateLanes.value
     c.self.inside.raises c.loop-machine.raises c.as_mut_slice-raises.ensures.value (long_given g.L.StateLanes.value c.as_mut_slice-raises.ensures.value
     c.self.view_is (raises_in g.L.StateLanes.value c.loop-machine.raises) so.left.long) (record {
       empty = all.0;

@@ -8,8 +8,8 @@ use Rattle.shop_tree.proofs.walkers.Walker.branch.Goals as goal
 pub close-requires-clause-closed : goal.close-requires-clause-closed
 close-requires-clause-closed g c =
     let self = c.args.self.now in let word = self.path.items
-    in let none : self.candidates.items ≡ [] = nil_from_length self.candidates.items (let a = c.is_empty.ensures
-    in let b = ap length c.as_slice.ensures in search rules)
+    in let none : self.candidates.items ≡ [] = nil_from_length self.candidates.items (let a = c.len.ensures
+    in let b = c.if-self-eq0.true in omega arith)
     in subst (λ (x : Shop). AreChildren x self.incumbent word [] c.args.closed) self.same_shop
     (none_kept self.candidates.items c.args.closed none c.requires.listed.candidates)
 
