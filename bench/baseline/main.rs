@@ -11,7 +11,7 @@
 //! It searches as the program does (docs/DECISIONS.md). If a proof lets the program omit a bounds check, it omits the
 //! check, too. These things differ, beside the first bound, which it finds in its lanes:
 //!
-//! - Memory for states: half a megabyte in all, but at least two states; in the program 400 KB for waiting children,
+//! - Memory for states: half a megabyte in all, but at least two states; in the program 400 KB for pending children,
 //!   and two states a walk. A state is one piece of memory with bits of next operations; in the program some pieces in
 //!   a box. For a word's children as many states are taken back as they want; in the program at most three.
 //! - The width of lanes: by the opening makespan, the greatest load of a machine and the longest route; in the program

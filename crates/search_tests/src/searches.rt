@@ -103,7 +103,7 @@ fn sheets_of_pieces(rt: HostRuntime) {
     }
 }
 
-/// Asserts the sheet of a searcher that keeps at most `most` states for waiting children, and searches the piece twice.
+/// Asserts the sheet of a searcher that keeps at most `most` states for pending children, and searches the piece twice.
 fn assert_search_with_states(rt: &impl Abort, alloc: Global, row: &Search, most: usize) {
     let (text, words, best, budget, wanted) = *row;
     let instance = instance_of(rt, alloc, text);

@@ -1,7 +1,7 @@
 -- What the search of a piece left.
 --     Leaving                   the instance, the makespan, and the words left, in order
---     left_words shop h nodes   the words of what waited where a walk halted, and of these nodes
---     AreLeft shop best h nodes what waited is told rightly, and the nodes are nodes
+--     left_words shop h nodes   the words of what was pending where a walk halted, and of these nodes
+--     AreLeft shop best h nodes what was pending is told rightly, and the nodes are nodes
 --     open_nodes shop c ws      the words of bounds below c as nodes, in order
 use Rattle.std.specs.Prelude.{ℕ, Option, List, ◌++◌, map}
 use Rattle.shop_model.specs.Shop.{Shop}

@@ -1,4 +1,4 @@
-// Where a walk halted: its path, and the children that wait along it.
+// Where a walk halted: its path, and the pending children along it.
 use std::alloc::Global;
 use std::sync::ArcSlice;
 
@@ -10,19 +10,19 @@ pub struct Open {
     pub bound: u64,
 }
 
-/// A waiting open child, with the fields of `Open`, or waiting closed children. Closed children have bounds that reach
-/// the best makespan and are only counted. They are the last `count` children of one word: the first `depth` jobs of
-/// the walk's path. The variant has a child's fields itself, so that an entry takes 16 bytes, not 24 as with an `Open`
-/// in it: each search brings a list of these.
+/// A pending open child, with the fields of `Open`, or pending closed children. Pending children were put on the stack
+/// and not walked yet. Closed children have bounds that reach the best makespan and are only counted. They are the last
+/// `count` children of one word: the first `depth` jobs of the walk's path. The variant has a child's fields itself, so
+/// that an entry takes 16 bytes, not 24 as with an `Open` in it: each search brings a list of these.
 #[derive(Clone, Copy)]
-pub enum Waiting {
+pub enum Pending {
     Child { job: u16, depth: u32, bound: u64 },
     Rest { depth: u32, count: u32 },
 }
 
-/// Where a walk halted: the path to its current word, and the children that wait along it. The last one is walked next.
+/// Where a walk halted: the path to its current word, and the pending children along it. The last one is walked next.
 #[derive(Drop)]
 pub struct Halt {
     pub path: ArcSlice<u16, Global>,
-    pub waiting: Vec<Waiting>,
+    pub pending: Vec<Pending>,
 }

@@ -1,19 +1,19 @@
 // The nodes that the search of a piece left.
 ghost use Rattle.std.specs.{Prelude.{◌≡◌, ◌++◌, take, OnOk, IfOk}, Arc.arc_slice_items};
 ghost use Rattle.shop_nodes.specs.{Branching.branch, Nodes.{AreNodes, words_of}};
-ghost use Rattle.shop_nodes.specs.Halts.{IsClosed, IsHalt, IsWaiting, last_of, stack_words, waiting_words};
+ghost use Rattle.shop_nodes.specs.Halts.{IsClosed, IsHalt, IsPending, last_of, pending_words, stack_words};
 ghost use Rattle.shop_nodes.specs.Left.{left_words, open_nodes, AreLeft};
 ghost use Rattle.shop_nodes.specs.inner.HeldNodes.{nodes_below, halted_nodes, AreSharable, IsHaltWithin};
 
 use crate::child_nodes::children;
-use crate::halts::{Halt, Waiting};
+use crate::halts::{Halt, Pending};
 use crate::nodes::Node;
 use shop_model::{Instance, SharedWord, Word};
 use std::alloc::{AllocError as NoMemory, Global};
 use std::marker::Model;
 use std::sync::ArcSlice;
 
-/// The nodes that the search of a piece left, in order: the children that wait where the walk halted, if it did, then
+/// The nodes that the search of a piece left, in order: the children pending where the walk halted, if it did, then
 /// the nodes of the piece that weren't taken. Contracts see the instance, the makespan and the nodes' words.
 pub struct Left<'r> {
     instance: &'r Instance,
@@ -72,7 +72,7 @@ impl<'r> Left<'r> {
     }
 
     /// Returns the makespan, where the walk halted (`None` if it didn't), and the nodes that weren't taken. The open
-    /// nodes are the children that wait there, the last entry first, and then these nodes, as far as their bounds are
+    /// nodes are the children pending there, the last entry first, and then these nodes, as far as their bounds are
     /// below the makespan.
     pub fn parts(&self) -> (u64, &Option<Halt>, &[Node])
         ensures open { open_nodes self.now.shop self.now.makespan self.now.words
@@ -91,7 +91,7 @@ impl<'r> Left<'r> {
         ensures nodes { IfOk result (λ v. AreNodes self.now.shop v.items) }
     {
         let mut nodes = match &self.halt {
-            Some(halt) => waiting_nodes(alloc, self.instance, self.makespan, halt)?,
+            Some(halt) => pending_nodes(alloc, self.instance, self.makespan, halt)?,
             None => Vec::new(alloc),
         };
         add_copies(alloc, self.untaken, &mut nodes)?;
@@ -121,35 +121,35 @@ fn last_children(
     all.split_off(all.len() - count as usize)
 }
 
-/// Makes the nodes of `waiting`: of an open child or of closed children. Fails with `NoMemory` if memory runs out.
+/// Makes the nodes of `pending`: of an open child or of closed children. Fails with `NoMemory` if memory runs out.
 fn nodes_of(
     alloc: Global,
     instance: &Instance,
     makespan: u64,
     path: &ArcSlice<u16, Global>,
-    waiting: Waiting,
+    pending: Pending,
 ) -> Result<Vec<Node>, NoMemory>
-    requires { IsWaiting instance.now makespan (arc_slice_items path.now) waiting }
+    requires { IsPending instance.now makespan (arc_slice_items path.now) pending }
     ensures words { IfOk result (λ v. words_of v.items
-        ≡ waiting_words instance.now (arc_slice_items path.now) waiting) }
+        ≡ pending_words instance.now (arc_slice_items path.now) pending) }
     ensures nodes { IfOk result (λ v. AreNodes instance.now v.items) }
 {
-    match waiting {
-        Waiting::Child { job, depth, bound } => {
+    match pending {
+        Pending::Child { job, depth, bound } => {
             let word = Word::of_shared(SharedWord::along(path, depth, job)?);
             let mut nodes = Vec::with_capacity(alloc, 1)?;
             nodes.push(Node { word, bound })?;
             Ok(nodes)
         }
-        Waiting::Rest { depth, count } => {
+        Pending::Rest { depth, count } => {
             last_children(alloc, instance, makespan, path.as_slice(), depth, count)
         }
     }
 }
 
-/// Makes the nodes of all children that wait at `halt`, from the last entry of `halt.waiting` to the first. Fails with
+/// Makes the nodes of all pending children at `halt`, from the last entry of `halt.pending` to the first. Fails with
 /// `NoMemory` if memory runs out.
-fn waiting_nodes(
+fn pending_nodes(
     alloc: Global,
     instance: &Instance,
     makespan: u64,
@@ -157,13 +157,13 @@ fn waiting_nodes(
 ) -> Result<Vec<Node>, NoMemory>
     requires { IsHalt instance.now makespan halt.now }
     ensures words { IfOk result (λ v. words_of v.items
-        ≡ stack_words instance.now (arc_slice_items halt.now.path) halt.now.waiting.items) }
+        ≡ stack_words instance.now (arc_slice_items halt.now.path) halt.now.pending.items) }
     ensures nodes { IfOk result (λ v. AreNodes instance.now v.items) }
 {
-    let waiting = halt.waiting.as_slice();
+    let pending = halt.pending.as_slice();
     let mut nodes = Vec::new(alloc);
-    for index in (0..waiting.len()).rev() {
-        let mut next = nodes_of(alloc, instance, makespan, &halt.path, waiting[index])?;
+    for index in (0..pending.len()).rev() {
+        let mut next = nodes_of(alloc, instance, makespan, &halt.path, pending[index])?;
         nodes.append(&mut next)?;
     }
     Ok(nodes)

@@ -12,7 +12,7 @@ mod sheets;
 
 pub use child_nodes::children;
 pub use conflicts::conflict;
-pub use halts::{Halt, Open, Waiting};
+pub use halts::{Halt, Open, Pending};
 pub use laws::{branching_loses_no_table, searches_lose_no_table};
 pub use left::Left;
 pub use nodes::{Node, SharedNode};

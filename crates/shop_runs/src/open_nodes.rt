@@ -11,7 +11,7 @@ use crate::distant_nodes::DistantNodes;
 use crate::kept_stacks::KeptStack;
 use crate::plans::Order;
 use shop_model::SharedWord;
-use shop_nodes::{Halt, Left, Node, SharedNode, Waiting};
+use shop_nodes::{Halt, Left, Node, Pending, SharedNode};
 use std::alloc::{AllocError as NoMemory, Global};
 use std::sync::ArcSlice;
 
@@ -130,7 +130,7 @@ impl OpenNodes {
         Ok(())
     }
 
-    /// Puts or counts the node of `waiting`, as `put_copy` does, if it is an open child. Its word shares the jobs of
+    /// Puts or counts the node of `pending`, as `put_copy` does, if it is an open child. Its word shares the jobs of
     /// `path`. Fails with `NoMemory` if memory runs out.
     #[inline(always)]
     fn put_if_open(
@@ -138,15 +138,15 @@ impl OpenNodes {
         alloc: Global,
         limit: u64,
         path: &ArcSlice<u16, Global>,
-        waiting: Waiting,
+        pending: Pending,
         distant: &mut DistantNodes,
     ) -> Result<(), NoMemory>
-        requires within { IsWithinWord (arc_slice_items path.now) waiting }
-        requires fits { FitBelow limit (child_nodes (arc_slice_items path.now) waiting) distant.old }
-        ensures { OnOk result (ArePutOrCounted limit (child_nodes (arc_slice_items path.now) waiting)
+        requires within { IsWithinWord (arc_slice_items path.now) pending }
+        requires fits { FitBelow limit (child_nodes (arc_slice_items path.now) pending) distant.old }
+        ensures { OnOk result (ArePutOrCounted limit (child_nodes (arc_slice_items path.now) pending)
             self.old distant.old self.new distant.new) }
     {
-        let Waiting::Child { job, depth, bound } = waiting else {
+        let Pending::Child { job, depth, bound } = pending else {
             return Ok(());
         };
         if bound >= limit {
@@ -159,24 +159,24 @@ impl OpenNodes {
         self.put(alloc, SharedNode::new(word, bound))
     }
 
-    /// Does what `put_if_open` does for all that waits at `halt`, from the first entry of `halt.waiting` to the last,
-    /// which is walked first. Fails with `NoMemory` if memory runs out.
-    fn put_waiting(
+    /// Does what `put_if_open` does for all that is pending at `halt`, from the first entry of `halt.pending` to the
+    /// last, which is walked first. Fails with `NoMemory` if memory runs out.
+    fn put_pending(
         &mut self,
         alloc: Global,
         limit: u64,
         halt: &Halt,
         distant: &mut DistantNodes,
     ) -> Result<(), NoMemory>
-        requires within { AreWithinWord (arc_slice_items halt.now.path) halt.now.waiting.items }
-        requires fits { FitBelow limit (stack_nodes (arc_slice_items halt.now.path) halt.now.waiting.items)
+        requires within { AreWithinWord (arc_slice_items halt.now.path) halt.now.pending.items }
+        requires fits { FitBelow limit (stack_nodes (arc_slice_items halt.now.path) halt.now.pending.items)
             distant.old }
         ensures { OnOk result (ArePutOrCounted limit
-            (stack_nodes (arc_slice_items halt.now.path) halt.now.waiting.items)
+            (stack_nodes (arc_slice_items halt.now.path) halt.now.pending.items)
             self.old distant.old self.new distant.new) }
     {
-        for &waiting in &halt.waiting {
-            self.put_if_open(alloc, limit, &halt.path, waiting, distant)?;
+        for &pending in &halt.pending {
+            self.put_if_open(alloc, limit, &halt.path, pending, distant)?;
         }
         Ok(())
     }
@@ -197,7 +197,7 @@ impl OpenNodes {
         let limit = makespan.min(own);
         self.put_nodes(alloc, limit, untaken, distant)?;
         match halt {
-            Some(halt) => self.put_waiting(alloc, limit, halt, distant),
+            Some(halt) => self.put_pending(alloc, limit, halt, distant),
             None => Ok(()),
         }
     }

@@ -4,8 +4,8 @@ use Rattle.std.proofs.{Common.{reverse, refl, ◌∙◌, ap, arith, append_assoc
 use Rattle.std.proofs.lemmas.List.{length-map, length-reverse, length-append, drop_at, nil_from_length}
 use Rattle.shop_model.specs.{Shop.{Shop, operation_count}, Word.IsWord}
 use Rattle.shop_bound.specs.Bound.{lb}
-use Rattle.shop_nodes.specs.{Branching.{branch, conflict}, Halts.{open_child, last_of, IsClosed, IsWaiting}}
-use Rattle.shop_nodes.specs.declared.halts.{Open.Open, Waiting.{Waiting, TheVariants.Rest}}
+use Rattle.shop_nodes.specs.{Branching.{branch, conflict}, Halts.{open_child, last_of, IsClosed, IsPending}}
+use Rattle.shop_nodes.specs.declared.halts.{Open.Open, Pending.{Pending, TheVariants.Rest}}
 use Rattle.shop_tree.specs.inner.{Opens.{open_words, IsAt, AreChildren}, Searching.Adds}
 use Rattle.shop_tree.proofs.{Pushing.{with_opens, with_rest}, OpenLemmas.{opens-words, all-opens}}
 use Rattle.shop_nodes.proofs.WalkSteps.{branch_few, length-sort_by}
@@ -33,7 +33,7 @@ module _ {shop : Shop} {limit : ℕ} {word : List ℕ} {opens : List Open} {n : 
   all_words = grind (arith, take-length, last_are)
 
 -- what lies on top then
-pub adds-children : (shop : Shop) (best : ℕ) (word : List ℕ) (opens : List Open) (n : ℕ) (old : List Waiting)
+pub adds-children : (shop : Shop) (best : ℕ) (word : List ℕ) (opens : List Open) (n : ℕ) (old : List Pending)
     → IsWord shop word → length word < operation_count shop → AreChildren shop best word opens n
     → Adds shop best word old (with_opens (with_rest old (length word) n) opens)
 adds-children shop best word opens zero old is short kids =
@@ -43,14 +43,14 @@ adds-children shop best word opens (suc n) old is short kids = record {
   stack = append_assoc old (Rest (length word) (suc n) ∷ []) (map (λ o. open_child o) opens);
   words = ap (λ ws. ws ++ last_of (suc n) (branch shop (take (length word) word))) (opens-words shop word opens)
       ∙ all_words kids;
-  each = (closed_last kids is short, all-opens (IsWaiting shop best word) opens kids.each);
+  each = (closed_last kids is short, all-opens (IsPending shop best word) opens kids.each);
   depth = (refl, all-opens (IsAt (length word)) opens kids.depth);
 }
 
-length-with : (old : List Waiting) (opens : List Open) → length (with_opens old opens) ≡ length old + length opens
+length-with : (old : List Pending) (opens : List Open) → length (with_opens old opens) ≡ length old + length opens
 length-with old opens = grind (arith, length-append, length-map)
 
-pub few-children : (shop : Shop) (limit : ℕ) (word : List ℕ) (opens : List Open) (n depth : ℕ) (old : List Waiting)
+pub few-children : (shop : Shop) (limit : ℕ) (word : List ℕ) (opens : List Open) (n depth : ℕ) (old : List Pending)
     → AreChildren shop limit word opens n
     → length (with_opens (with_rest old depth n) opens) ≤ length old + length shop.jobs + 1
 few-children shop limit word opens zero depth old kids = search (rules, length-with, few_open)
@@ -58,7 +58,7 @@ few-children shop limit word opens (suc n) depth old kids =
     let a = length-with (old ++ Rest depth (suc n) ∷ []) opens in let b = length-append old (Rest depth (suc n) ∷ [])
     in let c = few_open kids in omega arith
 
-pub long_rest : (old : List Waiting) (depth n : ℕ) → length (with_rest old depth n) ≤ length old + 1
+pub long_rest : (old : List Pending) (depth n : ℕ) → length (with_rest old depth n) ≤ length old + 1
 long_rest old depth zero = omega arith
 long_rest old depth (suc n) = let a = length-append old (Rest depth (suc n) ∷ []) in omega arith
 

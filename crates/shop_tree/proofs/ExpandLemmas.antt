@@ -5,12 +5,12 @@ use Rattle.std.{proofs.Math.Seq.take-length, specs.{Prelude.take, List.fold}}
 use Rattle.shop_model.specs.{Shop.{Shop, operation_count}, Word.IsWord}
 use Rattle.shop_bound.{specs.{Bound.lb, Conflicts.SoleCandidateKeepsBound}, proofs.Lists.all_map}
 use Rattle.shop_nodes.specs.{Branching.{branch, conflict, sort_by}, Walking.{Walk, walk}, Halts.{open_child, word_at}}
-use Rattle.shop_nodes.{specs.{Halts.IsWaiting, declared.halts.{Open.Open, Waiting.Waiting}}, proofs.WalkSteps.walk-cut}
+use Rattle.shop_nodes.{specs.{Halts.IsPending, declared.halts.{Open.Open, Pending.Pending}}, proofs.WalkSteps.walk-cut}
 use Rattle.shop_tree.specs.inner.{Walkers.on_top, Searching.{walk_stack, Adds, entered}, Opens.AreChildren}
 use Rattle.shop_tree.specs.inner.Walkers.{spent_one, Stage, HasFollowed, HasBranched, HasExpanded, IsInOrder, gone_on}
 use Rattle.shop_tree.proofs.{Entering.{entered-children, entered-full, walk-entered}, Pushing.{with_opens, with_rest}}
-use Rattle.shop_tree.proofs.TurnLemmas.{below_waits, child_walks, children_walk}
-use Rattle.shop_tree.proofs.OpenLemmas.{IsUpTo, adds-waits, all-same, all-lower, deep, words-same}
+use Rattle.shop_tree.proofs.TurnLemmas.{below_pending, child_walks, children_walk}
+use Rattle.shop_tree.proofs.OpenLemmas.{IsUpTo, adds-pending, all-same, all-lower, deep, words-same}
 use Rattle.shop_tree.proofs.AddLemmas.{adds-children, few-children, long_rest}
 
 some_budget : (shop : Shop) (t : Walk) (w : List ℕ) → 0 < t.budget
@@ -48,7 +48,7 @@ follows_one s j short alone keeps some below ordered =
     let shop = s.shop in let w = s.word in let child = w ++ j ∷ [] in let n = length w
     in let bound : lb shop child ≡ lb shop w = keeps j alone in let longer = length_push w j
     in let alike : take n child ≡ take n w = take-append_seam w (j ∷ []) ∙ sym (take-length w)
-    in let low = all_map (IsWaiting shop s.walk.best w) (IsUpTo n) (deep shop s.walk.best w) s.stack ordered.each
+    in let low = all_map (IsPending shop s.walk.best w) (IsUpTo n) (deep shop s.walk.best w) s.stack ordered.each
     in let children : branch shop w ≡ child ∷ [] =
     ap (λ (js : List ℕ). sort_by (lb shop) (map (λ i. w ++ i ∷ []) js)) alone
     in record {
@@ -84,33 +84,33 @@ followed_same {s} e = subst (HasFollowed s) (sym e)
     (record { walk = refl; shop = refl; spent = omega arith; fewer = omega arith })
 
 -- the children of the word are on the stack
-pub branched : (s : Stage) (opens : List Open) (n depth : ℕ) (stack : List Waiting) → IsWord s.shop s.word
+pub branched : (s : Stage) (opens : List Open) (n depth : ℕ) (stack : List Pending) → IsWord s.shop s.word
     → length s.word < operation_count s.shop → AreChildren s.shop s.walk.best s.word opens n → depth ≡ length s.word
     → stack ≡ with_opens (with_rest s.stack depth n) opens → HasBranched s (record s { stack = stack })
 branched s opens n depth stack is short kids same put =
     let all : stack ≡ with_opens (with_rest s.stack (length s.word) n) opens =
     put ∙ ap (λ (k : ℕ). with_opens (with_rest s.stack k n) opens) same
     in record {
-      stack = subst (λ (xs : List Waiting). Adds s.shop s.walk.best s.word s.stack xs) (sym all)
+      stack = subst (λ (xs : List Pending). Adds s.shop s.walk.best s.word s.stack xs) (sym all)
           (adds-children s.shop s.walk.best s.word opens n s.stack is short kids);
-      few = subst (λ (xs : List Waiting). length xs ≤ length s.stack + length s.shop.jobs + 1) (sym all)
+      few = subst (λ (xs : List Pending). length xs ≤ length s.stack + length s.shop.jobs + 1) (sym all)
           (few-children s.shop s.walk.best s.word opens n (length s.word) s.stack kids);
       same = refl;
     }
 
--- what waits then comes to the walk that goes on
+-- what is pending then comes to the walk that goes on
 pub expands_branched : (s t : Stage) → length s.word < operation_count s.shop → IsInOrder s → HasBranched s t
     → HasExpanded s t
 expands_branched s t short ordered b = subst (HasExpanded s) (sym b.same) (record {
   walk = children_walk s.shop s.word s.stack t.stack s.walk s.walk.best short b.stack;
-  in_order = adds-waits s.shop s.walk.best s.word s.stack t.stack ordered b.stack;
+  in_order = adds-pending s.shop s.walk.best s.word s.stack t.stack ordered b.stack;
   fewer = same_budget s.walk.budget (length s.shop.jobs) (length t.stack) (length s.stack) b.few;
   shop = refl;
   spent = omega arith;
 })
 
--- the word has one open child alone, and the walk goes on to it; closed ones wait
-pub follows_kept : (s : Stage) (o : Open) (n : ℕ) (stack : List Waiting) → IsWord s.shop s.word
+-- the word has one open child alone, and the walk goes on to it; closed ones are pending
+pub follows_kept : (s : Stage) (o : Open) (n : ℕ) (stack : List Pending) → IsWord s.shop s.word
     → length s.word < operation_count s.shop → AreChildren s.shop s.walk.best s.word (o ∷ []) n
     → o.depth ≡ length s.word → o.bound ≡ lb s.shop (s.word ++ o.job ∷ []) → o.bound < s.walk.best
     → 0 < s.walk.budget → IsInOrder s → stack ≡ with_rest s.stack (length s.word) n
@@ -131,16 +131,16 @@ follows_kept s o n stack is short kids depth bound below some ordered put =
         fewer = one_gone s.walk.budget (length s.shop.jobs) (length s.stack) (length t.stack) some
             (long_rest s.stack (length s.word) n);
       };
-      in_order = below_waits s.shop s.walk.best s.word t.stack o expanded.in_order;
+      in_order = below_pending s.shop s.walk.best s.word t.stack o expanded.in_order;
       spent = omega arith;
       bound = bound ∙ ap (lb s.shop) (sym there);
       below = below;
     }
-    in subst (λ (xs : List Waiting). HasGone s (gone_on (record s { stack = xs }) o.job) o.bound) (sym put)
+    in subst (λ (xs : List Pending). HasGone s (gone_on (record s { stack = xs }) o.job) o.bound) (sym put)
     (subst (λ (w : List ℕ). HasGone s (record t { word = w; walk = spent_one s.walk }) o.bound) there gone)
 
--- the word has closed children alone, and these wait
-pub ends_closed : (s : Stage) (n : ℕ) (stack : List Waiting) → IsWord s.shop s.word
+-- the word has closed children alone, and these are pending
+pub ends_closed : (s : Stage) (n : ℕ) (stack : List Pending) → IsWord s.shop s.word
     → length s.word < operation_count s.shop → AreChildren s.shop s.walk.best s.word [] n → IsInOrder s
     → stack ≡ with_rest s.stack (length s.word) n → HasExpanded s (record s { stack = stack })
 ends_closed s n stack is short kids ordered put = expands_branched s (record s { stack = stack }) short ordered

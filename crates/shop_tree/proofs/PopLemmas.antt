@@ -2,11 +2,11 @@
 use Rattle.std.proofs.Common.{◌≡◌, ◌≤◌, ◌<◌, ◌∙◌, List, [], ◌∷◌, ◌++◌, ap, arith, subst, sym}
 use Rattle.std.proofs.lemmas.List.Elements.{All-from_recursion, recursion_from_All}
 use Rattle.shop_lanes.specs.declared.state_lanes.StateLanes.{Ghosts}
-use Rattle.shop_nodes.specs.declared.halts.Waiting.{Waiting}
-use Rattle.shop_tree.specs.{declared.{held.Held.Held, walkers.Walker.Walker}, inner.Held.{IsHeld, waiting_in}}
+use Rattle.shop_nodes.specs.declared.halts.Pending.{Pending}
+use Rattle.shop_tree.specs.{declared.{held.Held.Held, walkers.Walker.Walker}, inner.Held.{IsHeld, pending_in}}
 use Rattle.shop_tree.specs.inner.StateWalkers.{stage_of, AreHeld, HasStates}
 use Rattle.shop_tree.specs.inner.Walkers.{on_top, stack_walk, turns_left, IsInOrder, IsTurn, Stage}
-use Rattle.shop_tree.proofs.{ListLemmas.all_front, StateLemmas.waiting_pushed}
+use Rattle.shop_tree.proofs.{ListLemmas.all_front, StateLemmas.pending_pushed}
 use Rattle.shop_states.specs.inner.WordStates.{IsStateOf}
 use Rattle.shop_states.specs.declared.states.State.{State}
 
@@ -27,13 +27,13 @@ module _ {L N : Type 0} {g : Ghosts L N} (w : Walker L N g) (rest : List (Held (
       in let all = recursion_from_All own (rest ++ h ∷ []) (rw is at old)
       in All-from_recursion own rest (all_front own rest (h ∷ []) all)
 
-  module _ {x : Waiting} (top : h.waiting ≡ x) where
+  module _ {x : Pending} (top : h.pending ≡ x) where
     abbrev below : Stage
-    below = record (stage_of w) { stack = waiting_in rest }
+    below = record (stage_of w) { stack = pending_in rest }
 
     pub as_before : stage_of w ≡ on_top below x
     as_before = ap (λ ws. record (stage_of w) { stack = ws })
-        (waiting_pushed rest w.stack.items h is ∙ ap (λ y. waiting_in rest ++ y ∷ []) top)
+        (pending_pushed rest w.stack.items h is ∙ ap (λ y. pending_in rest ++ y ∷ []) top)
 
     pub fewer_turns : {t : Stage} → IsTurn below x t → turns_left t < turns_left (stage_of w)
     fewer_turns {t} turn = subst (λ s. turns_left t < turns_left s) (sym as_before) turn.fewer

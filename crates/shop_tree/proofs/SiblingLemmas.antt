@@ -9,7 +9,7 @@ use Rattle.shop_states.specs.States.{ListsBelow, Settles, ListsBelow.{none, list
 use Rattle.shop_lanes.specs.declared.state_lanes.StateLanes.{Ghosts}
 use Rattle.shop_states.specs.declared.states.Candidate.{Candidate}
 use Rattle.shop_nodes.specs.Halts.{open_child, word_at}
-use Rattle.shop_nodes.specs.declared.halts.{Open.Open, Waiting.{Waiting, TheVariants.{Child, Rest}}}
+use Rattle.shop_nodes.specs.declared.halts.{Open.Open, Pending.{Pending, TheVariants.{Child, Rest}}}
 use Rattle.shop_tree.specs.{declared.walk_states.{WalkStates.WalkStates, Branching.Branching}, inner.Opens.AreChildren}
 use Rattle.shop_tree.specs.{inner.Held.{IsHeldOf, IsKept, Kept, held, opens_in}, declared.held.Held.Held}
 use Rattle.shop_tree.specs.inner.{WalkStates.{AreBounded, IsBranchingOf, IsStateIn, Lists}, Tried.HasGiven}
@@ -38,7 +38,7 @@ own_each (closed j high rest) k d within = own_each rest k d within
 
 -- the open child of an entry
 child_same : (o p : Open) → open_child o ≡ open_child p → o ≡ p
-child_same o p e = ap (λ (x : Waiting). elim x [
+child_same o p e = ap (λ (x : Pending). elim x [
   | Child job depth bound ↦ record { depth = depth; job = job; bound = bound }
   | Rest depth count ↦ o
 ]) e
@@ -56,7 +56,7 @@ put_given {S} is shop limit word old mid new n from e put (inr (child, (state, a
     in let within : k < length put.kids = omega arith
     in let there = at_kid old put.kids from e mid put.stack i (omega arith) (omega arith) (held bare) bare
     in let is_own : own.open ≡ child = child_same own.open child
-    (sym (ap (λ (h : Held S). h.waiting) there) ∙ at.on_top.is (held bare))
+    (sym (ap (λ (h : Held S). h.pending) there) ∙ at.on_top.is (held bare))
     in let opened : get_or (opens_in put.kids) k child ≡ own.open =
     get_or-map (λ (p : Kept S). p.open) put.kids k bare child within
     in let depth : child.depth ≡ length word =

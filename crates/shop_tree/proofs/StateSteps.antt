@@ -1,4 +1,4 @@
--- Steps of a walk over states: where it stands before and after, and what waits.
+-- Steps of a walk over states: where it stands before and after, and what is pending.
 use Rattle.std.proofs.Common.{◌≡◌, ℕ, ◌<◌, List, ◌++◌, All, length, map, ◌∙◌, sym, ap, subst, arith, Option, Some}
 use Rattle.std.proofs.Common.{None}
 use Rattle.shop_model.specs.Shop.{operation_count}

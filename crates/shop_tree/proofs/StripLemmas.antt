@@ -57,7 +57,7 @@ module _ {S : Type 0} (below : List (Held S)) (kids : List (Kept S)) (from : ℕ
         in let low = at.low in let high = at.within
         in let is_own : h ≡ held own = at.is ∙ at_kid i low high h k
         in let wrote : new ≡ set stack i (held bare) =
-        at.stripped ∙ ap (λ (x : Held S). set stack i (record { waiting = x.waiting; state = None })) is_own
+        at.stripped ∙ ap (λ (x : Held S). set stack i (record { pending = x.pending; state = None })) is_own
         in record {
           left = set kids n bare;
           put = wrote ∙ (ap (λ (xs : List (Held S)). set xs i (held bare)) top

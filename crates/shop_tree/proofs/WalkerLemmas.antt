@@ -6,13 +6,13 @@ use Rattle.std.{specs.{Prelude.{take, drop}, List.{AllByRecursion, fold}}, proof
 use Rattle.shop_model.specs.{Shop.{Shop, operation_count}, Word.IsWord}
 use Rattle.shop_bound.specs.Bound.{lb}
 use Rattle.shop_nodes.specs.{Branching.branch, Nodes.words_of, Pieces.walk_told, Walking.{walk, sheet}}
-use Rattle.shop_nodes.specs.Halts.{open_child, word_at, last_of, waiting_words, stack_words, IsClosed}
-use Rattle.shop_nodes.specs.declared.{nodes.Node.Node, halts.{Open.Open, Waiting.TheVariants.Rest}}
+use Rattle.shop_nodes.specs.Halts.{open_child, word_at, last_of, pending_words, stack_words, IsClosed}
+use Rattle.shop_nodes.specs.declared.{nodes.Node.Node, halts.{Open.Open, Pending.TheVariants.Rest}}
 use Rattle.shop_nodes.proofs.HighWalks.{high-taken, none-walked}
 use Rattle.shop_tree.specs.inner.{Opens.AreChildren, Walkers.{node_walk, spent_one, stack_walk, turns_left, walk_on}}
 use Rattle.shop_tree.specs.inner.Walkers.{HasExpanded, HasWalked, HasWalkedUpTo, IsInOrder, IsTurn, Stage, on_top}
 use Rattle.shop_tree.{specs.inner.Searching.{walk_stack, opening_walk}, proofs.OpenLemmas.{popped, replaced, walk-top}}
-use Rattle.shop_tree.proofs.{TurnLemmas.{below_waits, child_walks}, ExpandLemmas.{ends_closed, enters, cuts}}
+use Rattle.shop_tree.proofs.{TurnLemmas.{below_pending, child_walks}, ExpandLemmas.{ends_closed, enters, cuts}}
 
 -- turns over plain numbers
 one_spent : (b jobs rest one : ℕ) → 0 < b → one ≡ rest + 1
@@ -36,7 +36,7 @@ turn_cut s o on some high =
       walk = ap (λ t. walk_stack s.shop s.word t s.stack)
           (sym (cuts s.shop s.walk (word_at s.word o) some (omega arith)))
           ∙ sym (walk-top s.shop s.walk s.word s.stack (open_child o));
-      in_order = p.rest_waits;
+      in_order = p.rest_pending;
       fewer = one_less s.walk.budget (s.walk.budget - 1) (length s.shop.jobs) (length s.stack)
           (length (s.stack ++ open_child o ∷ [])) (omega arith) (length_push s.stack (open_child o));
       shop = refl;
@@ -48,7 +48,7 @@ abbrev pub went_to : Stage → Open → Stage
 went_to s o = record s { word = word_at s.word o; walk = spent_one s.walk }
 
 pub went_in_order : (s : Stage) (o : Open) → IsInOrder (on_top s (open_child o)) → IsInOrder (went_to s o)
-went_in_order s o on = below_waits s.shop s.walk.best s.word s.stack o on
+went_in_order s o on = below_pending s.shop s.walk.best s.word s.stack o on
 
 pub went_walk : (s : Stage) (o : Open) → IsInOrder (on_top s (open_child o)) → 0 < s.walk.budget
     → o.bound < s.walk.best → walk_on (went_to s o) ≡ stack_walk (on_top s (open_child o))
@@ -95,14 +95,14 @@ turn_counted s depth count on some =
           (sym (counted s depth count count on some (omega arith)
           ∙ ap (fold (walk s.shop) (record s.walk { budget = s.walk.budget - count })) left))
           ∙ sym (walk-top s.shop s.walk s.word s.stack (Rest depth count));
-      in_order = p.rest_waits;
+      in_order = p.rest_pending;
       fewer = one_less s.walk.budget (s.walk.budget - count) (length s.shop.jobs) (length s.stack)
           (length (s.stack ++ Rest depth count ∷ [])) (omega arith) (length_push s.stack (Rest depth count));
       shop = refl;
       spent = omega arith;
     }
 
--- the others wait on
+-- the others are still pending
 abbrev pub halted_at : Stage → ℕ → ℕ → Stage
 halted_at s depth count = record s {
   walk = record s.walk { budget = 0 };
@@ -138,7 +138,7 @@ turn_halted s depth count on some few =
     in record {
       walk = walk-top s.shop (record s.walk { budget = 0 }) s.word s.stack rest
           ∙ (ap (λ t. walk_stack s.shop s.word t s.stack)
-          (ap (λ k. fold (walk s.shop) (record s.walk { budget = k }) (waiting_words s.shop s.word rest))
+          (ap (λ k. fold (walk s.shop) (record s.walk { budget = k }) (pending_words s.shop s.word rest))
           (let e : 0 ≡ b - b = omega arith in e)
           ∙ sym (counted s depth count b on (omega arith) few))
           ∙ sym (walk-top s.shop s.walk s.word s.stack (Rest depth count)));

@@ -39,7 +39,7 @@ impl<'l, 'a> LaneWalker<'l, 'a> {
     ghost use Rattle.shop_tree.specs.inner.LaneWalkers.{shop_walked, HasLaneStates, IsWalkOf};
 
     /// Makes a walk for pieces of the instance that `layout` lays out, in its lanes, with at most `most` states for
-    /// waiting children. Fails with `NoMemory` if memory runs out.
+    /// pending children. Fails with `NoMemory` if memory runs out.
     fn new(
         alloc: Global,
         layout: &'l Layout<'a>,
@@ -83,7 +83,7 @@ impl<'l, 'a> LaneWalker<'l, 'a> {
     }
 }
 
-/// Roughly how many bytes the states of all waiting children may take together: some 250 states at 50 x 15, one at
+/// Roughly how many bytes the states of all pending children may take together: some 250 states at 50 x 15, one at
 /// 1000 x 100.
 const ROOM: usize = 400 << 10;
 
@@ -106,7 +106,7 @@ fn bytes_of_number(layout: &Layout) -> usize
 /// and stack, and later searches use them again. Its value in contracts is the instance.
 pub struct Searcher<'l, 'a> {
     layout: &'l Layout<'a>,
-    /// how many states the walk may keep for waiting children
+    /// how many states the walk may keep for pending children
     most: usize,
     /// `None` before the first search, and after one that ran out of memory
     walker: Option<Box<LaneWalker<'l, 'a>>>,
@@ -148,7 +148,7 @@ impl<'l, 'a> Searcher<'l, 'a> {
         Searcher::with_states(layout, ROOM / bytes_of_number(layout) / numbers)
     }
 
-    /// Makes a searcher for pieces of the instance that `layout` lays out, with at most `most` states for waiting
+    /// Makes a searcher for pieces of the instance that `layout` lays out, with at most `most` states for pending
     /// children. A search fills the state of any other child from its word when it walks the child. The result of a
     /// search doesn't depend on `most`. Takes no memory.
     pub fn with_states(layout: &'l Layout<'a>, most: usize) -> Searcher<'l, 'a>

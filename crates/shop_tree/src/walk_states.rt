@@ -29,7 +29,7 @@ pub(crate) struct Branching<'w> {
     pub(crate) is_together: bool,
 }
 
-/// The states of a walk: that of its current word, one in which it tries children, and spare ones for waiting children.
+/// The states of a walk: that of its current word, one in which it tries children, and spare ones for pending children.
 #[derive(Drop)]
 pub(crate) struct WalkStates<'l, 'a, L: StateLanes> {
     pub(crate) dispatcher: Dispatcher<'l, 'a, L>,
@@ -44,7 +44,7 @@ pub(crate) struct WalkStates<'l, 'a, L: StateLanes> {
 impl<'l, 'a, L: StateLanes> WalkStates<'l, 'a, L> {
     ghost use Rattle.shop_tree.specs.inner.WalkStates.{CanTake, HasTaken, HaveStayed, IsStateIn, Lists};
 
-    /// Makes the current state and the trial's. Allows at most `most` further states, for waiting children, which are
+    /// Makes the current state and the trial's. Allows at most `most` further states, for pending children, which are
     /// allocated when they are needed. Fails with `NoMemory` if memory runs out.
     pub(crate) fn new(
         alloc: Global,

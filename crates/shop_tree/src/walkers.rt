@@ -5,12 +5,12 @@ ghost use Rattle.shop_nodes.specs.Nodes.{IsNode, AreNodes};
 ghost use Rattle.shop_states.specs.inner.WordStates.{IsStateOf};
 ghost use Rattle.shop_tree.specs.Searches.{Searches};
 
-use crate::held::{Held, copy_waiting};
+use crate::held::{Held, copy_pending};
 use crate::walk_states::WalkStates;
 use shop_lanes::StateLanes;
 use shop_layout::LayoutFor;
 use shop_model::{Instance, Word};
-use shop_nodes::{Halt, Left, Node, Open, Piece, Sheet, Waiting};
+use shop_nodes::{Halt, Left, Node, Open, Pending, Piece, Sheet};
 use shop_states::{CandidateList, State};
 use std::alloc::{AllocError as NoMemory, Global};
 use std::sync::ArcSlice;
@@ -22,7 +22,7 @@ use std::sync::ArcSlice;
 const TOGETHER: usize = 36;
 
 /// A walk: the word found last, the incumbent (the makespan to beat), and how many more nodes it may take (`budget`);
-/// its states, path to the current word, stack of waiting children, and room for candidates.
+/// its states, path to the current word, stack of pending children, and room for candidates.
 pub(crate) struct Walker<'l, 'a, L: StateLanes> {
     /// the layout's, held here too, where it plainly stays the same while states change
     pub(crate) instance: &'a Instance,
@@ -64,14 +64,14 @@ impl<L: StateLanes> Drop for Walker<'_, '_, L> {
 }
 
 impl<'l, 'a, L: StateLanes> Walker<'l, 'a, L> {
-    ghost use Rattle.shop_nodes.specs.declared.halts.Waiting.TheVariants.{Rest};
+    ghost use Rattle.shop_nodes.specs.declared.halts.Pending.TheVariants.{Rest};
     ghost use Rattle.shop_nodes.specs.Halts.{open_child, halted_words, AreHalted, stack_words, word_at};
     ghost use Rattle.std.specs.Prelude.{MatchOption};
     ghost use Rattle.shop_tree.specs.inner.StateWalkers.{stage_of, HasReachedFrom, HasStates, StandsAt};
     ghost use Rattle.shop_tree.specs.inner.{Held.IsHeldOf, Walkers.{IsTurn, on_top, stack_walk, node_walk, walk_on}};
     ghost use Rattle.shop_tree.specs.inner.Walkers.{IsInOrder, HasWalked, HasWalkedUpTo};
 
-    /// Makes a walk for pieces of the instance that `layout` lays out, with at most `most` states for waiting children.
+    /// Makes a walk for pieces of the instance that `layout` lays out, with at most `most` states for pending children.
     /// Fails with `NoMemory` if memory runs out.
     // out of line: a caller with one inlined body for each of six kinds of lanes would take six times the stack memory
     #[inline(never)]
@@ -140,13 +140,13 @@ impl<'l, 'a, L: StateLanes> Walker<'l, 'a, L> {
         }
         let count = count - self.budget as u32;
         self.budget = 0;
-        let waiting = Waiting::Rest { depth, count };
+        let pending = Pending::Rest { depth, count };
         let state = None;
-        self.stack.push(Held { waiting, state })?;
+        self.stack.push(Held { pending, state })?;
         Ok(())
     }
 
-    /// Takes waiting children off the stack, as long as the budget lasts, up to the first whose bound is below the
+    /// Takes pending children off the stack, as long as the budget lasts, up to the first whose bound is below the
     /// incumbent. Goes on to its word and returns the bound; returns `None` if the stack or the budget ends first.
     /// Fails with `NoMemory` if memory runs out.
     #[inline(always)]
@@ -161,20 +161,20 @@ impl<'l, 'a, L: StateLanes> Walker<'l, 'a, L> {
             let Some(held) = self.stack.pop() else {
                 return Ok(None);
             };
-            match held.waiting {
-                Waiting::Child { job, depth, bound } => {
+            match held.pending {
+                Pending::Child { job, depth, bound } => {
                     let child = Open { depth, job, bound };
                     if let Some(bound) = self.reach(child, held.state)? {
                         return Ok(Some(bound));
                     }
                 }
-                Waiting::Rest { depth, count } => self.count_closed(depth, count)?,
+                Pending::Rest { depth, count } => self.count_closed(depth, count)?,
             }
         }
         Ok(None)
     }
 
-    /// Expands the current word, whose bound `bound` is below the incumbent, then walks the waiting children on the
+    /// Expands the current word, whose bound `bound` is below the incumbent, then walks the pending children on the
     /// stack, depth first, as long as the budget lasts. Fails with `NoMemory` if memory runs out.
     fn walk_from(&mut self, alloc: Global, bound: u64) -> Result<(), NoMemory>
         requires at { StandsAt self.old bound }
@@ -244,7 +244,7 @@ impl<'l, 'a, L: StateLanes> Walker<'l, 'a, L> {
         Ok(())
     }
 
-    /// Returns where the walk halted: the path to its current word and the waiting children; `None` if no child waits.
+    /// Returns where the walk halted: the path to its current word and the pending children; `None` if there are none.
     /// Fails with `NoMemory` if memory runs out.
     fn halt(&self, alloc: Global) -> Result<Option<Halt>, NoMemory>
         requires in_order { IsInOrder (stage_of self.now) }
@@ -256,8 +256,8 @@ impl<'l, 'a, L: StateLanes> Walker<'l, 'a, L> {
             return Ok(None);
         }
         let path = ArcSlice::from_slice(alloc, self.path.as_slice())?;
-        let waiting = copy_waiting(alloc, self.stack.as_slice())?;
-        Ok(Some(Halt { path, waiting }))
+        let pending = copy_pending(alloc, self.stack.as_slice())?;
+        Ok(Some(Halt { path, pending }))
     }
 
     /// Searches `piece` like `Searcher::search`. Fails with `NoMemory` if memory runs out.

@@ -1,13 +1,13 @@
 -- Where a walk over states stands. `g` reads lanes as numbers.
---     AreHeld is word hs  each child that waits along the word has its own state, if any
+--     AreHeld is word hs  each pending child along the word has its own state, if any
 -- Of a walker:
 --     walked w            what it carries, before anything is left
---     stage_of w          where it stands: what waits is told without states
+--     stage_of w          where it stands: what is pending is told without states
 --     HasStates w         each child on its stack has its own state, if any
 --     StandsAs v w        w stands where v stood, with the same current state
---     StandsAt w b        its word has bound b, below the incumbent; all that waits, and its states, are in order
+--     StandsAt w b        its word has bound b, below the incumbent; all that is pending, and its states, are in order
 --     IsListedAt w b n    so, its word isn't full, and its candidates are at hand, but for n others
---     HasReachedFrom s w b  the walk went on from stage s to a child that waited there, with bound b, and took it
+--     HasReachedFrom s w b  the walk went on from stage s to a child pending there, with bound b, and took it
 --     HasReached v w b    the walk went on from v's word to one with bound b, and took it
 --     HasGoneOn v w told  the walk went on from v's word to a child with the bound that is told, or had nowhere to go
 use Rattle.std.specs.Prelude.{◌≡◌, ℕ, ◌+◌, ◌≤◌, ◌<◌, Option, Some, None, List, [], All, length}
@@ -16,7 +16,7 @@ use Rattle.shop_nodes.specs.Walking.{Walk}
 use Rattle.shop_lanes.specs.declared.state_lanes.StateLanes.{Ghosts}
 use Rattle.shop_states.specs.inner.WordStates.{IsStateOf}
 use Rattle.shop_tree.specs.declared.{held.Held.Held, walkers.Walker.Walker}
-use Rattle.shop_tree.specs.inner.{Held.{IsHeld, waiting_in}, WalkStates.{IsStateIn, Lists}}
+use Rattle.shop_tree.specs.inner.{Held.{IsHeld, pending_in}, WalkStates.{IsStateIn, Lists}}
 use Rattle.shop_tree.specs.inner.Walkers.{Stage, HasExpanded, HasFollowed, IsInOrder, stack_walk, turns_left, walk_on}
 
 abbrev pub AreHeld : {S : Type 0} → (List ℕ → S → Type 0) → List ℕ → List (Held S) → Type 0
@@ -31,7 +31,7 @@ module _ {L N : Type 0} {g : Ghosts L N} where
     shop = w.instance.now;
     word = w.path.items;
     walk = walked w;
-    stack = waiting_in w.stack.items;
+    stack = pending_in w.stack.items;
   }
 
   abbrev pub HasStates : Walker L N g → Type 0

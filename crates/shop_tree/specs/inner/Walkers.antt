@@ -1,29 +1,30 @@
 -- Where a walk stands, and what its turns come to.
---     Stage                the instance, the word that the walk came to, what it carries, and what waits on its stack
---     stack_walk s         the walk of all that waits
---     walk_on s            the walk that goes on from the word, and then from what waits
---     IsInOrder s          all that waits is told rightly
---     on_top s x           stage s with x on top of what waits
+--     Stage                the instance, the word that the walk came to, what it carries, and what is pending on its
+--                          stack
+--     stack_walk s         the walk of all that is pending
+--     walk_on s            the walk that goes on from the word, and then from what is pending
+--     IsInOrder s          all that is pending is told rightly
+--     on_top s x           stage s with x on top of what is pending
 --     spent_one t          the walk t with one of its budget spent
 --     gone_on s job        stage s with the job appended to its word, and one of the budget spent
 --     turns_left s         more turns than this can't come
 --     HasFollowed s t      the walk went on along words that have one open child alone
 --     HasBranched s t      the children of the word lie on the stack
---     HasExpanded s t      what waits afterwards comes to where the walk goes on from the word, and then from what
---                          waited before
---     IsTurn s x t         what waits afterwards comes to the walk of x on top of what waited before, and there is less
---                          to do
---     HasWalked s t whole  all that is left of this walk waits: nothing, unless the budget has ended
+--     HasExpanded s t      what is pending afterwards comes to where the walk goes on from the word, and then from what
+--                          was pending before
+--     IsTurn s x t         what is pending afterwards comes to the walk of x on top of what was pending before, and
+--                          there is less to do
+--     HasWalked s t whole  all that is left of this walk is pending: nothing, unless the budget has ended
 use Rattle.std.specs.Prelude.{◌≡◌, ℕ, ◌+◌, ◌-◌, ◌*◌, ◌≤◌, ◌<◌, List, [], ◌∷◌, ◌++◌, length, drop, fold}
 use Rattle.shop_model.specs.Shop.{Shop}
-use Rattle.shop_tree.specs.inner.{Opens.AreWaiting, Searching.{walk_stack, Adds, entered}}
-use Rattle.shop_nodes.specs.{Walking.{Walk, walk}, Nodes.words_of, declared.{nodes.Node.Node, halts.Waiting.Waiting}}
+use Rattle.shop_tree.specs.inner.{Opens.ArePending, Searching.{walk_stack, Adds, entered}}
+use Rattle.shop_nodes.specs.{Walking.{Walk, walk}, Nodes.words_of, declared.{nodes.Node.Node, halts.Pending.Pending}}
 
 pub record Stage : Type 0 where
   pub shop : Shop
   pub word : List ℕ
   pub walk : Walk
-  pub stack : List Waiting
+  pub stack : List Pending
 
 abbrev pub stack_walk : Stage → Walk
 stack_walk s = walk_stack s.shop s.word s.walk s.stack
@@ -36,9 +37,9 @@ abbrev pub node_walk : Stage → Node → Walk
 node_walk s node = walk s.shop s.walk node.word
 
 abbrev pub IsInOrder : Stage → Type 0
-IsInOrder s = AreWaiting s.shop s.walk.best s.word s.stack
+IsInOrder s = ArePending s.shop s.walk.best s.word s.stack
 
-abbrev pub on_top : Stage → Waiting → Stage
+abbrev pub on_top : Stage → Pending → Stage
 on_top s x = record s { stack = s.stack ++ x ∷ [] }
 
 abbrev pub spent_one : Walk → Walk
@@ -68,7 +69,7 @@ pub record HasExpanded (s t : Stage) : Type 0 where
   pub shop : t.shop ≡ s.shop
   pub spent : t.walk.budget ≤ s.walk.budget
 
-pub record IsTurn (s : Stage) (x : Waiting) (t : Stage) : Type 0 where
+pub record IsTurn (s : Stage) (x : Pending) (t : Stage) : Type 0 where
   pub walk : stack_walk t ≡ stack_walk (on_top s x)
   pub in_order : IsInOrder t
   pub fewer : turns_left t < turns_left (on_top s x)

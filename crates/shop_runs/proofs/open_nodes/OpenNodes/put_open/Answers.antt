@@ -11,20 +11,20 @@ returns-in-Some c =
     in let own = c.parts-own.result.0
     in let untaken = c.parts-own.result.2.now
     in let limit = c.min-limit.result
-    in let waiting = halted_nodes (Some c.in-Some.halt)
+    in let pending = halted_nodes (Some c.in-Some.halt)
     in let then = c.put_nodes.new
-    in let last = c.put_waiting.new
-    in let all : open_of c.args.left.now ≡ nodes_below own (waiting ++ untaken) =
+    in let last = c.put_pending.new
+    in let all : open_of c.args.left.now ≡ nodes_below own (pending ++ untaken) =
     c.parts-own.ensures.open ∙ ap (λ h. nodes_below own (halted_nodes h ++ untaken)) c.in-Some.is
-    in let left = part_put limit (waiting ++ untaken) store distant waiting untaken store then.self distant then.distant
-    (all_left limit (waiting ++ untaken) store distant) c.in_ok-put_nodes.ensures
-    in on_ok_weaker c.put_waiting.result (λ put.
+    in let left = part_put limit (pending ++ untaken) store distant pending untaken store then.self distant then.distant
+    (all_left limit (pending ++ untaken) store distant) c.in_ok-put_nodes.ensures
+    in on_ok_weaker c.put_pending.result (λ put.
     subst (λ ns. ArePutOrCounted c.args.makespan ns store distant last.self last.distant) (sym all)
-    (own_put c.args.makespan own (waiting ++ untaken) store last.self distant last.distant
-    (subst (λ m. ArePutOrCounted m (waiting ++ untaken) store distant last.self last.distant) c.min-limit.ensures
-    (all_put limit (waiting ++ untaken) store distant last.self last.distant
-    (part_put limit (waiting ++ untaken) store distant [] waiting then.self last.self then.distant last.distant left
-    put))))) c.put_waiting.ensures
+    (own_put c.args.makespan own (pending ++ untaken) store last.self distant last.distant
+    (subst (λ m. ArePutOrCounted m (pending ++ untaken) store distant last.self last.distant) c.min-limit.ensures
+    (all_put limit (pending ++ untaken) store distant last.self last.distant
+    (part_put limit (pending ++ untaken) store distant [] pending then.self last.self then.distant last.distant left
+    put))))) c.put_pending.ensures
 
 pub returns-in-None : goal.returns-in-None
 returns-in-None c =
@@ -41,22 +41,22 @@ returns-in-None c =
 
 pub put_nodes-requires-clause-fits : goal.put_nodes-requires-clause-fits
 put_nodes-requires-clause-fits c =
-    let waiting = halted_nodes c.parts-own.result.1.now
+    let pending = halted_nodes c.parts-own.result.1.now
     in let untaken = c.parts-own.result.2.now
     in let own = c.parts-own.result.0
-    in let nodes = waiting ++ untaken
+    in let nodes = pending ++ untaken
     in let whole = subst (λ m. FitBelow m nodes c.args.distant.now) (sym c.min-limit.ensures)
     (own_fits c.args.makespan own nodes c.args.distant.now
     (subst (λ ns. FitBelow c.args.makespan ns c.args.distant.now) c.parts-own.ensures.open c.requires))
-    in part_fits c.min-limit.result nodes c.args.self.now c.args.distant.now waiting untaken c.args.self.now
+    in part_fits c.min-limit.result nodes c.args.self.now c.args.distant.now pending untaken c.args.self.now
     c.args.distant.now whole (all_left c.min-limit.result nodes c.args.self.now c.args.distant.now)
 
-pub put_waiting-requires-clause-fits : goal.put_waiting-requires-clause-fits
-put_waiting-requires-clause-fits c =
-    let waiting = halted_nodes (Some c.in-Some.halt)
+pub put_pending-requires-clause-fits : goal.put_pending-requires-clause-fits
+put_pending-requires-clause-fits c =
+    let pending = halted_nodes (Some c.in-Some.halt)
     in let untaken = c.parts-own.result.2.now
     in let own = c.parts-own.result.0
-    in let nodes = waiting ++ untaken
+    in let nodes = pending ++ untaken
     in let store = c.args.self.now
     in let distant = c.args.distant.now
     in let limit = c.min-limit.result
@@ -65,6 +65,6 @@ put_waiting-requires-clause-fits c =
     in let whole = subst (λ m. FitBelow m nodes distant) (sym c.min-limit.ensures)
     (own_fits c.args.makespan own nodes distant
     (subst (λ ns. FitBelow c.args.makespan ns distant) words c.requires))
-    in part_fits limit nodes store distant [] waiting then.self then.distant whole
-    (part_put limit nodes store distant waiting untaken store then.self distant then.distant
+    in part_fits limit nodes store distant [] pending then.self then.distant whole
+    (part_put limit nodes store distant pending untaken store then.self distant then.distant
     (all_left limit nodes store distant) c.in_ok-put_nodes.ensures)

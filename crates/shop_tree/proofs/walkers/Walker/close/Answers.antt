@@ -1,7 +1,7 @@
 use Rattle.std.proofs.Common.{rules, ◌≡◌, ◌<◌, length, arith}
 use Rattle.shop_model.{specs.Shop.operation_count, proofs.WordLengths.word_length}
-use Rattle.shop_tree.specs.{inner.Held.waiting_in, inner.StateWalkers.stage_of, inner.Walkers.HasExpanded}
-use Rattle.shop_tree.proofs.{AddLemmas.few_open, ExpandLemmas.ends_closed, HeldLemmas.{rest_waits, states_rest}}
+use Rattle.shop_tree.specs.{inner.Held.pending_in, inner.StateWalkers.stage_of, inner.Walkers.HasExpanded}
+use Rattle.shop_tree.proofs.{AddLemmas.few_open, ExpandLemmas.ends_closed, HeldLemmas.{rest_on_top, states_rest}}
 use Rattle.shop_tree.proofs.{ListLemmas.on_ok, WalkerLemmas.ends_counted}
 use Rattle.shop_tree.proofs.walkers.Walker.close.Goals as goal
 
@@ -26,9 +26,9 @@ returns-clause-expanded g c =
     in let b = self.counted in omega arith)
     in let depth : c.len.result ≡ length self.path.items = (let a = c.len.ensures in let b = self.path.ok.0
     in omega arith)
-    in on_ok _ (HasExpanded (stage_of self) (record (stage_of self) { stack = waiting_in new }))
-    (λ e. ends_closed (stage_of self) c.args.count (waiting_in new) c.requires.word short c.requires.closed
-    c.requires.in_order (rest_waits self.stack.items self.path.items c.args.count depth e))
+    in on_ok _ (HasExpanded (stage_of self) (record (stage_of self) { stack = pending_in new }))
+    (λ e. ends_closed (stage_of self) c.args.count (pending_in new) c.requires.word short c.requires.closed
+    c.requires.in_order (rest_on_top self.stack.items self.path.items c.args.count depth e))
     c.put_rest.result c.put_rest.ensures
 
 pub returns-clause-states : goal.returns-clause-states

@@ -3,9 +3,9 @@ use Rattle.shop_model.specs.{Limits.IsWithinLimits, Shop.{Shop, operation_count}
 use Rattle.shop_model.proofs.WordLengths.{word_length}
 use Rattle.shop_bound.specs.{Bound.lb, Conflicts.SoleCandidateKeepsBound}
 use Rattle.shop_nodes.specs.{Branching.conflict, declared.halts.Open.Open}
-use Rattle.shop_tree.specs.inner.{Held.waiting_in, Opens.AreChildren, StateWalkers.{stage_of, AreHeld}, Walkers.Stage}
+use Rattle.shop_tree.specs.inner.{Held.pending_in, Opens.AreChildren, StateWalkers.{stage_of, AreHeld}, Walkers.Stage}
 use Rattle.shop_tree.{specs.inner.Walkers.gone_on, proofs.ExpandLemmas.{HasGone, follows_kept, follows_one}}
-use Rattle.shop_tree.proofs.{HeldLemmas.{rest_waits, states_rest}, ListedLemmas.{alone_closed, alone_fits, alone_kept}}
+use Rattle.shop_tree.proofs.{HeldLemmas.{rest_on_top, states_rest}, ListedLemmas.{alone_closed, alone_fits, alone_kept}}
 use Rattle.shop_tree.proofs.{ListedLemmas.{alone_own, few_closed, sole_listed}, StateLemmas.held_on}
 use Rattle.shop_tree.proofs.{StateSteps.reached, TrialLemmas.{told_high, told_low, told_state}}
 use Rattle.shop_states.specs.inner.WordStates.{IsStateOf}
@@ -146,10 +146,10 @@ returns g c =
     in let b = self.counted in omega arith)
     in let new = c.put_rest.new.stack.items
     in let depth : c.len.result ≡ length word = (let a = c.len.ensures in let b = self.path.ok.0 in omega arith)
-    in let gone = follows_kept (stage_of self) o c.args.closed (waiting_in new)
+    in let gone = follows_kept (stage_of self) o c.args.closed (pending_in new)
     (subst (λ (x : Shop). IsWord x word) self.same_shop is_word) short kids refl
     (low.0 ∙ ap (λ (x : Shop). lb x (word ++ cand.job ∷ [])) self.same_shop) low.1 c.requires.some at.in_order
-    (rest_waits self.stack.items word c.args.closed depth c.in_ok-put_rest.ensures)
+    (rest_on_top self.stack.items word c.args.closed depth c.in_ok-put_rest.ensures)
     in reached self c.take_job-2.new.self c.in-Some.bound
     (subst (λ (t : Stage). HasGone (stage_of self) t c.in-Some.bound) (sym c.take_job-2.ensures.stage) gone)
     c.take_job-2.ensures.states c.take_job-2.ensures.state

@@ -1,11 +1,11 @@
 use Rattle.std.proofs.Common.{◌≡◌, ◌<◌, ◌++◌, ◌∙◌, List, ap, length, map, subst, sym, arith}
 use Rattle.std.proofs.lemmas.List.{length-append}
 use Rattle.shop_model.{specs.{Shop.{operation_count}, Word.IsWord}, proofs.WordLengths.word_length}
-use Rattle.shop_tree.specs.{declared.held.Held.Held, inner.Held.{held, opens_in, waiting_in}}
+use Rattle.shop_tree.specs.{declared.held.Held.Held, inner.Held.{held, opens_in, pending_in}}
 use Rattle.shop_tree.specs.inner.{WalkStates.{IsStateIn, Lists}, StateWalkers.stage_of, Walkers.HasBranched}
 use Rattle.shop_bound.specs.Bound.{lb}
 use Rattle.shop_tree.proofs.{ListLemmas.on_ok, AddLemmas.few_open, ExpandLemmas.branched, ListedLemmas.few_closed}
-use Rattle.shop_tree.proofs.{HeldLemmas.{rest_long, waiting_put}, StateSteps.held_branched}
+use Rattle.shop_tree.proofs.{HeldLemmas.{rest_long, pending_put}, StateSteps.held_branched}
 use Rattle.shop_states.specs.declared.states.State.{State}
 use Rattle.shop_states.proofs.AskedStates.{limits_of, word_of}
 use Rattle.shop_tree.proofs.walkers.Walker.push_children.Goals as goal
@@ -59,9 +59,9 @@ returns-clause-branched g c =
     ∙ ap (λ (hs : List (Held (State g.row.L.Denot g.row.L-Number.Denot))). hs ++ map held put.kids)
     c.in_ok-put_rest.ensures
     in let stack = c.set_rest_below.new.stack.items
-    in on_ok _ (HasBranched (stage_of self) (record (stage_of self) { stack = waiting_in stack }))
-    (λ e. branched (stage_of self) opens n c.len-depth.result (waiting_in stack) is short kids depth
-    (waiting_put self.stack.items put.kids stack c.len-depth.result n
+    in on_ok _ (HasBranched (stage_of self) (record (stage_of self) { stack = pending_in stack }))
+    (λ e. branched (stage_of self) opens n c.len-depth.result (pending_in stack) is short kids depth
+    (pending_put self.stack.items put.kids stack c.len-depth.result n
     (e self.stack.items (map held put.kids) index before)))
     c.set_rest_below.result c.set_rest_below.ensures
 

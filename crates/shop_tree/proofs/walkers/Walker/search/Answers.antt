@@ -3,7 +3,7 @@ use Rattle.std.proofs.lemmas.List.{take_rest, Elements.{All-drop, All-take}}
 use Rattle.shop_model.specs.Shop.{Shop}
 use Rattle.shop_nodes.specs.{Left.Leaving, Laws.{AreWords, KeepsPiece}, Nodes.{words_of, AreNodes, IsNode}}
 use Rattle.shop_nodes.{specs.{Halts.halted_words, Walking.Walk}, proofs.{NodeLemmas.are_words, Found.searches_keep}}
-use Rattle.shop_tree.specs.inner.{Held.waiting_in, Searching.opening_walk, StateWalkers.stage_of, Walkers.Stage}
+use Rattle.shop_tree.specs.inner.{Held.pending_in, Searching.opening_walk, StateWalkers.stage_of, Walkers.Stage}
 use Rattle.shop_tree.proofs.WalkerLemmas.{sheet_told}
 use Rattle.shop_tree.proofs.walkers.Walker.search.Goals as goal
 
@@ -17,7 +17,7 @@ returns-clause-sheet g c =
       shop = c.clear.new.self.instance.now;
       word = c.clear.new.self.path.items;
       walk = opening_walk c.args.best c.args.budget;
-      stack = waiting_in c.clear.new.self.stack.items;
+      stack = pending_in c.clear.new.self.stack.items;
     }
     in let left = ap (λ (l : Leaving). l.words) c.new.ensures
     in record {
@@ -44,7 +44,7 @@ invariant_of-result g c =
       shop = c.clear.new.self.instance.now;
       word = c.clear.new.self.path.items;
       walk = opening_walk c.args.best c.args.budget;
-      stack = waiting_in c.clear.new.self.stack.items;
+      stack = pending_in c.clear.new.self.stack.items;
     }
     in let left = ap (λ (l : Leaving). l.words) c.new.ensures
     in let told = sheet_told begun (stage_of t) c.as_slice-nodes.result.now k (sym c.in_ok-index.ensures.walked.shop)

@@ -1,7 +1,7 @@
 use Rattle.std.proofs.{Common.{◌≡◌, ◌<◌, ◌∙◌, [], ap, arith, subst, sym}, lemmas.List.Elements.All-nil}
 use Rattle.shop_model.proofs.WordLengths.{word_shared}
 use Rattle.shop_bound.specs.Bound.{lb}
-use Rattle.shop_tree.specs.inner.{Held.waiting_in, WalkStates.IsStateIn, StateWalkers.{stage_of}, Walkers.{HasWalked}}
+use Rattle.shop_tree.specs.inner.{Held.pending_in, WalkStates.IsStateIn, StateWalkers.{stage_of}, Walkers.{HasWalked}}
 use Rattle.shop_tree.{specs.inner.Walkers.{node_walk}, proofs.{ListLemmas.on_ok, WalkerLemmas.node_walked}}
 use Rattle.shop_tree.proofs.walkers.Walker.walk_node.Goals as goal
 
@@ -12,7 +12,7 @@ pub returns-clause-walked : goal.returns-clause-walked
 returns-clause-walked g c =
     let self = c.args.self.now in let node = c.args.node.now in let s = stage_of self
     in let t = stage_of c.walk_from.new.self
-    in let empty : s.stack ≡ [] = ap waiting_in c.requires.empty
+    in let empty : s.stack ≡ [] = ap pending_in c.requires.empty
     in let below : lb self.instance.now node.word < self.incumbent = (let a = c.if-node-self.false
     in let b = c.requires.node.1 in omega arith)
     in let went : c.write_to.new.list.items ≡ node.word = c.in_ok-write_to.ensures.list
