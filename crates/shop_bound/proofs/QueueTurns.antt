@@ -9,43 +9,43 @@ use Rattle.std.specs.{List.All, Prelude.IsPermutation, Option.{is_some, unwrap_o
 use Rattle.shop_bound.specs.{declared.triples.Triple.Triple, declared.queues.Work.Work, inner.Thresholds.no_triple}
 use Rattle.shop_bound.specs.inner.Serving.{work_at, fresh, undone_of, IsServable, IsServed, IsStop, IsReady}
 use Rattle.shop_bound.specs.{inner.HeapOrders.{Coming, Released}, inner.Queues.KeepsRoom, declared.queues.Queue.Queue}
-use Rattle.shop_bound.specs.inner.Queues.{coming_place, released_place, times, IsToCome, IsReleased, AreQueued}
+use Rattle.shop_bound.specs.inner.Queues.{coming_index, released_index, times, IsToCome, IsReleased, AreQueued}
 use Rattle.shop_bound.specs.inner.Queues.{ComeLater, IsNextRelease, IsBehind, IsFirst, TakesReleased, IsQueue}
 use Rattle.shop_bound.specs.inner.Queues.{IsWithoutFirst}
 use Rattle.shop_bound.proofs.{TurnCounts.undone_of-one, WorkSums.{triple_at, fresh-undone}}
 
 -- how often a position stands in a list
-module _ {A : Type 0} (place : A → ℕ) where
-  pub times-none : (k : ℕ) (xs : List A) → length xs ≡ 0 → times place k xs ≡ 0
+module _ {A : Type 0} (index : A → ℕ) where
+  pub times-none : (k : ℕ) (xs : List A) → length xs ≡ 0 → times index k xs ≡ 0
   unfolding times
   times-none k [] none = refl
   times-none k (x ∷ xs) none = absurd (omega arith)
 
-  pub times-here : (k : ℕ) (x : A) (xs : List A) → place x ≡ k → times place k (x ∷ xs) ≡ times place k xs + 1
+  pub times-here : (k : ℕ) (x : A) (xs : List A) → index x ≡ k → times index k (x ∷ xs) ≡ times index k xs + 1
   unfolding times
   times-here k x xs e =
-      let a = sum_by-cons (λ (y : A). cond {A = ℕ} (place y == k) 1 0) x xs
-      in let b : cond {A = ℕ} (place x == k) 1 0 ≡ 1 = rw (eq-eqb (place x) k e) refl in omega arith
+      let a = sum_by-cons (λ (y : A). cond {A = ℕ} (index y == k) 1 0) x xs
+      in let b : cond {A = ℕ} (index x == k) 1 0 ≡ 1 = rw (eq-eqb (index x) k e) refl in omega arith
 
-  pub times-other : (k : ℕ) (x : A) (xs : List A) → place x ≢ k → times place k (x ∷ xs) ≡ times place k xs
+  pub times-other : (k : ℕ) (x : A) (xs : List A) → index x ≢ k → times index k (x ∷ xs) ≡ times index k xs
   unfolding times
   times-other k x xs ne = grind (arith, sum_by-cons, ne_eqb)
 
-  pub times-permutation : (k : ℕ) (xs ys : List A) → IsPermutation xs ys → times place k ys ≡ times place k xs
+  pub times-permutation : (k : ℕ) (xs ys : List A) → IsPermutation xs ys → times index k ys ≡ times index k xs
   unfolding times
-  times-permutation k xs ys p = sum_by-IsPermutation (λ (y : A). cond {A = ℕ} (place y == k) 1 0) xs ys p
+  times-permutation k xs ys p = sum_by-IsPermutation (λ (y : A). cond {A = ℕ} (index y == k) 1 0) xs ys p
 
   -- one that stands there, and what holds of all holds of it
-  pub some_time : (P : A → Type 0) (k : ℕ) (xs : List A) → All P xs → 0 < times place k xs
-      → (x : A) × (place x ≡ k) × P x
+  pub some_time : (P : A → Type 0) (k : ℕ) (xs : List A) → All P xs → 0 < times index k xs
+      → (x : A) × (index x ≡ k) × P x
   some_time P k [] all some = absurd (let z = times-none k [] refl in omega arith)
-  some_time P k (x ∷ xs) all some = elim (cases_eq (place x) k) [
+  some_time P k (x ∷ xs) all some = elim (cases_eq (index x) k) [
     | inl e ↦ (x, e, All-head P x xs all)
     | inr ne ↦ (let a = times-other k x xs ne in some_time P k xs (All-tail P x xs all) (omega arith))
   ]
 
-  pub times-top : (k : ℕ) (xs : List A) (x : A) → 0 < length xs → x ≡ get_or xs 0 x → place x ≡ k
-      → 0 < times place k xs
+  pub times-top : (k : ℕ) (xs : List A) (x : A) → 0 < length xs → x ≡ get_or xs 0 x → index x ≡ k
+      → 0 < times index k xs
   times-top k [] x some top e = absurd (omega arith)
   times-top k (y ∷ ys) x some top e = grind (arith, times-here)
 
@@ -64,25 +64,25 @@ undone_since w some = grind arith
 
 module _ (ws : List Work) (clock : ℕ) (cs : List Coming) (hs : List Released) (q : AreQueued ws clock cs hs) where
   -- one that is not done and isn't to come is released
-  is_released : (k : ℕ) → k < length ws → (work_at ws k).done ≡ false → times coming_place k cs ≡ 0
-      → (P : Released → Type 0) → All P hs → (h : Released) × (released_place h ≡ k) × (IsReleased ws clock h × P h)
+  is_released : (k : ℕ) → k < length ws → (work_at ws k).done ≡ false → times coming_index k cs ≡ 0
+      → (P : Released → Type 0) → All P hs → (h : Released) × (released_index h ≡ k) × (IsReleased ws clock h × P h)
   is_released k here undone none P all =
       let o = q.once k here in let u = count_undone (work_at ws k) undone
-      in some_time released_place (λ h. IsReleased ws clock h × P h) k hs (λ i d l. (q.released i d l, all i d l))
+      in some_time released_index (λ h. IsReleased ws clock h × P h) k hs (λ i d l. (q.released i d l, all i d l))
       (omega arith)
 
   -- one that is not done and isn't released is to come
-  to_come : (k : ℕ) → k < length ws → (work_at ws k).done ≡ false → times released_place k hs ≡ 0
-      → (P : Coming → Type 0) → All P cs → (c : Coming) × (coming_place c ≡ k) × (IsToCome ws c × P c)
+  to_come : (k : ℕ) → k < length ws → (work_at ws k).done ≡ false → times released_index k hs ≡ 0
+      → (P : Coming → Type 0) → All P cs → (c : Coming) × (coming_index c ≡ k) × (IsToCome ws c × P c)
   to_come k here undone none P all =
       let o = q.once k here in let u = count_undone (work_at ws k) undone
-      in some_time coming_place (λ c. IsToCome ws c × P c) k cs (λ i d l. (q.coming i d l, all i d l))
+      in some_time coming_index (λ c. IsToCome ws c × P c) k cs (λ i d l. (q.coming i d l, all i d l))
       (omega arith)
 
   -- what comes after the clock isn't among the released, and is not done
-  not_released : (k : ℕ) → clock < (work_at ws k).triple.head → times released_place k hs ≡ 0
-  not_released k late = elim (cases_lt 0 (times released_place k hs)) [
-    | inl some ↦ absurd (let s = some_time released_place (IsReleased ws clock) k hs q.released some
+  not_released : (k : ℕ) → clock < (work_at ws k).triple.head → times released_index k hs ≡ 0
+  not_released k late = elim (cases_lt 0 (times released_index k hs)) [
+    | inl some ↦ absurd (let s = some_time released_index (IsReleased ws clock) k hs q.released some
         in let e = ap (λ (j : ℕ). (work_at ws j).triple.head) s.1
         in let r = s.2.released in omega arith)
     | inr none ↦ omega arith
@@ -93,9 +93,9 @@ module _ (ws : List Work) (clock : ℕ) (cs : List Coming) (hs : List Released) 
 
   module _ (later : ComeLater clock cs) where
     -- what is released isn't to come
-    not_coming : (k : ℕ) → (work_at ws k).triple.head ≤ clock → times coming_place k cs ≡ 0
-    not_coming k released = elim (cases_lt 0 (times coming_place k cs)) [
-      | inl some ↦ absurd (let s = some_time coming_place (λ c. IsToCome ws c × (clock < c.0.0)) k cs
+    not_coming : (k : ℕ) → (work_at ws k).triple.head ≤ clock → times coming_index k cs ≡ 0
+    not_coming k released = elim (cases_lt 0 (times coming_index k cs)) [
+      | inl some ↦ absurd (let s = some_time coming_index (λ c. IsToCome ws c × (clock < c.0.0)) k cs
           (λ i d l. (q.coming i d l, later i d l)) some
           in let e = ap (λ (j : ℕ). (work_at ws j).triple.head) s.1
           in let h = s.2.0.head in let l = s.2.1 in omega arith)
@@ -105,7 +105,7 @@ module _ (ws : List Work) (clock : ℕ) (cs : List Coming) (hs : List Released) 
     -- the first of the released ones is served
     pub first_served : (i : ℕ) → IsFirst hs (Some i) → IsServed (length ws) ws clock i
     first_served i (h, f) =
-        let a = all-top released_place (IsReleased ws clock) hs h f.some f.top q.released
+        let a = all-top released_index (IsReleased ws clock) hs h f.some f.top q.released
         in let e = f.is
         in let here : i < length ws = subst (λ (j : ℕ). j < length ws) e a.here
         in let tail : h.0 ≡ (work_at ws i).triple.tail =
@@ -131,9 +131,9 @@ module _ (ws : List Work) (clock : ℕ) (cs : List Coming) (hs : List Released) 
 
     pub ready_later : IsFirst hs None → (head : ℕ) → IsNextRelease cs (Some head) → IsReady ws clock head
     ready_later none head (c, n) = inr (inl (record {
-      later = (let l = all-top coming_place (λ d. clock < d.0.0) cs c n.some n.top later
+      later = (let l = all-top coming_index (λ d. clock < d.0.0) cs c n.some n.top later
           in let e = n.is in omega arith);
-      least = λ k here undone. (let s = to_come k here undone (times-none released_place k hs none) (λ d. head ≤ d.0.0)
+      least = λ k here undone. (let s = to_come k here undone (times-none released_index k hs none) (λ d. head ≤ d.0.0)
           n.least
           in let h = s.2.0.head in let l = s.2.1
           in let e = ap (λ (j : ℕ). (work_at ws j).triple.head) s.1 in omega arith);
@@ -148,8 +148,8 @@ module _ (ws : List Work) (clock : ℕ) (cs : List Coming) (hs : List Released) 
         → stop ≡ min (unwrap_or r end) end → IsStop (length ws) ws clock end stop
     stops None end stop over after e = grind (arith, count_undone, not_done, not_released, times-none)
     stops (Some head) end stop (c, n) after e =
-        let a = all-top coming_place (IsToCome ws) cs c n.some n.top q.coming
-        in let l = all-top coming_place (λ d. clock < d.0.0) cs c n.some n.top later
+        let a = all-top coming_index (IsToCome ws) cs c n.some n.top q.coming
+        in let l = all-top coming_index (λ d. clock < d.0.0) cs c n.some n.top later
         in let i = n.is in let h = a.head
         in record {
           later = omega arith;
@@ -197,7 +197,7 @@ module _ (ws : List Work) (i : ℕ) (v : Work) (lt : i < length ws) (same : v.tr
 
   -- the first, once it has ended
   pub queued_done : (clock : ℕ) (cs : List Coming) (hs rest : List Released) → AreQueued ws clock cs hs
-      → v.done ≡ true → (work_at ws i).triple.head ≤ clock → (h : Released) → released_place h ≡ i
+      → v.done ≡ true → (work_at ws i).triple.head ≤ clock → (h : Released) → released_index h ≡ i
       → IsPermutation hs (h ∷ rest) → AreQueued (set ws i v) clock cs rest
   queued_done clock cs hs rest q done released h is p = record {
     coming = λ j d l. set_coming (get_or cs j d) (q.coming j d l);
@@ -208,9 +208,9 @@ module _ (ws : List Work) (i : ℕ) (v : Work) (lt : i < length ws) (same : v.tr
     passed = λ k here was. passed_after k (omega (arith, length-set ws i v)) was;
   } where
     once_after : (k : ℕ) → k < length ws
-        → times coming_place k cs + times released_place k rest ≡ undone_of (work_at (set ws i v) k)
+        → times coming_index k cs + times released_index k rest ≡ undone_of (work_at (set ws i v) k)
     once_after k here =
-        let o = q.once k here in let m = times-permutation released_place k hs (h ∷ rest) p
+        let o = q.once k here in let m = times-permutation released_index k hs (h ∷ rest) p
         in elim (cases_eq k i) [
           | inl e ↦ grind (arith, times-here, get_or-set_same, count_done, undone_of-one)
           | inr ne ↦ grind (arith, times-other, get_or-set_other)
@@ -247,7 +247,7 @@ queue_done ws clock i end v q r is s same done later first without fewer room co
 pub queued_more : (ws : List Work) (clock : ℕ) (cs rest : List Coming) (hs more : List Released) (c : Coming)
     (h : Released)
     → AreQueued ws clock cs hs → IsPermutation cs (c ∷ rest) → c.0.0 ≤ clock → IsPermutation (h ∷ hs) more
-    → released_place h ≡ coming_place c → h.0 ≡ (work_at ws c.1).triple.tail → AreQueued ws clock rest more
+    → released_index h ≡ coming_index c → h.0 ≡ (work_at ws c.1).triple.tail → AreQueued ws clock rest more
 queued_more ws clock cs rest hs more c h q p released m is tail =
     let all = All-permutation (IsToCome ws) cs (c ∷ rest) p q.coming
     in let here = All-head (IsToCome ws) c rest all
@@ -258,13 +258,13 @@ queued_more ws clock cs rest hs more c h q p released m is tail =
         tail = tail ∙ ap (λ (j : ℕ). (work_at ws j).triple.tail) (sym is);
         released = (let e = here.head in let f = ap (λ (j : ℕ). (work_at ws j).triple.head) is in omega arith);
       }) q.released);
-      once = λ k lt. let o = q.once k lt in let a = times-permutation coming_place k cs (c ∷ rest) p
-          in let b = times-permutation released_place k (h ∷ hs) more m
-          in elim (cases_eq (coming_place c) k) [
-            | inl e ↦ (let x = times-here coming_place k c rest e
-                in let y = times-here released_place k h hs (is ∙ e) in omega arith)
-            | inr ne ↦ (let x = times-other coming_place k c rest ne
-                in let y = times-other released_place k h hs (λ f. ne (sym is ∙ f)) in omega arith)
+      once = λ k lt. let o = q.once k lt in let a = times-permutation coming_index k cs (c ∷ rest) p
+          in let b = times-permutation released_index k (h ∷ hs) more m
+          in elim (cases_eq (coming_index c) k) [
+            | inl e ↦ (let x = times-here coming_index k c rest e
+                in let y = times-here released_index k h hs (is ∙ e) in omega arith)
+            | inr ne ↦ (let x = times-other coming_index k c rest ne
+                in let y = times-other released_index k h hs (λ f. ne (sym is ∙ f)) in omega arith)
           ];
       passed = q.passed;
     }
@@ -272,13 +272,13 @@ queued_more ws clock cs rest hs more c h q p released m is tail =
 pub queue_more : (ws : List Work) (clock k : ℕ) (q p r : Queue) → IsQueue ws clock q
     → TakesReleased clock (heap_items q.coming) (heap_items p.coming) (Some k)
     → heap_len p.coming + 1 ≡ heap_len q.coming → p.released ≡ q.released → r.coming ≡ p.coming → (h : Released)
-    → IsPermutation (h ∷ heap_items p.released) (heap_items r.released) → released_place h ≡ k
+    → IsPermutation (h ∷ heap_items p.released) (heap_items r.released) → released_index h ≡ k
     → h.0 ≡ (work_at ws k).triple.tail → heap_len r.released ≡ heap_len p.released + 1
     → heap_capacity p.released ≤ heap_capacity r.released → IsQueue ws clock r
-queue_more ws clock k q p r is taken fewer stays comes h more place tail longer room =
+queue_more ws clock k q p r is taken fewer stays comes h more index tail longer room =
     let all = queued_more ws clock (heap_items q.coming) (heap_items p.coming) (heap_items q.released)
     (heap_items r.released)
-    taken.0 h is.are taken.1 taken.2 (rw stays at more) (place ∙ sym taken.3)
+    taken.0 h is.are taken.1 taken.2 (rw stays at more) (index ∙ sym taken.3)
     (tail ∙ ap (λ (j : ℕ). (work_at ws j).triple.tail) (sym taken.3))
     in let old = is.room in let a = rw stays at longer in let b = rw stays at room
     in record { are = rw comes all; room = rw comes (omega arith) }
@@ -286,7 +286,7 @@ queue_more ws clock k q p r is taken fewer stays comes h more place tail longer 
 -- all operations to come
 pub record AreListed (ts : List Triple) (n : ℕ) (cs : List Coming) : Type 0 where
   pub each : All (λ c. (c.1 < n) × (c.0.0 ≡ (get_or ts c.1 no_triple).head)) cs
-  pub once : (k : ℕ) → k < n → times coming_place k cs ≡ 1
+  pub once : (k : ℕ) → k < n → times coming_index k cs ≡ 1
 
 pub listed_more : (ts : List Triple) (n : ℕ) (cs more : List Coming) (c : Coming) → AreListed ts n cs
     → IsPermutation (c ∷ cs) more → c.1 ≡ n → c.0.0 ≡ (get_or ts n no_triple).head → AreListed ts (n + 1) more
@@ -294,19 +294,19 @@ listed_more ts n cs more c a p is head = record {
   each = All-permutation (Listed (n + 1)) (c ∷ cs) more p (All-cons (Listed (n + 1)) c cs
       (omega arith, head ∙ ap (λ (j : ℕ). (get_or ts j no_triple).head) (sym is))
       (λ k d l. let e = a.each k d l in let b = e.0 in (omega arith, e.1)));
-  once = λ k lt. let b = times-permutation coming_place k (c ∷ cs) more p
-      in elim (cases_eq (coming_place c) k) [
-        | inl e ↦ (let x = times-here coming_place k c cs e
-            in let none : times coming_place k cs ≡ 0 = never k (omega arith) in omega arith)
-        | inr ne ↦ (let x = times-other coming_place k c cs ne in let o = a.once k (omega arith) in omega arith)
+  once = λ k lt. let b = times-permutation coming_index k (c ∷ cs) more p
+      in elim (cases_eq (coming_index c) k) [
+        | inl e ↦ (let x = times-here coming_index k c cs e
+            in let none : times coming_index k cs ≡ 0 = never k (omega arith) in omega arith)
+        | inr ne ↦ (let x = times-other coming_index k c cs ne in let o = a.once k (omega arith) in omega arith)
       ];
 } where
   Listed : ℕ → Coming → Type 0
   Listed m c = (c.1 < m) × (c.0.0 ≡ (get_or ts c.1 no_triple).head)
 
-  never : (k : ℕ) → n ≤ k → times coming_place k cs ≡ 0
-  never k past = elim (cases_lt 0 (times coming_place k cs)) [
-    | inl some ↦ absurd (let s = some_time coming_place (Listed n) k cs a.each some
+  never : (k : ℕ) → n ≤ k → times coming_index k cs ≡ 0
+  never k past = elim (cases_lt 0 (times coming_index k cs)) [
+    | inl some ↦ absurd (let s = some_time coming_index (Listed n) k cs a.each some
         in let b = s.2.0 in let e = s.1 in omega arith)
     | inr none ↦ omega arith
   ]

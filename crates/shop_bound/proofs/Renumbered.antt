@@ -16,7 +16,7 @@ use Rattle.shop_bound.{specs.{OneMachine.one, Renumbered.{IsRenumbered, NumbersD
 use Rattle.shop_bound.proofs.{Lists.{all_append, all_filter, all_map}, PlacedEnds.{le-placed_end, placed_end-le}}
 use Rattle.shop_bound.proofs.UnplacedTurns.{first_on, first_off, triples_on-append}
 
--- lists that agree place by place
+-- lists that agree at each index
 zip_from : {A : Type 0} (R : A → A → Type 0) (d : A) (xs ys : List A) → length ys ≡ length xs
     → ((i : ℕ) → i < length xs → R (get_or xs i d) (get_or ys i d)) → AllZip R xs ys
 zip_from R d [] [] e h = tt

@@ -24,7 +24,7 @@ pub first_off : (m : ℕ) (free : ℕ → ℕ) (j k ready : ℕ) (o : Op) (os : 
     ≡ triples_on m (waiting_from free j (k + 1) (head + o.time) os)
 first_off m free j k ready o os head is off = grind (arith, ne_eqb)
 
--- only the machines of the rest of the route matter, and not its place
+-- only the machines of the rest of the route matter, and not where it stands
 pub unplaced-same : (m : ℕ) (f g : ℕ → ℕ) (i j k l ready : ℕ) (os : List Op)
     → ((n : ℕ) → n < length os → f (get_or os n no_op).machine ≡ g (get_or os n no_op).machine)
     → triples_on m (waiting_from f i k ready os) ≡ triples_on m (waiting_from g j l ready os)
@@ -49,18 +49,18 @@ module _ (m : ℕ) (free : List ℕ) (ready : ℕ) (rest : List Op) (k : ℕ) (b
   front : drop k rest ≡ get_or rest k no_op ∷ drop (k + 1) rest
   front = drop_more rest k no_op below
 
-  place : triples_on m (waiting_from (λ i. get_or free i 0) 0 1 (head + (get_or rest k no_op).time) (drop (k + 1) rest))
+  later : triples_on m (waiting_from (λ i. get_or free i 0) 0 1 (head + (get_or rest k no_op).time) (drop (k + 1) rest))
       ≡ unplaced_from m free (head + (get_or rest k no_op).time) (drop (k + 1) rest)
-  place = grind (arith, unplaced-same)
+  later = grind (arith, unplaced-same)
 
   pub added_on : (get_or rest k no_op).machine ≡ m → (tail : ℕ) → tail ≡ tail_in rest k
       → ys ≡ xs ++ (record { head = head; time = (get_or rest k no_op).time; tail = tail }) ∷ []
       → ys ++ unplaced_from m free (head + (get_or rest k no_op).time) (drop (k + 1) rest) ≡ whole
-  added_on on tail is_tail pushed = grind (arith, front, first_on, place, append_assoc)
+  added_on on tail is_tail pushed = grind (arith, front, first_on, later, append_assoc)
 
   pub added_off : (get_or rest k no_op).machine ≢ m → ys ≡ xs
       → ys ++ unplaced_from m free (head + (get_or rest k no_op).time) (drop (k + 1) rest) ≡ whole
-  added_off off same = grind (arith, front, first_off, place)
+  added_off off same = grind (arith, front, first_off, later)
 
 -- as many steps are placed as the route has, or fewer
 pub steps_within : (shop : Shop) (s : PlacementState) → IsOfWord shop s → (j : ℕ) → j < length shop.jobs

@@ -57,7 +57,7 @@ WaitingIsWhatIsLeft = (shop : Shop) (p : Placing)
     → waiting shop p ≡ flat_map (λ j. map (waiting_at shop p j) (steps_left shop p j))
     (range_with_len 0 (length shop.jobs))
 
--- the head that stands in the rows, one a job; none where no place is
+-- the head that stands in the rows, one a job; none beyond the rows
 abbrev pub heads_at : List (List (Option ℕ)) → ℕ → ℕ → Option ℕ
 heads_at rows j k = slice_index_or (slice_index_or rows j []) k None
 

@@ -3,7 +3,7 @@ use Rattle.std.proofs.Common.{◌≡◌, ℕ, zero, suc, ◌*◌, ◌/◌, ◌%�
 use Rattle.std.{proofs.{Common.{◌∙◌, arith}, lemmas.List.length-map}, specs.List.All}
 use Rattle.shop_lanes.specs.{Eights.{ahead_of, later_head}, Folds.least_up_to, Rows.{Lane, lanes, by_columns, lanes_in}}
 use Rattle.shop_lanes.{specs.{declared.lane_rows.LaneRows.LaneRows, Spans.greatest_by}, proofs.SpanParts.each_greatest}
-use Rattle.shop_lanes.proofs.{Columns.{All-by_columns, All-by_places}, LaneLists.length-lanes, RowValues.as_long}
+use Rattle.shop_lanes.proofs.{Columns.{All-by_columns, All-by_indices}, LaneLists.length-lanes, RowValues.as_long}
 use Rattle.shop_lanes.proofs.{LaterTurns.nearest_is_least, LeapTurns.{least_head, least_head_is}}
 
 greatest_within : (f : Lane → ℕ) (m : ℕ) (xs : List Lane) → All (λ x. f x ≤ m) xs → greatest_by f xs ≤ m
@@ -34,7 +34,7 @@ module _ (count : ℕ) (xs : List Lane) (whole : length xs ≡ 8 * count) where
       in let a = greatest_within f (greatest_by f xs) ranked
       (All-by_columns count xs whole (λ x. f x ≤ greatest_by f xs) (λ k d lt. each_greatest f xs k d lt))
       in let b = greatest_within f (greatest_by f ranked) xs
-      (All-by_places count xs whole (λ x. f x ≤ greatest_by f ranked) (λ k d lt. each_greatest f ranked k d lt))
+      (All-by_indices count xs whole (λ x. f x ≤ greatest_by f ranked) (λ k d lt. each_greatest f ranked k d lt))
       in omega (arith, a, b)
 
   pub least-by_columns : (top from : ℕ) → least_head top from (by_columns count xs) ≡ least_head top from xs
@@ -44,7 +44,7 @@ module _ (count : ℕ) (xs : List Lane) (whole : length xs ≡ 8 * count) where
       (All-by_columns count xs whole (λ x. least_head top from xs ≤ later_head top from x.head)
       (λ k d lt. least_each top from xs k d lt))
       in let b = least_within top from (least_head top from ranked) xs (least_le top from ranked)
-      (All-by_places count xs whole (λ x. least_head top from ranked ≤ later_head top from x.head)
+      (All-by_indices count xs whole (λ x. least_head top from ranked ≤ later_head top from x.head)
       (λ k d lt. least_each top from ranked k d lt))
       in omega (arith, a, b)
 

@@ -117,9 +117,9 @@ position_in_block number b xs le before read_is {bits} told some =
     in let positive : 0 < mask_l (map (λ x. x == number) block) = omega (arith, is, some)
     in let r = first_passed (λ x. x == number) 64 block (omega (arith, long)) positive
     in let z = count_trailing_zeros 64 (mask_l (map (λ x. x == number) block))
-    in let place : 8 * b + count_trailing_zeros 64 bits ≡ 8 * b + z = ap (λ n. 8 * b + count_trailing_zeros 64 n) is
+    in let found : 8 * b + count_trailing_zeros 64 bits ≡ 8 * b + z = ap (λ n. 8 * b + count_trailing_zeros 64 n) is
     in let below_8 : z < 8 = let a = r.within in omega (arith, long)
-    in rw place (record {
+    in rw found (record {
       within = omega arith;
       found = λ lt.
           let here : get_or block z 0 ≡ get_or xs (8 * b + z) 0 = get_or-chunk (8 * b) 8 xs z 0 below_8

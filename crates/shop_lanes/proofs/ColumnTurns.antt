@@ -7,7 +7,7 @@ use Rattle.shop_lanes.specs.{Eights.{added, waiting, AddsFit}, Rows.{Lane, lanes
 use Rattle.shop_lanes.specs.{declared.lane_rows.LaneRows.LaneRows, Spans.{span, greatest_by, FitsSpan}}
 use Rattle.shop_lanes.{specs.inner.Passes.{clock_after, eight}, proofs.Eights.{on_eight, same_eight}}
 use Rattle.shop_lanes.proofs.{BlockMasks.length-block, RowValues.as_long, Columns.{rank_below, length-by_columns}}
-use Rattle.shop_lanes.proofs.{Columns.{by_columns-at, place_of_rank}, LaneLists.{lane_at, length-lanes, get_or-lanes}}
+use Rattle.shop_lanes.proofs.{Columns.{by_columns-at, index_of_rank}, LaneLists.{lane_at, length-lanes, get_or-lanes}}
 use Rattle.shop_lanes.proofs.{Loads.{work_more, load_more, work_le}, SpanParts.{each_greatest, sum_part}}
 
 -- eight numbers as a function of the column
@@ -49,7 +49,7 @@ columns_of count hs ts qs whole a b =
       tails_long = b ∙ whole;
       are = refl;
       long = length-by_columns count (lanes hs ts qs) long;
-      at = λ k j k_lt j_lt d. grind (arith, rank_below, by_columns-at, place_of_rank, get_or-lanes);
+      at = λ k j k_lt j_lt d. grind (arith, rank_below, by_columns-at, index_of_rank, get_or-lanes);
     }
 
 -- of rows of some width

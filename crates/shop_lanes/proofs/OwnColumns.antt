@@ -14,7 +14,7 @@ use Rattle.shop_lanes.proofs.ColumnTurns.{in_eight, eight_fit, block_eight, work
 use Rattle.shop_lanes.proofs.{LaneLists.lane_at, Loads.{span_from_start, load-append, work-append, load_le}}
 use Rattle.shop_lanes.proofs.{SpanParts.greatest_part, OwnPositions.{own_in_order, own_fits, own_at}}
 
--- what stands at a place, in order of rank
+-- what stands at an index, in order of rank
 module _ {count : ℕ} {hs ts qs : List ℕ} {all : List Lane} (cols : AreColumnsOf count hs ts qs all) where
   abbrev ranked : List ℕ → List ℕ
   ranked xs = by_columns count xs
@@ -89,7 +89,7 @@ module _ {count : ℕ} {hs ts qs : List ℕ} {all : List Lane} (cols : AreColumn
             own_same,
           )
 
--- a place of a row is one of the block that is written, or of what stands before or behind it
+-- an index of a row is one of the block that is written, or of what stands before or behind it
 module _ (n : ℕ) (owns v new : List ℕ) (eight_long : length v ≡ 8) (room : 8 * (n + 1) ≤ length owns)
     (new_is : new ≡ put_chunk (8 * n) owns v) where
   pub stored_long : length new ≡ length owns

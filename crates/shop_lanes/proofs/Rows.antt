@@ -1,6 +1,6 @@
 -- Worked rows: lanes served by hand, and the bits of a number.
 use Rattle.std.{specs.Prelude.{◌≡◌, ℕ, List, [], ◌∷◌}, proofs.Common.refl}
-use Rattle.shop_lanes.specs.{Rows.{Rows, Lane, lanes_between, place_at_rank, by_columns}, Marks.positions_below}
+use Rattle.shop_lanes.specs.{Rows.{Rows, Lane, lanes_between, index_at_rank, by_columns}, Marks.positions_below}
 use Rattle.shop_lanes.specs.{Spans.{span, spans_between, own_span}, SetBits.set_bits}
 
 -- three operations with heads of 3, 1 and 6, and a position where nothing waits
@@ -69,14 +69,14 @@ pub second_block_from_20 : span 1 20 (lanes_between two_blocks 1 2) ≡ 35
 second_block_from_20 = refl
 
 -- in two blocks rank 0 stands in the first lane of the first one, rank 1 in the first lane of the second one
-pub second_rank : place_at_rank 2 1 ≡ 8
+pub second_rank : index_at_rank 2 1 ≡ 8
 second_rank = refl
 
-pub last_rank : place_at_rank 2 15 ≡ 15
+pub last_rank : index_at_rank 2 15 ≡ 15
 last_rank = refl
 
 -- in three blocks the sixth rank is the last one of the second lanes
-pub sixth_rank : place_at_rank 3 5 ≡ 17
+pub sixth_rank : index_at_rank 3 5 ≡ 17
 sixth_rank = refl
 
 pub one_block : by_columns {A = ℕ} 1 (3 ∷ 1 ∷ 4 ∷ 1 ∷ 5 ∷ 9 ∷ 2 ∷ 6 ∷ []) ≡ 3 ∷ 1 ∷ 4 ∷ 1 ∷ 5 ∷ 9 ∷ 2 ∷ 6 ∷ []

@@ -1,7 +1,7 @@
 -- Rows of numbers by position, in blocks of eight, and the lanes that they make.
 --     Rows                        heads, times and tails by position, and ends by job
 --     Lane                        what stands at one position
---     place_at_rank count i       where rank i stands in `count` blocks: ranks run down the first lanes of all blocks,
+--     index_at_rank count i       where rank i stands in `count` blocks: ranks run down the first lanes of all blocks,
 --                                 then down the second lanes
 --     by_columns count xs         what stands in `count` blocks, in order of rank
 --     lanes_between rows from to  the lanes of the blocks from `from` on and before `to`, in order of rank
@@ -36,13 +36,13 @@ lanes (h ∷ hs) (t ∷ ts) (q ∷ qs) = record { head = h; time = t; tail = q }
 abbrev pub blocks : {A : Type 0} → ℕ → ℕ → List A → List A
 blocks from to xs = take (8 * to - 8 * from) (drop (8 * from) xs)
 
-abbrev pub place_at_rank : ℕ → ℕ → ℕ
-place_at_rank count i = 8 * (i % count) + i / count
+abbrev pub index_at_rank : ℕ → ℕ → ℕ
+index_at_rank count i = 8 * (i % count) + i / count
 
--- what stands at the places of the first n ranks
+-- what stands at the indices of the first n ranks
 abbrev pub first_ranks : {A : Type 0} → ℕ → List A → ℕ → List A
 first_ranks count xs zero = []
-first_ranks count xs (suc n) = first_ranks count xs n ++ take 1 (drop (place_at_rank count n) xs)
+first_ranks count xs (suc n) = first_ranks count xs n ++ take 1 (drop (index_at_rank count n) xs)
 
 abbrev pub by_columns : {A : Type 0} → ℕ → List A → List A
 by_columns count xs = first_ranks count xs (8 * count)

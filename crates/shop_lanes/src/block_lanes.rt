@@ -39,18 +39,18 @@ fn copied<B: Block>(alloc: Global, numbers: &[u64]) -> Result<Vec<B::Number>, No
     Ok(copy)
 }
 
-/// Writes `GREATEST` at all places of `row` after the first `positions`.
+/// Writes `GREATEST` at all indices of `row` after the first `positions`.
 fn end_row<B: Block>(row: &mut [B::Number], positions: usize)
     requires { positions ≤ length row.old }
     ensures { map B.value row.new
         ≡ take positions (map B.value row.old) ++ replicate (length row.old - positions) B.GREATEST }
 {
-    for place in positions..row.len() {
-        row[place] = B::narrowed(B::GREATEST);
+    for index in positions..row.len() {
+        row[index] = B::narrowed(B::GREATEST);
     }
 }
 
-/// Writes head 0 at each of the first `positions` places of `row`, and `GREATEST` at all later places.
+/// Writes head 0 at each of the first `positions` indices of `row`, and `GREATEST` at all later ones.
 fn clear_row<B: Block>(row: &mut [B::Number], positions: usize)
     requires { positions ≤ length row.old }
     ensures { map B.value row.new ≡ replicate positions 0 ++ replicate (length row.old - positions) B.GREATEST }

@@ -45,7 +45,7 @@ pub trait Block: Copy + Drop {
     fn widened(number: Self::Number) -> u64
         ensures { result ≡ value number };
 
-    /// Makes a row with `number` at each of its `count` places. Fails with `NoMemory` if memory runs out.
+    /// Makes a row with `number` at each of its `count` indices. Fails with `NoMemory` if memory runs out.
     fn row_of(alloc: Global, number: u64, count: usize) -> Result<Vec<Self::Number>, NoMemory>
         requires { number ≤ GREATEST }
         ensures { IfOk result (λ row. map value row.items ≡ replicate count number) };

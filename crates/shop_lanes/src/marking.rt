@@ -57,9 +57,9 @@ impl Marks {
     pub fn unmark(&mut self, position: usize)
         ensures { self.new ≡ without position self.old }
     {
-        let place = position.wrapping_sub(self.first);
-        if place < 64 {
-            self.bits &= !(1 << place);
+        let index = position.wrapping_sub(self.first);
+        if index < 64 {
+            self.bits &= !(1 << index);
         }
     }
 

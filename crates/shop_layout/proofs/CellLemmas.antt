@@ -3,7 +3,7 @@ use Rattle.std.proofs.Common.{◌≡◌, ℕ, ◌+◌, ◌-◌, ◌*◌, ◌/◌
 use Rattle.std.proofs.{Common.{◌∙◌, ap, arith}, lemmas.{Bool.cases_eq, Grind.div_ceil_times, List.get_or_append_left}}
 use Rattle.std.proofs.{lemmas.List.{get_or_default, get_or_past, length-append}, Math.Seq.get_or-append_seam}
 use Rattle.std.specs.Int.{div_ceil}
-use Rattle.shop_lanes.{specs.Rows.place_at_rank, proofs.Columns.{place_fits, rank_of_place}}
+use Rattle.shop_lanes.{specs.Rows.index_at_rank, proofs.Columns.{index_fits, rank_of_index}}
 use Rattle.shop_layout.specs.{declared.slots.Slot.Slot, Positions.position_at_rank, inner.Layings.{AreAdded, AreCells}}
 use Rattle.shop_layout.{specs.inner.Layings.{AreShorter, no_slot}, proofs.Ranks.position_within}
 
@@ -28,14 +28,14 @@ cells_more lists n cells blocks before short slots are count low high more added
     -- what stands at a rank
     in let stands : (i : ℕ) → i < 8 * count
     → get_or more (position_at_rank after n i) no_slot ≡ get_or slots i no_slot =
-    (λ i here. let place = place_at_rank count i
-    in let fits = place_fits count i here
-    in let rank : place % 8 * count + place / 8 ≡ i = rank_of_place count i here
+    (λ i here. let index = index_at_rank count i
+    in let fits = index_fits count i here
+    in let rank : index % 8 * count + index / 8 ≡ i = rank_of_index count i here
     in let first : 8 * get_or after n 0 ≡ length cells = (let a = old n (omega arith) in omega arith)
-    in let there : position_at_rank after n i ≡ length cells + place =
-    ap (λ (k : ℕ). 8 * get_or after n 0 + place_at_rank k i) its ∙ ap (λ (k : ℕ). k + place) first
+    in let there : position_at_rank after n i ≡ length cells + index =
+    ap (λ (k : ℕ). 8 * get_or after n 0 + index_at_rank k i) its ∙ ap (λ (k : ℕ). k + index) first
     in ap (λ (q : ℕ). get_or more q no_slot) there
-    ∙ (added.at place fits ∙ ap (λ (k : ℕ). get_or slots k no_slot) rank))
+    ∙ (added.at index fits ∙ ap (λ (k : ℕ). get_or slots k no_slot) rank))
     in grind (arith, length-append, cases_eq, get_or_default, get_or_past, position_within)
 
 -- a number of cells in whole blocks

@@ -2,8 +2,8 @@
 use Rattle.std.proofs.Common.{◌≡◌, ℕ, zero, suc, ◌+◌, ◌*◌, ◌≤◌, ◌<◌, List, [], ◌∷◌, length, take, get_or, refl, sym}
 use Rattle.std.proofs.{Common.{◌∙◌, ap, arith}, lemmas.List.{take_all, take_more}, lemmas.List.Sums.sum_by_push}
 use Rattle.std.specs.List.{sum_by}
-use Rattle.shop_lanes.specs.Rows.{by_columns, place_at_rank}
-use Rattle.shop_lanes.proofs.Columns.{by_columns-at, length-by_columns, place_of_rank}
+use Rattle.shop_lanes.specs.Rows.{by_columns, index_at_rank}
+use Rattle.shop_lanes.proofs.Columns.{by_columns-at, length-by_columns, index_of_rank}
 
 -- the first n numbers of a row that is told one by one
 sum_to : (ℕ → ℕ) → ℕ → ℕ
@@ -37,7 +37,7 @@ module _ (g : ℕ → ℕ) where
 
   module _ (count : ℕ) where
     abbrev at_rank : ℕ → ℕ
-    at_rank i = g (place_at_rank count i)
+    at_rank i = g (index_at_rank count i)
 
     one_column : (k : ℕ) → sum_to at_rank (suc k * count) ≡ sum_to at_rank (k * count) + column k count
     unfolding column
@@ -45,7 +45,7 @@ module _ (g : ℕ → ℕ) where
         let e : suc k * count ≡ k * count + count = grind arith
         in let more = sum_to-add at_rank (k * count) count
         in let same = sum_to-same (λ j. at_rank (k * count + j)) (λ j. g (8 * j + k)) count
-        (λ j below. ap g (place_of_rank count k j below))
+        (λ j below. ap g (index_of_rank count k j below))
         in ap (sum_to at_rank) e ∙ omega (arith, more, same)
 
     by_ranks : sum_to at_rank (8 * count) ≡ sum_to g (8 * count)
@@ -68,7 +68,7 @@ module _ {A : Type 0} (f : A → ℕ) (d : A) where
   sum_same : (count : ℕ) (xs : List A) → length xs ≡ 8 * count → sum_by f (by_columns count xs) ≡ sum_by f xs
   sum_same count xs whole =
       of_all (by_columns count xs) (8 * count) (length-by_columns count xs whole)
-      ∙ sum_to-same (λ i. f (get_or (by_columns count xs) i d)) (λ i. f (get_or xs (place_at_rank count i) d))
+      ∙ sum_to-same (λ i. f (get_or (by_columns count xs) i d)) (λ i. f (get_or xs (index_at_rank count i) d))
       (8 * count) (λ i below. ap f (by_columns-at count xs whole i d below))
       ∙ by_ranks (λ p. f (get_or xs p d)) count
       ∙ sym (of_all xs (8 * count) whole)

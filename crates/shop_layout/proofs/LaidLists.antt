@@ -4,8 +4,8 @@ use Rattle.std.proofs.{Common.arith, lemmas.{Bool.{cases_eq, cases_lt}, List.{ge
 use Rattle.std.{proofs.lemmas.List.length-map, specs.List.All}
 use Rattle.shop_model.specs.{Limits.IsWithinLimits, Shop.Shop}
 use Rattle.shop_layout.specs.{declared.slots.Slot.Slot, Slots.{AreMachineSlots, AreSlotsOf}}
-use Rattle.shop_layout.specs.inner.Layings.{AreCells, AreNoted, ArePlaces, AreShorter, HasRoutes, IsInRows, no_slot}
-use Rattle.shop_layout.specs.Positions.{AreMachinesOf, IsLaidOut, LayoutState}
+use Rattle.shop_layout.specs.inner.Layings.{AreCells, AreNoted, AreShorter, AreStepPositions, HasRoutes, IsInRows}
+use Rattle.shop_layout.specs.{inner.Layings.no_slot, Positions.{AreMachinesOf, IsLaidOut, LayoutState}}
 use Rattle.shop_layout.proofs.{ApartSlots.slots_few, Ranks.rank_at, SlotFacts.slots_are_operations}
 
 pub machine_few : (shop : Shop) → IsWithinLimits shop → (lists : List (List Slot)) → AreMachineSlots shop lists
@@ -16,13 +16,14 @@ pub rows_in : (shop : Shop) (rows : List (List ℕ)) → HasRoutes shop rows →
     → AreSlotsOf shop m slots → All (IsInRows rows) slots
 rows_in shop rows shape m slots are k d here = grind (arith, slots_are_operations shop m slots are k d here)
 
--- the places of one more machine
-pub places_turn : (shop : Shop) (lists : List (List Slot)) (blocks : List ℕ) (n : ℕ) (old new : List (List ℕ))
-    → AreMachineSlots shop lists → n < shop.machines → ArePlaces shop lists blocks n old
+-- the steps' positions of one more machine
+pub positions_turn : (shop : Shop) (lists : List (List Slot)) (blocks : List ℕ) (n : ℕ) (old new : List (List ℕ))
+    → AreMachineSlots shop lists → n < shop.machines → AreStepPositions shop lists blocks n old
     → (slots : List Slot) → slots ≡ get_or lists n []
     → AreNoted (length slots) (8 * get_or blocks n 0) (get_or blocks (n + 1) 0 - get_or blocks n 0) slots old new
-    → ArePlaces shop lists blocks (n + 1) new
-places_turn shop lists blocks n old new are known before slots is noted = grind (arith, cases_eq, slots_are_operations)
+    → AreStepPositions shop lists blocks (n + 1) new
+positions_turn shop lists blocks n old new are known before slots is noted =
+    grind (arith, cases_eq, slots_are_operations)
 
 -- the positions of one more machine
 pub machines_turn : (blocks : List ℕ) (n : ℕ) (old new : List ℕ) (to : ℕ) → AreMachinesOf blocks n old
@@ -84,9 +85,9 @@ module _ (shop : Shop) (limits : IsWithinLimits shop) (lists : List (List Slot))
   column : (f : Slot → ℕ) → f no_slot ≡ 0 → (q : ℕ) → get_or (map f cells) q 0 ≡ f (get_or cells q no_slot)
   column f nil q = grind (arith, cases_lt, get_or-map, get_or_past, length-map)
 
-  pub laid_out : (rows : List (List ℕ)) → ArePlaces shop lists blocks shop.machines rows → (l : LayoutState)
+  pub laid_out : (rows : List (List ℕ)) → AreStepPositions shop lists blocks shop.machines rows → (l : LayoutState)
       → l.jobs ≡ map (λ s. s.job) cells → l.steps ≡ map (λ s. s.step) cells → l.times ≡ map (λ s. s.time) cells
-      → l.tails ≡ map (λ s. s.tail) cells → l.places ≡ rows → l.blocks ≡ blocks
+      → l.tails ≡ map (λ s. s.tail) cells → l.step_positions ≡ rows → l.blocks ≡ blocks
       → AreMachinesOf blocks shop.machines l.machines → IsLaidOut shop l
-  laid_out rows placed l jobs steps times tails places is machines =
+  laid_out rows known l jobs steps times tails positions is machines =
       grind (arith, column, length-map, cells_known, get_or-map)

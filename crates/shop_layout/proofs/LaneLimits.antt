@@ -3,8 +3,9 @@ use Rattle.std.proofs.Common.{◌≡◌, ℕ, ◌+◌, ◌-◌, ◌*◌, ◌≤�
 use Rattle.std.proofs.{Common.arith, lemmas.List.{get_or_default, get_or-take, get_or-drop, length-drop}}
 use Rattle.std.{proofs.lemmas.List.length-take-le, specs.List.All}
 use Rattle.shop_model.specs.{Limits.IsWithinLimits, Shop.Shop, Word.IsWord}
-use Rattle.shop_layout.specs.{HeadLimits.FitsLanes, Positions.{LayoutState, place, first_position, IsLaidOut}}
-use Rattle.shop_layout.proofs.{LatestEnds.latest_end_is, LaidPlaces.{place_of, cell_at, machine_at, machines_rise}}
+use Rattle.shop_layout.specs.{HeadLimits.FitsLanes, Positions.{LayoutState, position_of, first_position, IsLaidOut}}
+use Rattle.shop_layout.proofs.LaidPositions.{cell_at, is_position_of, machine_at, machines_rise}
+use Rattle.shop_layout.proofs.LatestEnds.{latest_end_is}
 use Rattle.shop_bound.proofs.Lists.{get_or-le-greatest_of}
 
 no_word : (shop : Shop) → IsWord shop []
@@ -21,8 +22,8 @@ module _ (greatest : ℕ) (shop : Shop) (limits : IsWithinLimits shop) (l : Layo
   times_fit q d here =
       let same = get_or_default l.times q d 0 here
       in elim (cell_at shop limits l laid q (let a = laid.positions.times in omega arith)) [
-        | inl o ↦ (let a = (place_of shop limits l laid o.job o.step o.is).time
-            in let b : get_or l.times q 0 ≡ get_or l.times (place l o.job o.step) 0 =
+        | inl o ↦ (let a = (is_position_of shop limits l laid o.job o.step o.is).time
+            in let b : get_or l.times q 0 ≡ get_or l.times (position_of l o.job o.step) 0 =
             ap (λ (x : ℕ). get_or l.times x 0) (sym o.at)
             in let f = latest_end_is shop [] (no_word shop) o.job o.step o.is (omega arith)
             in let h = holds 0 (let m = limits.some_machine in omega arith)

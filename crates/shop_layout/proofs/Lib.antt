@@ -4,11 +4,11 @@ pub mod ColumnSums
 pub mod CountedRanks
 pub mod FlatLists
 pub mod LaidLists
-pub mod LaidPlaces
+pub mod LaidPositions
 pub mod LaneLimits
 pub mod LatestEnds
 pub mod MachineLoads
-pub mod NotedPlaces
+pub mod NotedPositions
 pub mod RankedShops
 pub mod RankedSlots
 pub mod Ranks

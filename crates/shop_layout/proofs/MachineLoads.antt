@@ -3,12 +3,13 @@ use Rattle.std.proofs.Common.{◌≡◌, ℕ, zero, suc, ◌+◌, ◌-◌, ◌*�
 use Rattle.std.proofs.{Common.{ap, arith}, lemmas.{Bool.cases_lt, List.{get_or-take, get_or-drop, get_or_past}}}
 use Rattle.std.{proofs.lemmas.List.Sums.{sum_by-cons, sum_by-take-drop}, specs.List.sum_by}
 use Rattle.shop_lanes.specs.Rows.{blocks, by_columns}
-use Rattle.shop_lanes.proofs.{Columns.{by_columns-at, length-by_columns, place_fits}, LaneLists.length-blocks}
+use Rattle.shop_lanes.proofs.{Columns.{by_columns-at, length-by_columns, index_fits}, LaneLists.length-blocks}
 use Rattle.shop_model.specs.{declared.ops.Op.Op, Limits.IsWithinLimits, Shop.{Shop, route_of, time_of}}
 use Rattle.shop_bound.{specs.{OneMachine.greatest_of, Heads.tail_in}, proofs.TimeSums.route_times}
 use Rattle.shop_layout.specs.{HeadLimits.{total_before, most_load_on}, declared.slots.Slot.Slot}
 use Rattle.shop_layout.specs.Positions.{LayoutState, IsLaidOut, first_position, position_at_rank}
-use Rattle.shop_layout.proofs.{ApartSlots.slots_few, ColumnSums.sum_by_columns, LaidPlaces.machines_rise, Ranks.rank_at}
+use Rattle.shop_layout.proofs.{ApartSlots.slots_few, ColumnSums.sum_by_columns, LaidPositions.machines_rise}
+use Rattle.shop_layout.proofs.Ranks.{rank_at}
 use Rattle.shop_layout.proofs.SlotFacts.{slots_are_operations}
 
 pub total_small : (shop : Shop) → IsWithinLimits shop → (n : ℕ) → total_before shop n ≤ n * 100000000000
@@ -31,7 +32,7 @@ greatest_each : (b : ℕ) (xs : List ℕ) → ((i : ℕ) → get_or xs i 0 ≤ b
 greatest_each b [] each = omega arith
 greatest_each b (x ∷ xs) each = let a = greatest_each b xs (λ i. each (suc i)) in let d = each 0 in omega arith
 
--- what stands at a place of some blocks
+-- what stands at an index of some blocks
 pub block_at : (xs : List ℕ) (from to i : ℕ) → i < 8 * to - 8 * from
     → get_or (blocks from to xs) i 0 ≡ get_or xs (8 * from + i) 0
 block_at xs from to i here = grind (arith, get_or-take, get_or-drop)
@@ -68,7 +69,7 @@ module _ (shop : Shop) (limits : IsWithinLimits shop) (l : LayoutState) (laid : 
 
     time_at : (i : ℕ) → i < 8 * (to - from) → get_or ranked i 0 ≡ get_or l.times (position_at_rank l.blocks m i) 0
     unfolding ranked
-    time_at i here = grind (arith, by_columns-at, whole_blocks, block_at, place_fits)
+    time_at i here = grind (arith, by_columns-at, whole_blocks, block_at, index_fits)
 
     time_past : (i : ℕ) → 8 * (to - from) ≤ i → get_or ranked i 0 ≡ 0
     unfolding ranked

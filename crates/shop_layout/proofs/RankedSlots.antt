@@ -1,9 +1,10 @@
--- Slots and places of an instance whose machines are called by their ranks.
+-- Slots and positions of an instance whose machines are called by their ranks.
 use Rattle.std.{proofs.Common.{◌≡◌, ℕ, ◌+◌, ◌<◌, List, [], ◌∷◌, ◌++◌, length, map, get_or, set, arith}, specs.List.All}
 use Rattle.shop_model.specs.{declared.ops.Op.Op, Shop.{Shop, no_op}}
 use Rattle.shop_bound.specs.Heads.{tail_in}
 use Rattle.shop_layout.specs.{Ranks.{ranked, ranked_op}, Slots.AreSlotsOf, declared.slots.Slot.Slot}
-use Rattle.shop_layout.{specs.inner.Layings.{ArePlaces, HasRoutes, IsInRows}, proofs.SlotLists.{IsAddedTo, added_set}}
+use Rattle.shop_layout.specs.inner.Layings.{AreStepPositions, HasRoutes, IsInRows}
+use Rattle.shop_layout.proofs.SlotLists.{IsAddedTo, added_set}
 use Rattle.shop_layout.proofs.{LaidLists.rows_in, RankedShops.{jobs_ranked, op_ranked, steps_ranked, tail_ranked}}
 
 -- step k goes to the list of its machine's rank
@@ -19,14 +20,14 @@ module _ (ranks : List ℕ) (shop : Shop) where
   pub routes_ranked : (rows : List (List ℕ)) → HasRoutes shop rows → HasRoutes (ranked ranks shop) rows
   routes_ranked rows has = grind (arith, jobs_ranked, steps_ranked)
 
-  pub places_ranked : (lists : List (List Slot)) (blocks : List ℕ) (n : ℕ) (rows : List (List ℕ))
-      → ArePlaces shop lists blocks n rows → ArePlaces (ranked ranks shop) lists blocks n rows
-  places_ranked lists blocks n rows are = record { shape = routes_ranked rows are.shape; each = are.each }
+  pub positions_ranked : (lists : List (List Slot)) (blocks : List ℕ) (n : ℕ) (rows : List (List ℕ))
+      → AreStepPositions shop lists blocks n rows → AreStepPositions (ranked ranks shop) lists blocks n rows
+  positions_ranked lists blocks n rows are = record { shape = routes_ranked rows are.shape; each = are.each }
 
   -- and back
-  pub places_asked : (lists : List (List Slot)) (blocks : List ℕ) (n : ℕ) (rows : List (List ℕ))
-      → ArePlaces (ranked ranks shop) lists blocks n rows → ArePlaces shop lists blocks n rows
-  places_asked lists blocks n rows are = grind (arith, jobs_ranked, steps_ranked)
+  pub positions_asked : (lists : List (List Slot)) (blocks : List ℕ) (n : ℕ) (rows : List (List ℕ))
+      → AreStepPositions (ranked ranks shop) lists blocks n rows → AreStepPositions shop lists blocks n rows
+  positions_asked lists blocks n rows are = grind (arith, jobs_ranked, steps_ranked)
 
   pub rows_by_rank : (rows : List (List ℕ)) → HasRoutes shop rows → (m : ℕ) (slots : List Slot)
       → AreSlotsOf (ranked ranks shop) m slots → All (IsInRows rows) slots

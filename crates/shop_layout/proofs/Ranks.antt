@@ -1,6 +1,6 @@
 -- Ranks of a machine and their positions.
 use Rattle.std.proofs.Common.{◌≡◌, ℕ, ◌+◌, ◌-◌, ◌*◌, ◌≤◌, ◌<◌, List, get_or, arith}
-use Rattle.shop_lanes.proofs.Columns.{place_fits, place_of_rank_of, rank_fits, rank_of_place}
+use Rattle.shop_lanes.proofs.Columns.{index_fits, index_of_rank_of, rank_fits, rank_of_index}
 use Rattle.shop_layout.specs.Positions.{position_at_rank}
 
 -- the rank that stands at position q
@@ -16,7 +16,7 @@ module _ (blocks : List ℕ) (m : ℕ) where
   -- among the positions of the machine
   pub position_within : (i : ℕ) → 8 * get_or blocks m 0 + i < 8 * get_or blocks (m + 1) 0
       → position_at_rank blocks m i < 8 * get_or blocks (m + 1) 0
-  position_within i here = let a = place_fits count i (omega arith) in omega (arith, a)
+  position_within i here = let a = index_fits count i (omega arith) in omega (arith, a)
 
   -- each of which has a rank
   pub rank_at : (q : ℕ) → 8 * get_or blocks m 0 ≤ q → q < 8 * get_or blocks (m + 1) 0 → HasRank blocks m q
@@ -24,11 +24,11 @@ module _ (blocks : List ℕ) (m : ℕ) where
       let p = q - 8 * get_or blocks m 0
       in let inside : p < 8 * count = omega arith
       in let a = rank_fits count p inside
-      in let b = place_of_rank_of count p inside
+      in let b = index_of_rank_of count p inside
       in grind arith
 
   -- two ranks don't stand at one position
   pub same_rank : (i k : ℕ) → 8 * get_or blocks m 0 + i < 8 * get_or blocks (m + 1) 0
       → 8 * get_or blocks m 0 + k < 8 * get_or blocks (m + 1) 0
       → position_at_rank blocks m i ≡ position_at_rank blocks m k → i ≡ k
-  same_rank i k here there at = grind (arith, rank_of_place count i (omega arith), rank_of_place count k (omega arith))
+  same_rank i k here there at = grind (arith, rank_of_index count i (omega arith), rank_of_index count k (omega arith))

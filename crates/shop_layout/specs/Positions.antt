@@ -1,8 +1,8 @@
 -- The operations of an instance by position: machine after machine, on a machine by nonincreasing tail down the columns
 -- of its blocks.
---     place l j k                  the position of step k of job j
---     place_or n rows j k          the position in the row of job j, or n if it has no step k
---     place_behind l q             the position of the step behind that at position q, or the number of all positions
+--     position_of l j k            the position of step k of job j
+--     position_or n rows j k       the position in the row of job j, or n if it has no step k
+--     position_behind l q          the position of the step behind that at position q, or the number of all
 --     AreMachinesOf blocks n ms    the machine of each position, of the first n machines
 --     AreEven blocks each          each machine has `each` blocks, unless `each` is 0
 --     HoldsMachines l n            no machine has more than n positions
@@ -13,7 +13,7 @@
 --     IsLaidOut shop l             l is the layout of the instance
 use Rattle.std.specs.Prelude.{◌≡◌, ℕ, ◌+◌, ◌-◌, ◌*◌, ◌^◌, ◌≤◌, ◌<◌, List, [], length, slice_index, slice_index_or}
 use Rattle.std.specs.Prelude.{if◌then◌else◌, nat_lt}
-use Rattle.shop_lanes.specs.Rows.{place_at_rank}
+use Rattle.shop_lanes.specs.Rows.{index_at_rank}
 use Rattle.shop_model.specs.Shop.{Shop, IsOperation, route_of}
 use Rattle.shop_layout.specs.{Slots.AreMachineSlots, declared.slots.Slot.Slot}
 
@@ -25,21 +25,21 @@ pub record LayoutState : Type 0 where
   pub steps : List ℕ
   pub times : List ℕ
   pub tails : List ℕ
-  pub places : List (List ℕ)
+  pub step_positions : List (List ℕ)
   pub blocks : List ℕ
   pub machines : List ℕ
 
-abbrev pub place_in : List (List ℕ) → ℕ → ℕ → ℕ
-place_in rows j k = slice_index (slice_index_or rows j []) k
+abbrev pub position_in : List (List ℕ) → ℕ → ℕ → ℕ
+position_in rows j k = slice_index (slice_index_or rows j []) k
 
-abbrev pub place : LayoutState → ℕ → ℕ → ℕ
-place l j k = place_in l.places j k
+abbrev pub position_of : LayoutState → ℕ → ℕ → ℕ
+position_of l j k = position_in l.step_positions j k
 
-abbrev pub place_or : ℕ → List (List ℕ) → ℕ → ℕ → ℕ
-place_or n rows j k = if nat_lt k (length (slice_index_or rows j [])) then place_in rows j k else n
+abbrev pub position_or : ℕ → List (List ℕ) → ℕ → ℕ → ℕ
+position_or n rows j k = if nat_lt k (length (slice_index_or rows j [])) then position_in rows j k else n
 
-abbrev pub place_behind : LayoutState → ℕ → ℕ
-place_behind l q = place_or (length l.jobs) l.places (slice_index l.jobs q) (slice_index l.steps q + 1)
+abbrev pub position_behind : LayoutState → ℕ → ℕ
+position_behind l q = position_or (length l.jobs) l.step_positions (slice_index l.jobs q) (slice_index l.steps q + 1)
 
 pub record AreMachinesOf (blocks : List ℕ) (machines : ℕ) (ms : List ℕ) : Type 0 where
   pub positions : length ms ≡ 8 * slice_index blocks machines
@@ -64,17 +64,17 @@ HoldsMachines l n = (m : ℕ) → m + 1 < length l.blocks → first_position l (
 -- ranks run down the first lane of all blocks of the machine, then down the second one, and so on
 abbrev pub position_at_rank : List ℕ → ℕ → ℕ → ℕ
 position_at_rank blocks m i = 8 * slice_index blocks m
-    + place_at_rank (slice_index blocks (m + 1) - slice_index blocks m) i
+    + index_at_rank (slice_index blocks (m + 1) - slice_index blocks m) i
 
 pub record IsAt (l : LayoutState) (q : ℕ) (s : Slot) : Type 0 where
   pub job : slice_index l.jobs q ≡ s.job
   pub step : slice_index l.steps q ≡ s.step
   pub time : slice_index l.times q ≡ s.time
   pub tail : slice_index l.tails q ≡ s.tail
-  pub place : place l s.job s.step ≡ q
+  pub position : position_of l s.job s.step ≡ q
 
 abbrev pub IsFree : Shop → LayoutState → ℕ → Type 0
-IsFree shop l q = (j k : ℕ) → IsOperation shop j k → place l j k ≡ q → ⊥
+IsFree shop l q = (j k : ℕ) → IsOperation shop j k → position_of l j k ≡ q → ⊥
 
 pub record IsPadding (l : LayoutState) (q : ℕ) : Type 0 where
   pub time : slice_index l.times q ≡ 0
@@ -101,7 +101,7 @@ pub record IsLaidOut (shop : Shop) (l : LayoutState) : Type 0 where
   pub from_0 : slice_index l.blocks 0 ≡ 0
   pub positions : HasPositions l (first_position l shop.machines)
   pub each : (m : ℕ) → m < shop.machines → IsMachineLaidOut l m (slice_index_or slots m [])
-  pub jobs : length l.places ≡ length shop.jobs
-  pub routes : (j : ℕ) → length (slice_index_or l.places j []) ≡ length (route_of shop j)
+  pub jobs : length l.step_positions ≡ length shop.jobs
+  pub routes : (j : ℕ) → length (slice_index_or l.step_positions j []) ≡ length (route_of shop j)
   pub machines_at : AreMachinesOf l.blocks shop.machines l.machines
   pub known : (q : ℕ) → q < first_position l shop.machines → slice_index l.jobs q < length shop.jobs

@@ -11,7 +11,7 @@ use std::marker::Model;
 
 /// A step of a route: its position, its machine and its time; or the end of a route, at the position after all others.
 /// The legs of a route are side by side in memory, so a walk along it reads them in turn; rows by position would be
-/// read at another place for each step.
+/// read elsewhere for each step.
 #[derive(Clone, Copy)]
 pub struct Leg {
     pub position: u32,
@@ -19,25 +19,25 @@ pub struct Leg {
     pub time: u64,
 }
 
-/// Adds the legs of a route, whose steps have the positions `places`, in order, and then its end. There are `end`
-/// positions. Fails with `NoMemory` if memory runs out.
+/// Adds the legs of a route, whose steps are at `positions`, in order, and then its end. There are `end` positions in
+/// all. Fails with `NoMemory` if memory runs out.
 fn add_route(
     legs: &mut Vec<Leg>,
-    places: &[u32],
+    positions: &[u32],
     machines: &[u32],
     times: &[u64],
     end: u32,
 ) -> Result<(), NoMemory>
-    requires machines { AreBelow (length machines.now) places.now }
-    requires times { AreBelow (length times.now) places.now }
-    ensures { OnOk result (legs.new.items ≡ legs.old.items ++ route_legs machines.now times.now end places.now) }
+    requires machines { AreBelow (length machines.now) positions.now }
+    requires times { AreBelow (length times.now) positions.now }
+    ensures { OnOk result (legs.new.items ≡ legs.old.items ++ route_legs machines.now times.now end positions.now) }
 {
-    for place in places {
-        let position = *place as usize;
+    for position in positions {
+        let index = *position as usize;
         legs.push(Leg {
-            position: *place,
-            machine: machines[position],
-            time: times[position],
+            position: *position,
+            machine: machines[index],
+            time: times[index],
         })?;
     }
     legs.push(Leg {
@@ -49,27 +49,33 @@ fn add_route(
 }
 
 /// Makes the legs of all routes, route after route, each with its end, and returns where the legs of each job begin.
-/// `places` has the position of each step of each job; `machines` and `times` are by position, and there are `end`
-/// positions. A leg takes 16 bytes. Fails with `NoMemory` if memory runs out.
+/// `step_positions` has the position of each step of each job; `machines` and `times` are by position, and there are
+/// `end` positions. A leg takes 16 bytes. Fails with `NoMemory` if memory runs out.
 fn legs_of(
     alloc: Global,
-    places: &[Vec<u32>],
+    step_positions: &[Vec<u32>],
     machines: &[u32],
     times: &[u64],
     end: u32,
 ) -> Result<(Vec<Leg>, Vec<usize>), NoMemory>
-    requires machines { All (AreBelow (length machines.now)) (items_in places.now) }
-    requires times { All (AreBelow (length times.now)) (items_in places.now) }
+    requires machines { All (AreBelow (length machines.now)) (items_in step_positions.now) }
+    requires times { All (AreBelow (length times.now)) (items_in step_positions.now) }
     ensures legs { IfOk result (λ v. v.0.items
-        ≡ flat_map (route_legs machines.now times.now end) (items_in places.now)) }
+        ≡ flat_map (route_legs machines.now times.now end) (items_in step_positions.now)) }
     ensures firsts { IfOk result (λ v. AreFirsts (route_legs machines.now times.now end)
-        (items_in places.now) v.1.items) }
+        (items_in step_positions.now) v.1.items) }
 {
-    let mut legs = Vec::with_capacity(alloc, machines.len().saturating_add(places.len()))?;
-    let mut firsts = Vec::with_capacity(alloc, places.len())?;
-    for j in 0..places.len() {
+    let mut legs = Vec::with_capacity(alloc, machines.len().saturating_add(step_positions.len()))?;
+    let mut firsts = Vec::with_capacity(alloc, step_positions.len())?;
+    for j in 0..step_positions.len() {
         firsts.push(legs.len())?;
-        add_route(&mut legs, places[j].as_slice(), machines, times, end)?;
+        add_route(
+            &mut legs,
+            step_positions[j].as_slice(),
+            machines,
+            times,
+            end,
+        )?;
     }
     Ok((legs, firsts))
 }
@@ -101,10 +107,13 @@ pub(crate) fn legs_with_behind(
     ensures legs { IfOk result (λ v. v.0.items ≡ all_legs positions.now) }
     ensures behind { IfOk result (λ v. IsBehind positions.now v.1.items) }
 {
-    let (times, places) = (positions.times.as_slice(), positions.places.as_slice());
+    let (times, step_positions) = (
+        positions.times.as_slice(),
+        positions.step_positions.as_slice(),
+    );
     let machines = positions.machines.as_slice();
     let (jobs, steps) = (positions.jobs.as_slice(), positions.steps.as_slice());
-    let (legs, firsts) = legs_of(alloc, places, machines, times, jobs.len() as u32)?;
+    let (legs, firsts) = legs_of(alloc, step_positions, machines, times, jobs.len() as u32)?;
     let behind = behind_of(alloc, jobs, steps, firsts.as_slice())?;
     Ok((legs, behind))
 }
@@ -192,9 +201,9 @@ impl<'a> Routes<'a> {
     #[inline(always)]
     pub fn behind(&self, position: usize) -> usize
         requires job { position < length self.now.jobs }
-        requires known { slice_index self.now.jobs position < length self.now.places }
+        requires known { slice_index self.now.jobs position < length self.now.step_positions }
         requires within { slice_index self.now.steps position
-            < length (slice_index_or self.now.places (slice_index self.now.jobs position) []) }
+            < length (slice_index_or self.now.step_positions (slice_index self.now.jobs position) []) }
         ensures index { result ≡ leg_index self.now (slice_index self.now.jobs position)
             (slice_index self.now.steps position + 1) }
         ensures few { length (all_legs self.now) < 2 ^ 64 }

@@ -4,8 +4,8 @@ ghost use Rattle.std.specs.Prelude.{slice_index};
 ghost use Rattle.shop_model.specs.declared.limits.TheConstants.{MAX_JOBS, MAX_MACHINES, MAX_STEPS};
 ghost use Rattle.shop_layout.specs.{Positions.{AreEven, AreMachinesOf, IsLaidOut}, Ranks.{AreRanks, ranked}};
 ghost use Rattle.shop_layout.specs.{Slots.AreMachineSlots, inner.Vectors.items_in};
-ghost use Rattle.shop_layout.specs.inner.Layings.{AreAdded, AreApart, AreCells, AreNoted, ArePlaces, AreShorter};
-ghost use Rattle.shop_layout.specs.inner.Layings.{HaveRoom, IsInRows};
+ghost use Rattle.shop_layout.specs.inner.Layings.{AreAdded, AreApart, AreCells, AreNoted, AreShorter};
+ghost use Rattle.shop_layout.specs.inner.Layings.{AreStepPositions, HaveRoom, IsInRows};
 
 use crate::slots::{Slot, machine_slots};
 use shop_model::Instance;
@@ -26,7 +26,7 @@ pub(crate) struct Positions {
     /// the tail of the operation at each position, 0 at padding; read only while the layout is made
     pub(crate) tails: Vec<u64>,
     /// the position of each operation, by job and step; read only while the layout is made
-    pub(crate) places: Vec<Vec<u32>>,
+    pub(crate) step_positions: Vec<Vec<u32>>,
     /// the first block of each machine, then the number of all blocks
     pub(crate) blocks: Vec<u32>,
     /// the machine of each position
@@ -44,7 +44,7 @@ impl Model for Positions {
       steps = l.steps.items;
       times = l.times.items;
       tails = l.tails.items;
-      places = items_in l.places.items;
+      step_positions = items_in l.step_positions.items;
       blocks = l.blocks.items;
       machines = l.machines.items;
     } };
@@ -73,9 +73,9 @@ fn add_blocks(slots: &mut Vec<Slot>, list: &[Slot], count: usize) -> Result<(), 
     requires { 8 * count < 2 ^ 32 }
     ensures { OnOk result (AreAdded list.now count (8 * count) slots.old.items slots.new.items) }
 {
-    for place in 0..8 * count {
+    for index in 0..8 * count {
         // ranks run down the first lanes of all blocks, then down the second lanes
-        let rank = place % 8 * count + place / 8;
+        let rank = index % 8 * count + index / 8;
         slots.push(list.get(rank).copied().unwrap_or(NO_SLOT))?;
     }
     Ok(())
@@ -116,26 +116,27 @@ fn steps_of(alloc: Global, slots: &[Slot]) -> Result<Vec<u32>, NoMemory>
     slots.iter().map(|s| s.step as u32).collect(alloc)
 }
 
-/// Writes into `places` the positions of `slots`: down the columns of `count` blocks from position `first` on.
-fn note_places(places: &mut [Vec<u32>], slots: &[Slot], first: usize, count: usize)
-    requires rows { All (IsInRows (items_in places.old)) slots.now }
+/// Writes into `step_positions` the positions of `slots`: down the columns of `count` blocks from position `first` on.
+fn note_positions(step_positions: &mut [Vec<u32>], slots: &[Slot], first: usize, count: usize)
+    requires rows { All (IsInRows (items_in step_positions.old)) slots.now }
     requires apart { AreApart slots.now }
     requires room { length slots.now ≤ 8 * count }
     requires small { first + 8 * count < 2 ^ 32 }
-    ensures long { length places.new ≡ length places.old }
-    ensures noted { AreNoted (length slots.now) first count slots.now (items_in places.old) (items_in places.new) }
+    ensures long { length step_positions.new ≡ length step_positions.old }
+    ensures noted { AreNoted (length slots.now) first count slots.now
+        (items_in step_positions.old) (items_in step_positions.new) }
 {
     for rank in 0..slots.len() {
         let slot = slots[rank];
-        let place = 8 * (rank % count) + rank / count;
-        places[slot.job][slot.step] = (first + place) as u32;
+        let index = 8 * (rank % count) + rank / count;
+        step_positions[slot.job][slot.step] = (first + index) as u32;
     }
 }
 
 /// Returns the position of each step of each job. `lists` has the operations of each machine, by any ranks, and
 /// those of `lists[m]` are in blocks `blocks[m]` up to `blocks[m + 1]` (excluded). Fails with `NoMemory` if memory
 /// runs out.
-fn places_of(
+fn positions_of_steps(
     alloc: Global,
     instance: &Instance,
     lists: &[Vec<Slot>],
@@ -145,25 +146,25 @@ fn places_of(
     requires blocks { length blocks.now ≡ instance.now.machines + 1 }
     requires room { HaveRoom (items_in lists.now) instance.now.machines blocks.now }
     requires few { All (λ b. b ≤ MAX_MACHINES * (MAX_JOBS * MAX_STEPS + 8)) blocks.now }
-    ensures { IfOk result (λ v. ArePlaces instance.now (items_in lists.now) blocks.now
+    ensures { IfOk result (λ v. AreStepPositions instance.now (items_in lists.now) blocks.now
         instance.now.machines (items_in v.items)) }
 {
     instance.keeps_limits();
-    let mut places = Vec::new(alloc);
+    let mut step_positions = Vec::new(alloc);
     for j in 0..instance.jobs() {
-        places.push(vec![in alloc; 0; instance.route(j).len()]?)?;
+        step_positions.push(vec![in alloc; 0; instance.route(j).len()]?)?;
     }
     for m in 0..lists.len() {
         let from = blocks[m] as usize;
         let to = blocks[m + 1] as usize;
-        note_places(
-            places.as_mut_slice(),
+        note_positions(
+            step_positions.as_mut_slice(),
             lists[m].as_slice(),
             8 * from,
             to - from,
         );
     }
-    Ok(places)
+    Ok(step_positions)
 }
 
 /// Lists the machine of each position, also of padding. `blocks` holds the first block of each machine, then the number
@@ -215,7 +216,12 @@ impl Positions {
         instance.keeps_limits();
         let lists = machine_slots(alloc, instance, ranks)?;
         let Cells { slots, blocks } = cells_of(alloc, lists.as_slice())?;
-        let places = places_of(alloc, instance, lists.as_slice(), blocks.as_slice())?;
+        let step_positions = positions_of_steps(
+            alloc,
+            instance,
+            lists.as_slice(),
+            blocks.as_slice(),
+        )?;
         let slots = slots.as_slice();
         Ok(Positions {
             jobs: jobs_of(alloc, slots)?,
@@ -223,7 +229,7 @@ impl Positions {
             machines: machines_of(alloc, blocks.as_slice())?,
             times: slots.iter().map(|s| s.time).collect(alloc)?,
             tails: slots.iter().map(|s| s.tail).collect(alloc)?,
-            places,
+            step_positions,
             blocks,
         })
     }

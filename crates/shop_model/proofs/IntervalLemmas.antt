@@ -52,8 +52,8 @@ module _ (shop : Shop) (rows : List (List ℕ)) where
   abbrev numbers : List ℕ
   numbers = range_with_len 0 (length shop.jobs)
 
-  abbrev place : ℕ → ℕ → ℕ
-  place j k = length (flat_map part (take j numbers)) + k
+  abbrev index : ℕ → ℕ → ℕ
+  index j k = length (flat_map part (take j numbers)) + k
 
   abbrev interval : ℕ → ℕ → Interval
   interval j k = interval_at (route_of shop j) (slice_index_or rows j []) k
@@ -64,9 +64,9 @@ module _ (shop : Shop) (rows : List (List ℕ)) where
   number_at : (j : ℕ) → j < length shop.jobs → get_or numbers j 0 ≡ j
   number_at j h = get_or-range_with_len 0 (length shop.jobs) j 0 h ∙ omega arith
 
-  interval_in_place : (j k : ℕ) (d : Interval) → IsOperation shop j k
-      → get_or (intervals_of shop rows) (place j k) d ≡ interval j k
-  interval_in_place j k d op =
+  interval_at_index : (j k : ℕ) (d : Interval) → IsOperation shop j k
+      → get_or (intervals_of shop rows) (index j k) d ≡ interval j k
+  interval_at_index j k d op =
       let job = IsOperation-job shop j k op
       in let many = length-range_with_len 0 (length shop.jobs)
       in let at = number_at j job
@@ -94,15 +94,15 @@ module _ (shop : Shop) (rows : List (List ℕ)) where
       ap (sum_by sizes) front
       in omega arith
 
-  place_before : (j k i l : ℕ) → IsOperation shop j k → IsOperation shop i l → IsBefore j k i l → place j k < place i l
-  place_before j k i l op other before = elim before [
+  index_before : (j k i l : ℕ) → IsOperation shop j k → IsOperation shop i l → IsBefore j k i l → index j k < index i l
+  index_before j k i l op other before = elim before [
     | inl h ↦ (let job = IsOperation-job shop i l other in let a = part_ends j i h (omega arith) in omega arith)
     | inr h ↦ (let e : length (flat_map part (take j numbers)) ≡ length (flat_map part (take i numbers))
         = ap (λ (n : ℕ). length (flat_map part (take n numbers))) h.0 in let x = h.1 in omega arith)
   ]
 
-  place_below : (j k : ℕ) → IsOperation shop j k → place j k < length (intervals_of shop rows)
-  place_below j k op =
+  index_below : (j k : ℕ) → IsOperation shop j k → index j k < length (intervals_of shop rows)
+  index_below j k op =
       let job = IsOperation-job shop j k op
       in let a = part_ends j (length shop.jobs) job (omega arith)
       in let all : take (length shop.jobs) numbers ≡ numbers =
@@ -116,8 +116,8 @@ module _ (shop : Shop) (rows : List (List ℕ)) where
       → IsOperation shop j k → IsOperation shop i l → IsBefore j k i l → S (interval j k) (interval i l)
   of_operations S all j k i l op other before =
       let d : Interval = record { machine = 0; start = 0; finish = 0 }
-      in rw (interval_in_place j k d op, interval_in_place i l d other)
-      at (all (place j k) (place i l) d (place_before j k i l op other before) (place_below i l other))
+      in rw (interval_at_index j k d op, interval_at_index i l d other)
+      at (all (index j k) (index i l) d (index_before j k i l op other before) (index_below i l other))
 
   pub apart_from_pairs : AllPairs ArePartedIntervals (intervals_of shop rows) → AllApart shop (starts_of rows)
   apart_from_pairs all j k i l op other before same = of_operations ArePartedIntervals all j k i l op other before same

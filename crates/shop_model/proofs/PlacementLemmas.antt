@@ -6,7 +6,8 @@ use Rattle.std.proofs.lemmas.List.{take_more, get_or-set_other, length-set, From
 use Rattle.std.{proofs.lemmas.List.{FromFn.length-map-range_with_len, Sums.sum_by-take-le}, specs.List.range_with_len}
 use Rattle.shop_model.specs.{Limits.IsWithinLimits, declared.ops.Op.Op, Shop.{Shop, no_op, release_of, route_of, op_of}}
 use Rattle.shop_model.specs.{Shop.{machine_of, IsOperation}, Word.{Placing, IsWord, place_next, placing}}
-use Rattle.shop_model.specs.{Word.{none_placed, count_of}, Placements.{PlacementState, HasPlaces, IsPlacement, HasLast}}
+use Rattle.shop_model.specs.Placements.{HasEntries, HasLast, IsPlacement, PlacementState}
+use Rattle.shop_model.specs.Word.{count_of, none_placed}
 use Rattle.shop_model.{specs.Placements.HasNext, proofs.{Placings.place_next-is, Ends.IsOperation-job}}
 use Rattle.shop_model.proofs.{Unders.{after_word, next_operation, placing-snoc}, WordLemmas.IsWord-init}
 use Rattle.shop_model.proofs.WordLengths.{word_length, ready_word}
@@ -30,7 +31,7 @@ none_is shop s steps ready free =
 -- what is known where a word can go on with j
 pub record IsAboutToPlace (shop : Shop) (j : ℕ) (s : PlacementState) : Type 0 where
   pub job : j < length shop.jobs
-  pub places : HasPlaces shop s
+  pub entries : HasEntries shop s
   pub operation : IsOperation shop j (get_or s.steps j 0)
   pub ready : get_or s.ready j 0 ≤ 1000000000000000
   pub free : (m : ℕ) → m < shop.machines → get_or s.free m 0 ≤ 1000000000000000
@@ -48,7 +49,7 @@ about_to_place shop j s limits next =
     in let small = ready_word shop limits w
     in record {
       job = job;
-      places = next.placed.places;
+      entries = next.placed.entries;
       operation = rw (steps, counts) operation;
       ready = (let a = small.ready j in let b = next.placed.ready j job in omega arith);
       free = λ m h. (let a = small.free m in let b = next.placed.free m h in omega arith);
@@ -117,7 +118,7 @@ start_by_reads shop j s job k o r f reads begin e p is = grind (arith, place_nex
 -- what is known where the last step of j can be taken back
 pub record HasStepPlaced (shop : Shop) (j : ℕ) (s : PlacementState) : Type 0 where
   pub job : j < length shop.jobs
-  pub places : HasPlaces shop s
+  pub entries : HasEntries shop s
   pub some : 0 < get_or s.steps j 0
   pub operation : get_or s.steps j 0 ≤ length (route_of shop j)
 
@@ -133,7 +134,7 @@ step_placed shop j s last =
     ap (λ (p : Placing). p.steps j) (placing-snoc shop w j)
     in record {
       job = job;
-      places = last.placed.places;
+      entries = last.placed.entries;
       some = omega arith;
       operation = omega arith;
     }

@@ -10,23 +10,23 @@ module _ {X : Type 0} where
       → swap xs i j ≡ set (set xs i (get_or xs j d)) j (get_or xs i d)
   swap-is y i j d below other = grind (arith, get_or_default)
 
-  -- the place to which the element at n goes
+  -- the index to which the element at n goes
   record GoesTo (xs : List X) (i j n m : ℕ) : Type 0 where
-    place : ((n ≡ j) × (m ≡ i)) ⊎ (((n ≡ i) × (m ≡ j)) ⊎ ((n ≡ i → ⊥) × (n ≡ j → ⊥) × (m ≡ n)))
+    goes : ((n ≡ j) × (m ≡ i)) ⊎ (((n ≡ i) × (m ≡ j)) ⊎ ((n ≡ i → ⊥) × (n ≡ j → ⊥) × (m ≡ n)))
 
   goes_to : (xs : List X) (i j n : ℕ) → (m : ℕ) × GoesTo xs i j n m
   goes_to xs i j n = elim (cases_eq n j) [
-    | inl e ↦ (i, record { place = inl (e, refl) })
+    | inl e ↦ (i, record { goes = inl (e, refl) })
     | inr ne ↦ elim (cases_eq n i) [
-      | inl f ↦ (j, record { place = inr (inl (f, refl)) })
-      | inr nf ↦ (n, record { place = inr (inr (nf, ne, refl)) })
+      | inl f ↦ (j, record { goes = inr (inl (f, refl)) })
+      | inr nf ↦ (n, record { goes = inr (inr (nf, ne, refl)) })
     ]
   ]
 
   -- it goes there
   swapped : (xs : List X) (i j n m : ℕ) (d : X) → i < length xs → j < length xs → n < length xs → GoesTo xs i j n m
       → (m < length xs) × (get_or (swap xs i j) m d ≡ get_or xs n d)
-  swapped xs i j n m d a b c g = elim g.place [
+  swapped xs i j n m d a b c g = elim g.goes [
     | inl h ↦ (
       omega arith,
       rw (h.0, h.1, swap-is xs i j d a b) (elim (cases_eq i j) [
@@ -50,7 +50,7 @@ module _ {X : Type 0} where
     ]
   ]
 
-  -- two elements don't go to one place
+  -- two elements don't go to one index
   goes_apart : (xs : List X) (i j p q m : ℕ) → GoesTo xs i j p m → GoesTo xs i j q m → p ≡ q
   goes_apart xs i j p q m one two = grind arith
 

@@ -8,15 +8,15 @@ pub record PlacementState : Type 0 where
   pub ready : List ℕ
   pub free : List ℕ
 
--- it has a place for each job and each machine of the instance
-pub record HasPlaces (shop : Shop) (s : PlacementState) : Type 0 where
+-- it has an entry for each job and each machine of the instance
+pub record HasEntries (shop : Shop) (s : PlacementState) : Type 0 where
   pub steps : length s.steps ≡ length shop.jobs
   pub ready : length s.ready ≡ length shop.jobs
   pub free : length s.free ≡ shop.machines
 
 -- it tells what the placing says of the jobs and the machines of the instance
 pub record IsPlacement (shop : Shop) (p : Placing) (s : PlacementState) : Type 0 where
-  pub places : HasPlaces shop s
+  pub entries : HasEntries shop s
   pub steps : (j : ℕ) → j < length shop.jobs → slice_index s.steps j ≡ p.steps j
   pub ready : (j : ℕ) → j < length shop.jobs → slice_index s.ready j ≡ p.ready j
   pub free : (m : ℕ) → m < shop.machines → slice_index s.free m ≡ p.free m

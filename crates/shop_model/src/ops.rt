@@ -1,4 +1,4 @@
-// Operations, jobs, and the places of operations.
+// Operations, jobs, and what names an operation.
 
 /// An operation of a route: the machine that it needs, counted from 0, and for how many units of time.
 #[derive(Clone, Copy, Debug, PartialEq, Eq)]
@@ -14,7 +14,7 @@ pub struct Job {
     pub route: Vec<Op>,
 }
 
-/// The place of an operation: step `step` of job `job`, both counted from 0.
+/// What names an operation: step `step` of job `job`, both counted from 0.
 #[derive(Clone, Copy, Debug, PartialEq, Eq)]
 pub struct OperationId {
     pub job: usize,

@@ -5,7 +5,7 @@ use Rattle.std.specs.Prelude.{ℕ, if◌then◌else◌, List, [], ◌∷◌, ◌
 use Rattle.shop_model.specs.Shop.{Shop}
 use Rattle.shop_bound.specs.Bound.{lb}
 
--- x before the first element whose key isn't below its own: ties keep their places
+-- x before the first element whose key isn't below its own: ties keep their order
 abbrev pub insert_by : {A : Type 0} → (A → ℕ) → A → List A → List A
 insert_by key x [] = x ∷ []
 insert_by key x (y ∷ ys) = if nat_le (key x) (key y) then x ∷ y ∷ ys else y ∷ insert_by key x ys

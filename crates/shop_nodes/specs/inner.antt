@@ -1,4 +1,4 @@
 -- Definitions that no public law uses.
 pub mod Choosing
 pub mod HeldNodes
-pub mod Places
+pub mod Indices

@@ -3,7 +3,7 @@ ghost use Rattle.std.specs.{Prelude.{◌≡◌, [], ◌∷◌, ◌++◌, IfOk}, 
 ghost use Rattle.shop_model.specs.Word.{IsWord, IsFull};
 ghost use Rattle.shop_bound.specs.Bound.{lb};
 ghost use Rattle.shop_nodes.specs.{Branching.branch, Nodes.{IsNode, AreNodes, words_of, AreBetterChildren}};
-ghost use Rattle.shop_nodes.specs.inner.Places.{IsPlaceFor};
+ghost use Rattle.shop_nodes.specs.inner.Indices.{IsIndexFor};
 
 use crate::conflicts::conflict;
 use crate::nodes::Node;
@@ -44,12 +44,12 @@ fn child_along(
 }
 
 /// Returns the index of the first of `nodes` with a bound of at least `bound`, or their number if there is none.
-fn place_for(bound: u64, nodes: &[Node]) -> usize
-    ensures { IsPlaceFor bound nodes.now result }
+fn index_for(bound: u64, nodes: &[Node]) -> usize
+    ensures { IsIndexFor bound nodes.now result }
 {
-    for place in 0..nodes.len() {
-        if bound <= nodes[place].bound {
-            return place;
+    for index in 0..nodes.len() {
+        if bound <= nodes[index].bound {
+            return index;
         }
     }
     nodes.len()
@@ -71,8 +71,8 @@ pub fn children(alloc: Global, instance: &Instance, node: &Node) -> Result<Vec<N
     // Inserts the last job first, so that of equal bounds the lower job comes first.
     while let Some(job) = jobs.pop() {
         let child = child_along(alloc, instance, &path, job)?;
-        let place = place_for(child.bound, children.as_slice());
-        children.insert(place, child)?;
+        let index = index_for(child.bound, children.as_slice());
+        children.insert(index, child)?;
     }
     Ok(children)
 }

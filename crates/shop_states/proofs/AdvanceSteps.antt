@@ -9,7 +9,7 @@ use Rattle.shop_bound.{specs.Heads.head_of, proofs.HeadTurns.ready_first}
 use Rattle.shop_states.specs.inner.{LaneEnds.IsEndOf, LaneHeads.AreHeadsAt, LaneStates.AreHeadsInLanes}
 use Rattle.shop_states.specs.inner.Raises.{AreFirst, AsksOwn, HasBlocks, IsLeastRaise, IsOnMachine, IsRaisable, Raises}
 use Rattle.shop_states.proofs.RaisedHeads.{left, raisable, raised, has_blocks}
-use Rattle.shop_layout.{specs.Positions.{LayoutState, place, first_position}, proofs.LaidPlaces.place_of}
+use Rattle.shop_layout.{specs.Positions.{LayoutState, position_of, first_position}, proofs.LaidPositions.is_position_of}
 
 module _ {greatest : ℕ} {shop : Shop} {l : LayoutState} {rows : Rows} {w : List ℕ} (j : ℕ)
     (kept : AreHeadsInLanes greatest shop w l rows) (fits : IsWord shop (w ++ j ∷ [])) where
@@ -29,37 +29,37 @@ module _ {greatest : ℕ} {shop : Shop} {l : LayoutState} {rows : Rows} {w : Lis
   machine_known = kept.limits.on_machines j (before.steps j)
 
   -- the machine of its position
-  pub machine_here : {q m : ℕ} → q ≡ place l j (before.steps j) → m ≡ get_or l.machines q 0
+  pub machine_here : {q m : ℕ} → q ≡ position_of l j (before.steps j) → m ≡ get_or l.machines q 0
       → m ≡ machine_of shop j (before.steps j)
   machine_here is read =
-      let a = place_of shop kept.limits l kept.laid j (before.steps j) first_left
+      let a = is_position_of shop kept.limits l kept.laid j (before.steps j) first_left
       in let from = a.from in let to = a.to
       in read ∙ (ap (λ (x : ℕ). get_or l.machines x 0) is
-      ∙ kept.laid.machines_at.at (machine_of shop j (before.steps j)) (place l j (before.steps j)) machine_known
+      ∙ kept.laid.machines_at.at (machine_of shop j (before.steps j)) (position_of l j (before.steps j)) machine_known
       (omega arith) (omega arith))
 
-  pub within : {q : ℕ} → q ≡ place l j (before.steps j) → q < length rows.heads
-  within is = search (rules, place_of, first_left)
+  pub within : {q : ℕ} → q ≡ position_of l j (before.steps j) → q < length rows.heads
+  within is = search (rules, is_position_of, first_left)
 
   -- what is read of it
-  pub head_is : {q : ℕ} → q ≡ place l j (before.steps j) → get_or rows.heads q 0 ≡ head_of shop before j
+  pub head_is : {q : ℕ} → q ≡ position_of l j (before.steps j) → get_or rows.heads q 0 ≡ head_of shop before j
       (before.steps j) + 1
   head_is is = grind (arith, first_left)
 
-  pub time_is : {q : ℕ} → q ≡ place l j (before.steps j) → get_or rows.times q 0 ≡ time_of shop j (before.steps j)
+  pub time_is : {q : ℕ} → q ≡ position_of l j (before.steps j) → get_or rows.times q 0 ≡ time_of shop j (before.steps j)
   time_is {q} is = ap (λ (xs : List ℕ). get_or xs q 0) kept.times
       ∙ (ap (λ (x : ℕ). get_or l.times x 0) is
-      ∙ (place_of shop kept.limits l kept.laid j (before.steps j) first_left).time)
+      ∙ (is_position_of shop kept.limits l kept.laid j (before.steps j) first_left).time)
 
   small : head_of shop before j (before.steps j) + time_of shop j (before.steps j) < greatest
   small = kept.fits w kept.word j (before.steps j) first_left (omega arith)
 
-  pub end_small : {q h t : ℕ} → q ≡ place l j (before.steps j) → h ≡ get_or rows.heads q 0 → t ≡ get_or rows.times q 0
-      → (h ≤ greatest) × (h + t ≤ greatest) × (h + t < 2 ^ 64)
+  pub end_small : {q h t : ℕ} → q ≡ position_of l j (before.steps j) → h ≡ get_or rows.heads q 0
+      → t ≡ get_or rows.times q 0 → (h ≤ greatest) × (h + t ≤ greatest) × (h + t < 2 ^ 64)
   end_small {q} is read timed = grind (arith, head_is, time_is, small)
 
-  pub end_is : {q h t : ℕ} → q ≡ place l j (before.steps j) → h ≡ get_or rows.heads q 0 → t ≡ get_or rows.times q 0
-      → h + t ≡ after.free (machine_of shop j (before.steps j)) + 1
+  pub end_is : {q h t : ℕ} → q ≡ position_of l j (before.steps j) → h ≡ get_or rows.heads q 0
+      → t ≡ get_or rows.times q 0 → h + t ≡ after.free (machine_of shop j (before.steps j)) + 1
   end_is {q} is read timed = grind (arith, head_is, time_is, ready_first, next_is)
 
   pub next_fits : (i k : ℕ) → IsOperation shop i k → after.steps i ≤ k
@@ -72,10 +72,10 @@ module _ {greatest : ℕ} {shop : Shop} {l : LayoutState} {rows : Rows} {w : Lis
       in let a = kept.fits (w ++ j ∷ []) fits i k op (omega arith)
       in omega arith
 
-  module _ {q h t : ℕ} (is : q ≡ place l j (before.steps j)) (read : h ≡ get_or rows.heads q 0)
+  module _ {q h t : ℕ} (is : q ≡ position_of l j (before.steps j)) (read : h ≡ get_or rows.heads q 0)
       (timed : t ≡ get_or rows.times q 0) {lifted : Rows} (wrote : lifted ≡ with_head rows q 0) {m : ℕ}
       (on : m ≡ machine_of shop j (before.steps j)) where
-    lifted_heads : lifted.heads ≡ set rows.heads (place l j (before.steps j)) 0
+    lifted_heads : lifted.heads ≡ set rows.heads (position_of l j (before.steps j)) 0
     lifted_heads = ap (λ (r : Rows). r.heads) wrote ∙ ap (λ (x : ℕ). set rows.heads x 0) is
 
     lifted_times : lifted.times ≡ l.times
@@ -149,7 +149,7 @@ module _ {greatest : ℕ} {shop : Shop} {l : LayoutState} {rows : Rows} {w : Lis
             (raised kept.limits kept.laid next_is first_left (left kept.limits kept.laid next_is first_left
             kept.heads) (end_is is read timed)
             (subst (λ (x : ℕ). IsLeastRaise l (IsOnMachine l x) (AsksOwn (h + t))
-            (set rows.heads (place l j (before.steps j)) 0)
+            (set rows.heads (position_of l j (before.steps j)) 0)
             new.heads) on
             (subst (λ (xs : List ℕ). IsLeastRaise l (IsOnMachine l m) (AsksOwn (h + t)) xs new.heads) lifted_heads
             raising.raised)));

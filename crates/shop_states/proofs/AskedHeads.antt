@@ -1,7 +1,7 @@
 -- Heads that are as high as positions ask for, when what they ask for changes.
 use Rattle.std.proofs.Common.{◌≡◌, ℕ, ◌≤◌, ◌<◌, get_or, refl, ap, arith}
-use Rattle.shop_layout.specs.Positions.{LayoutState, place}
-use Rattle.shop_states.specs.inner.Raises.{AreInRouteOrder, AsksNext, AsksOwn, IsPlace, IsPosition, IsRaised}
+use Rattle.shop_layout.specs.Positions.{LayoutState, position_of}
+use Rattle.shop_states.specs.inner.Raises.{AreInRouteOrder, AsksNext, AsksOwn, IsStepPosition, IsPosition, IsRaised}
 
 -- heads raised for some positions are raised for others, if they reach what these ask for
 pub asks_less : {l : LayoutState} {A B : ℕ → Type 0} {asks more : ℕ → ℕ → ℕ → Type 0} {old new : ℕ → ℕ}
@@ -18,11 +18,11 @@ pub reach_own : {A : ℕ → Type 0} {e : ℕ} {old new : ℕ → ℕ} → ((q :
 reach_own reach p q v here asked waits = rw (asked.0, asked.1) (reach p here waits)
 
 -- what follows a position begins late enough where the position does, and routes are in order
-pub reach_next : {l : LayoutState} {free : ℕ → ℕ} (new : ℕ → ℕ) {p q v : ℕ} → AreInRouteOrder l new → IsPlace l p
+pub reach_next : {l : LayoutState} {free : ℕ → ℕ} (new : ℕ → ℕ) {p q v : ℕ} → AreInRouteOrder l new → IsStepPosition l p
     → 0 < new p → free p ≤ new p → AsksNext l free p q v → v ≤ new q
 reach_next {l} new {p} order at waits late asked =
-    let here : new (place l (get_or l.jobs p 0) (get_or l.steps p 0)) ≡ new p = ap new at.is
-    in let time : get_or l.times (place l (get_or l.jobs p 0) (get_or l.steps p 0)) 0 ≡ get_or l.times p 0 =
+    let here : new (position_of l (get_or l.jobs p 0) (get_or l.steps p 0)) ≡ new p = ap new at.is
+    in let time : get_or l.times (position_of l (get_or l.jobs p 0) (get_or l.steps p 0)) 0 ≡ get_or l.times p 0 =
     ap (λ (x : ℕ). get_or l.times x 0) at.is
     in let follows = order (get_or l.jobs p 0) (get_or l.steps p 0) asked.more (omega arith)
     in let next = ap new asked.next in let ready = asked.ready in omega arith

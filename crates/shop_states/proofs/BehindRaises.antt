@@ -3,15 +3,16 @@ use Rattle.std.proofs.Common.{◌≡◌, ℕ, ◌+◌, min, ◌≤◌, ◌<◌, 
 use Rattle.std.proofs.{Common.{arith}, lemmas.Bool.{cases_eq, cases_lt, eq-eqb, ne_eqb}}
 use Rattle.std.proofs.lemmas.List.{get_or_default, get_or_past}
 use Rattle.shop_lanes.specs.{Marks.positions_among, Rows.Rows}
-use Rattle.shop_layout.specs.{declared.legs.Leg.Leg, Legs.{all_legs, end_of, leg_index}, Positions.{LayoutState, place}}
-use Rattle.shop_layout.{specs.Positions.place_or, proofs.RouteLegs.{index_known, leg_behind, leg_here}}
+use Rattle.shop_layout.specs.{declared.legs.Leg.Leg, Legs.{all_legs, end_of, leg_index}}
+use Rattle.shop_layout.specs.Positions.{LayoutState, position_of, position_or}
+use Rattle.shop_layout.proofs.RouteLegs.{index_known, leg_behind, leg_here}
 use Rattle.shop_states.specs.declared.late_raises.{LateMachine.LateMachine, Latest.Latest}
-use Rattle.shop_states.specs.inner.Raises.{AsksNext, AsksOwn, IsPlace, IsPosition}
+use Rattle.shop_states.specs.inner.Raises.{AsksNext, AsksOwn, IsPosition, IsStepPosition}
 use Rattle.shop_states.specs.inner.{Raises.{IsRaisable, IsRaised, Raises, at_in, steps_of}, RisingLists.IsIn}
 use Rattle.shop_states.specs.inner.Siblings.{CanRaiseLate, free_late}
 use Rattle.shop_states.proofs.AskedHeads.{asked_same, asks_less, own_reached, raised_same, reach_next, reach_own}
 use Rattle.shop_states.proofs.MarkedRaises.{AreBlocksRaised, blocks_begin, blocks_on, marks_can, marks_in}
-use Rattle.shop_states.proofs.{Followed.place_there, MarkedRaises.marks_waiting}
+use Rattle.shop_states.proofs.{Followed.position_or-there, MarkedRaises.marks_waiting}
 use Rattle.shop_states.proofs.RaiseLoops.{AreMarksRaised, marks_begin, marks_end}
 use Rattle.shop_states.proofs.RaiseLoops.{marks_on, popped_here, popped_raisable, popped_waits, raisable_less}
 use Rattle.shop_states.proofs.RaiseLoops.{raises_more, raises_none, was_waiting}
@@ -26,23 +27,25 @@ module _ {greatest : ℕ} {l : LayoutState} {rows : Rows} {p free : ℕ}
   abbrev step : ℕ
   step = get_or l.steps p 0
 
-  pub its_place : IsPlace l p
-  its_place = can.places p some
+  pub its_step_position : IsStepPosition l p
+  its_step_position = can.at_steps p some
 
   module _ {index : ℕ} (index_is : index ≡ leg_index l job (step + 1)) where
     pub its_leg : index < length (all_legs l)
-    its_leg = let a = index_known l job its_place.job (step + 1) (let b = its_place.step in omega arith) in omega arith
+    its_leg =
+        let a = index_known l job its_step_position.job (step + 1) (let b = its_step_position.step in omega arith)
+        in omega arith
 
     module _ {leg : Leg} (is : leg ≡ get_or (all_legs l) index (end_of 0)) where
-      stands : leg.position ≡ place_or (length rows.heads) l.places job (step + 1)
-      stands = grind (arith, cases_lt, leg_here, its_place, place_there, leg_behind)
+      stands : leg.position ≡ position_or (length rows.heads) l.step_positions job (step + 1)
+      stands = grind (arith, cases_lt, leg_here, its_step_position, position_or-there, leg_behind)
 
       pub leg_up_to : leg.position ≤ length rows.heads
-      leg_up_to = grind (arith, stands, cases_lt, place_there)
+      leg_up_to = grind (arith, stands, cases_lt, position_or-there)
 
       -- where the next operation on the route stands, if there is one
-      next_at : step + 1 < steps_of l job → leg.position ≡ place l job (step + 1)
-      next_at more = stands ∙ place_there l (length rows.heads) job (step + 1) more
+      next_at : step + 1 < steps_of l job → leg.position ≡ position_of l job (step + 1)
+      next_at more = stands ∙ position_or-there l (length rows.heads) job (step + 1) more
 
       next_within : step + 1 < steps_of l job → leg.position < length rows.heads
       next_within more = grind (arith, next_at)
@@ -76,10 +79,10 @@ module _ {greatest : ℕ} {l : LayoutState} {rows : Rows} {p free : ℕ}
           more = grind (arith, cases_lt, next_there, stands)
 
           pub next_machine : leg.machine ≡ get_or l.machines leg.position 0
-          next_machine = grind (arith, leg_here, its_place, more)
+          next_machine = grind (arith, leg_here, its_step_position, more)
 
           pub next_waits : 0 < get_or rows.heads leg.position 0
-          next_waits = grind (arith, its_place, more, next_at)
+          next_waits = grind (arith, its_step_position, more, next_at)
 
           -- any heads that are raised behind the operation are so at the next one
           raised_there : (other : ℕ → ℕ) → IsRaised l (IsPosition p) (AsksNext l (λ x. free)) (at_in rows.heads) other
@@ -154,6 +157,6 @@ module _ {greatest : ℕ} {l : LayoutState} {late : LateMachine} {old : Rows}
       pub late_all : todo ≡ [] → AreLateRaised greatest l late to old now
       late_all none = blocks_on so_far can.can can.within to_is late.latest.end are
           (λ p q v asked waits high. reach_next (at_in before.heads) so_far.raises.raised.raised.order
-          (can.can.places p (was_waiting so_far.raises.raised p waits)) waits
+          (can.can.at_steps p (was_waiting so_far.raises.raised p waits)) waits
           (let second = can.second in grind (arith, cases_eq, eq-eqb, ne_eqb)) asked)
           (marks_end can_marks none now_far)

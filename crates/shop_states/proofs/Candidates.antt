@@ -10,7 +10,7 @@ use Rattle.shop_states.specs.{States.TellsBoundBelow, inner.Advances.{IsAdvancin
 use Rattle.shop_states.specs.inner.{LaneStates.IsKeptInLanes, RisingLists.IsIn}
 use Rattle.shop_states.proofs.ChildReads.{after_look, end_here, head_here, machine_here, time_here}
 use Rattle.shop_states.proofs.{LaneConflicts.{AreChoosable, in_filter, open_is}, StateSteps.next_at}
-use Rattle.shop_layout.specs.{Lanes.rows_of, Positions.{LayoutState, place}}
+use Rattle.shop_layout.specs.{Lanes.rows_of, Positions.{LayoutState, position_of}}
 
 -- a conflict set is a part of the open jobs
 conflict_in : (shop : Shop) (p : Placing) (js : List ℕ) (q : ℕ) → IsIn (conflict_among shop p js) q → IsIn js q
@@ -31,18 +31,18 @@ module _ {greatest : ℕ} {shop : Shop} {w : List ℕ} {l : LayoutState} {heads 
   rows = rows_of l heads ends
 
   module _ {x : ℕ} (x_is : x ≡ get_or nexts j 0) where
-    its_place : x ≡ place l j ((placing shop w).steps j)
-    its_place = next_at j kept fits x_is
+    its_position_is : x ≡ position_of l j ((placing shop w).steps j)
+    its_position_is = next_at j kept fits x_is
 
     its_machine : get_or l.machines x 0 ≡ machine_of shop j ((placing shop w).steps j)
-    its_machine = search (rules, its_place, machine_here)
+    its_machine = search (rules, its_position_is, machine_here)
 
     pub head_is : get_or heads x 0 + get_or l.times x 0
         ≡ (place_next shop (placing shop w) j).free (machine_of shop j ((placing shop w).steps j)) + 1
     head_is =
-        let a = ap (λ (q : ℕ). get_or heads q 0) its_place
+        let a = ap (λ (q : ℕ). get_or heads q 0) its_position_is
         in let b = head_here kept.kept j fits
-        in let c = ap (λ (q : ℕ). get_or l.times q 0) its_place
+        in let c = ap (λ (q : ℕ). get_or l.times q 0) its_position_is
         in let d = time_here kept.kept j fits
         in let e = end_here kept.kept j fits in omega arith
 
@@ -52,7 +52,7 @@ module _ {greatest : ℕ} {shop : Shop} {w : List ℕ} {l : LayoutState} {heads 
         let end = head_is
         in let b : max bound (get_or heads x 0 + get_or l.times x 0 - 1) ≡ max (lb shop w)
         ((place_next shop (placing shop w) j).free (machine_of shop j ((placing shop w).steps j))) = omega arith
-        in after_look kept.kept j fits b its_place its_machine head_is least_is
+        in after_look kept.kept j fits b its_position_is its_machine head_is least_is
 
   -- where heads, ends and next operations are as they were
   pub advancing : {heads' ends' : List ℕ} → heads' ≡ heads → ends' ≡ ends → {bound : ℕ} → bound ≡ lb shop w

@@ -9,7 +9,7 @@ use Rattle.shop_states.proofs.{BoundsUpTo.IsBoundUpTo, ChildBounds.child-le, Lef
 use Rattle.shop_states.proofs.ChildExits.{after_spans-cover, after_spans-le}
 use Rattle.shop_layout.specs.{HeadLimits.latest_end, Lanes.lanes_on, Positions.{LayoutState, IsLaidOut}}
 use Rattle.shop_states.specs.inner.{LaneHeads.AreHeadsAt, LaneRaises.Raise}
-use Rattle.shop_layout.proofs.{LaidPlaces.each_position, LatestEnds.latest_end_is}
+use Rattle.shop_layout.proofs.{LaidPositions.each_position, LatestEnds.latest_end_is}
 
 -- no head is later than the latest end
 pub heads_small : (shop : Shop) → IsWithinLimits shop → (l : LayoutState) → IsLaidOut shop l → (w : List ℕ)

@@ -6,8 +6,8 @@ use Rattle.shop_model.proofs.{Placings.place_next-is, Unders.{after_word, next_o
 use Rattle.shop_bound.{specs.{Bound.lb, Heads.head_of}, proofs.HeadTurns.ready_first}
 use Rattle.shop_states.specs.inner.{ChildBounds.IsLeastAfter, LaneHeads.AreStored, LaneStates.AreHeadsInLanes}
 use Rattle.shop_states.proofs.{ChildBounds.child-ge-before, ChildExits.open_span-le, RaisedHeads.left}
-use Rattle.shop_layout.specs.{Lanes.lanes_on, Positions.{AreMachinesOf, LayoutState, place}}
-use Rattle.shop_layout.proofs.LaidPlaces.{place_of}
+use Rattle.shop_layout.specs.{Lanes.lanes_on, Positions.{AreMachinesOf, LayoutState, position_of}}
+use Rattle.shop_layout.proofs.LaidPositions.{is_position_of}
 
 module _ {greatest : ℕ} {shop : Shop} {w : List ℕ} {l : LayoutState} {rows : Rows}
     (kept : AreHeadsInLanes greatest shop w l rows) (j : ℕ) (fits : IsWord shop (w ++ j ∷ [])) where
@@ -15,13 +15,14 @@ module _ {greatest : ℕ} {shop : Shop} {w : List ℕ} {l : LayoutState} {rows :
   is_operation = let a = next_operation shop w j fits
       in let b = (after_word shop w (IsWord-init shop w j fits)).steps j in omega arith
 
-  pub head_here : get_or rows.heads (place l j ((placing shop w).steps j)) 0
+  pub head_here : get_or rows.heads (position_of l j ((placing shop w).steps j)) 0
       ≡ head_of shop (placing shop w) j ((placing shop w).steps j) + 1
   head_here = kept.heads.waiting j ((placing shop w).steps j) is_operation (omega arith)
 
-  pub time_here : get_or rows.times (place l j ((placing shop w).steps j)) 0 ≡ time_of shop j ((placing shop w).steps j)
-  time_here = ap (λ (xs : List ℕ). get_or xs (place l j ((placing shop w).steps j)) 0) kept.times
-      ∙ (place_of shop kept.limits l kept.laid j ((placing shop w).steps j) is_operation).time
+  pub time_here : get_or rows.times (position_of l j ((placing shop w).steps j)) 0
+      ≡ time_of shop j ((placing shop w).steps j)
+  time_here = ap (λ (xs : List ℕ). get_or xs (position_of l j ((placing shop w).steps j)) 0) kept.times
+      ∙ (is_position_of shop kept.limits l kept.laid j ((placing shop w).steps j) is_operation).time
 
   -- the operation begins at its head
   pub end_here : head_of shop (placing shop w) j ((placing shop w).steps j) + time_of shop j ((placing shop w).steps j)
@@ -29,21 +30,21 @@ module _ {greatest : ℕ} {shop : Shop} {w : List ℕ} {l : LayoutState} {rows :
   end_here = grind (arith, place_next-is, ready_first)
 
   pub machine_here : {ms : List ℕ} → AreMachinesOf l.blocks shop.machines ms
-      → get_or ms (place l j ((placing shop w).steps j)) 0 ≡ machine_of shop j ((placing shop w).steps j)
+      → get_or ms (position_of l j ((placing shop w).steps j)) 0 ≡ machine_of shop j ((placing shop w).steps j)
   machine_here machines =
-      let at = place_of shop kept.limits l kept.laid j ((placing shop w).steps j) is_operation
+      let at = is_position_of shop kept.limits l kept.laid j ((placing shop w).steps j) is_operation
       in let low = at.from in let high = at.to
-      in machines.at (machine_of shop j ((placing shop w).steps j)) (place l j ((placing shop w).steps j))
+      in machines.at (machine_of shop j ((placing shop w).steps j)) (position_of l j ((placing shop w).steps j))
       (kept.limits.on_machines j ((placing shop w).steps j)) low high
 
   -- heads without the operation's are those that stood, and spans of them fit
   pub left_stored : AreStored shop (place_next shop (placing shop w) j).steps (head_of shop (placing shop w)) l
-      (set rows.heads (place l j ((placing shop w).steps j)) 0)
+      (set rows.heads (position_of l j ((placing shop w).steps j)) 0)
   left_stored = left kept.limits kept.laid (place_next-is shop (placing shop w) j) is_operation kept.heads
 
   module _ {least : ℕ} (least_is : least ≡ max (lb shop w) ((place_next shop (placing shop w) j).free (machine_of shop j
       ((placing shop w).steps j)))) where
-    module _ {x m e : ℕ} (x_is : x ≡ place l j ((placing shop w).steps j))
+    module _ {x m e : ℕ} (x_is : x ≡ position_of l j ((placing shop w).steps j))
         (m_is : m ≡ machine_of shop j ((placing shop w).steps j))
         (e_is : e ≡ (place_next shop (placing shop w) j).free (machine_of shop j ((placing shop w).steps j)) + 1) where
       stored : AreStored shop (place_next shop (placing shop w) j).steps (head_of shop (placing shop w)) l

@@ -7,8 +7,8 @@ use Rattle.shop_lanes.specs.Rows.{Rows}
 use Rattle.shop_model.specs.{Shop.{Shop, IsOperation, machine_of}, Word.{IsWord, Placing, place_next, placing}}
 use Rattle.shop_model.proofs.Unders.{placing-snoc}
 use Rattle.shop_bound.{specs.Heads.head_of, proofs.HeadsStay.steps_rise}
-use Rattle.shop_layout.specs.{HeadLimits.latest_end, Positions.{LayoutState, first_position, place}}
-use Rattle.shop_layout.proofs.{LaidPlaces.place_of, LatestEnds.latest_end_is}
+use Rattle.shop_layout.specs.{HeadLimits.latest_end, Positions.{LayoutState, first_position, position_of}}
+use Rattle.shop_layout.proofs.{LaidPositions.is_position_of, LatestEnds.latest_end_is}
 use Rattle.shop_states.specs.inner.{LaneHeads.{AreHeadsAt, AreStored}, LaneStates.AreHeadsInLanes}
 use Rattle.shop_states.specs.inner.Raises.{AreInRouteOrder, AsksOwn, IsOnMachine, IsRaised, at_in}
 use Rattle.shop_states.proofs.{AdvanceSteps.{first_left, next_fits, next_is, within}, ChildReads.left_stored}
@@ -33,23 +33,23 @@ values_at f (suc n) i within = let long = length-values f n in elim (cases_lt i 
 
 module _ {greatest : ℕ} {shop : Shop} {w : List ℕ} {l : LayoutState} {rows : Rows}
     (kept : AreHeadsInLanes greatest shop w l rows) (j : ℕ) (fits : IsWord shop (w ++ j ∷ [])) where
-  pub its_within : place l j ((placing shop w).steps j) < length rows.heads
+  pub its_within : position_of l j ((placing shop w).steps j) < length rows.heads
   its_within = within j kept fits refl
 
-  pub struck_here : (q : ℕ) → q ≡ place l j ((placing shop w).steps j)
-      → get_or (set rows.heads (place l j ((placing shop w).steps j)) 0) q 0 ≡ 0
-  struck_here q e = get_or-set_at rows.heads (place l j ((placing shop w).steps j)) q 0 0 e its_within
+  pub struck_here : (q : ℕ) → q ≡ position_of l j ((placing shop w).steps j)
+      → get_or (set rows.heads (position_of l j ((placing shop w).steps j)) 0) q 0 ≡ 0
+  struck_here q e = get_or-set_at rows.heads (position_of l j ((placing shop w).steps j)) q 0 0 e its_within
 
-  pub struck_other : (q : ℕ) → (q ≡ place l j ((placing shop w).steps j) → ⊥)
-      → get_or (set rows.heads (place l j ((placing shop w).steps j)) 0) q 0 ≡ get_or rows.heads q 0
-  struck_other q ne = get_or-set_other rows.heads (place l j ((placing shop w).steps j)) q 0 0 ne
+  pub struck_other : (q : ℕ) → (q ≡ position_of l j ((placing shop w).steps j) → ⊥)
+      → get_or (set rows.heads (position_of l j ((placing shop w).steps j)) 0) q 0 ≡ get_or rows.heads q 0
+  struck_other q ne = get_or-set_other rows.heads (position_of l j ((placing shop w).steps j)) q 0 0 ne
 
   pub struck_low : (q : ℕ)
-      → get_or (set rows.heads (place l j ((placing shop w).steps j)) 0) q 0 ≤ get_or rows.heads q 0
+      → get_or (set rows.heads (position_of l j ((placing shop w).steps j)) 0) q 0 ≤ get_or rows.heads q 0
   struck_low q = grind (arith, cases_eq, struck_here, struck_other)
 
   stored : AreStored shop (place_next shop (placing shop w) j).steps (head_of shop (placing shop w)) l
-      (set rows.heads (place l j ((placing shop w).steps j)) 0)
+      (set rows.heads (position_of l j ((placing shop w).steps j)) 0)
   stored = left_stored kept j fits
 
   -- the head of what is left at a position
@@ -58,43 +58,43 @@ module _ {greatest : ℕ} {shop : Shop} {w : List ℕ} {l : LayoutState} {rows :
 
   pub child_raised : IsRaised l (IsOnMachine l (machine_of shop j ((placing shop w).steps j)))
       (AsksOwn ((place_next shop (placing shop w) j).free (machine_of shop j ((placing shop w).steps j)) + 1))
-      (at_in (set rows.heads (place l j ((placing shop w).steps j)) 0)) child_head
+      (at_in (set rows.heads (position_of l j ((placing shop w).steps j)) 0)) child_head
   unfolding child_head
   child_raised = target_raised kept.limits kept.laid (next_is j kept fits) (first_left j kept fits) stored refl
 
-  pub struck_order : AreInRouteOrder l (at_in (set rows.heads (place l j ((placing shop w).steps j)) 0))
+  pub struck_order : AreInRouteOrder l (at_in (set rows.heads (position_of l j ((placing shop w).steps j)) 0))
   struck_order = in_order kept.limits kept.laid (placing shop w) stored
       (steps_rise shop (placing shop w) j (place_next shop (placing shop w) j) (next_is j kept fits))
 
-  nothing : (q : ℕ) → get_or (set rows.heads (place l j ((placing shop w).steps j)) 0) q 0 ≡ 0 → child_head q ≡ 0
+  nothing : (q : ℕ) → get_or (set rows.heads (position_of l j ((placing shop w).steps j)) 0) q 0 ≡ 0 → child_head q ≡ 0
   unfolding child_head
   nothing = target_none kept.limits kept.laid (next_is j kept fits) (first_left j kept fits) stored
 
   least_head : (other : ℕ → ℕ) → IsRaised l (IsOnMachine l (machine_of shop j ((placing shop w).steps j)))
       (AsksOwn ((place_next shop (placing shop w) j).free (machine_of shop j ((placing shop w).steps j)) + 1))
-      (at_in (set rows.heads (place l j ((placing shop w).steps j)) 0)) other
+      (at_in (set rows.heads (position_of l j ((placing shop w).steps j)) 0)) other
       → (q : ℕ) → child_head q ≤ other q
   unfolding child_head
   least_head other raised =
       target_least kept.limits kept.laid (next_is j kept fits) (first_left j kept fits) stored refl raised
 
   head_at : (i k : ℕ) → IsOperation shop i k → (place_next shop (placing shop w) j).steps i ≤ k
-      → child_head (place l i k) ≡ head_of shop (place_next shop (placing shop w) j) i k + 1
+      → child_head (position_of l i k) ≡ head_of shop (place_next shop (placing shop w) j) i k + 1
   unfolding child_head
   head_at = target_at kept.limits kept.laid (next_is j kept fits) (first_left j kept fits) stored
 
   -- what is so of each operation that is left is so where a head is
   each_left : (P : ℕ → Type 0) → ((i k : ℕ) → IsOperation shop i k
-      → (place_next shop (placing shop w) j).steps i ≤ k → P (place l i k)) → (q : ℕ) → 0 < child_head q → P q
+      → (place_next shop (placing shop w) j).steps i ≤ k → P (position_of l i k)) → (q : ℕ) → 0 < child_head q → P q
   each_left P each q some =
-      elim (cases_eq (get_or (set rows.heads (place l j ((placing shop w).steps j)) 0) q 0) 0) [
+      elim (cases_eq (get_or (set rows.heads (position_of l j ((placing shop w).steps j)) 0) q 0) 0) [
         | inl none ↦ (let a = nothing q none in absurd (omega arith))
         | inr waits ↦ each_waiting kept.limits kept.laid stored P each q (omega arith)
       ]
 
   pub child_fits : (q : ℕ) → 0 < child_head q → child_head q + get_or l.times q 0 ≤ greatest
   child_fits = each_left (λ q. child_head q + get_or l.times q 0 ≤ greatest) (λ i k op opened.
-      let head = head_at i k op opened in let time = (place_of shop kept.limits l kept.laid i k op).time
+      let head = head_at i k op opened in let time = (is_position_of shop kept.limits l kept.laid i k op).time
       in let fit = next_fits j kept fits i k op opened in omega arith)
 
   pub child_small : (q : ℕ) → child_head q ≤ latest_end shop + 1
@@ -116,21 +116,21 @@ module _ {greatest : ℕ} {shop : Shop} {w : List ℕ} {l : LayoutState} {rows :
       let n = first_position l shop.machines
       in record {
         positions = length-values child_head n;
-        waiting = grind (arith, values_at, place_of, head_at);
+        waiting = grind (arith, values_at, is_position_of, head_at);
         placed = λ i k op before.
-            values_at child_head n (place l i k) (place_of shop kept.limits l kept.laid i k op).within
-            ∙ nothing (place l i k) (stored.placed i k op before);
+            values_at child_head n (position_of l i k) (is_position_of shop kept.limits l kept.laid i k op).within
+            ∙ nothing (position_of l i k) (stored.placed i k op before);
         padding = λ q free. grind (arith, cases_lt, values_at, nothing, stored, length-values, get_or_past);
       }
 
   pub heads_least : {now : List ℕ} → AreHeadsAt shop (place_next shop (placing shop w) j) l now → (other : ℕ → ℕ)
       → IsRaised l (IsOnMachine l (machine_of shop j ((placing shop w).steps j)))
       (AsksOwn ((place_next shop (placing shop w) j).free (machine_of shop j ((placing shop w).steps j)) + 1))
-      (at_in (set rows.heads (place l j ((placing shop w).steps j)) 0)) other
+      (at_in (set rows.heads (position_of l j ((placing shop w).steps j)) 0)) other
       → (q : ℕ) → get_or now q 0 ≤ other q
   heads_least {now} are other raised q = elim (cases_lt 0 (get_or now q 0)) [
     | inr none ↦ omega arith
     | inl some ↦ each_waiting kept.limits kept.laid are (λ x. get_or now x 0 ≤ other x) (λ i k op opened.
         let is = are.waiting i k op opened in let head = head_at i k op opened
-        in let least = least_head other raised (place l i k) in omega arith) q some
+        in let least = least_head other raised (position_of l i k) in omega arith) q some
   ]

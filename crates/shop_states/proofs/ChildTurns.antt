@@ -9,8 +9,8 @@ use Rattle.shop_states.proofs.{BoundsUpTo.IsBoundUpTo, ChildRaises.{bound_is, he
 use Rattle.shop_states.proofs.{ChildReads.left_stored, SeenRaises.{bounded_by_seen, span_ahead}, LeftSlots.left_for}
 use Rattle.shop_states.specs.inner.{ChildBounds.IsLeastAfter, LaneHeads.AreHeadsAt, LaneStates.AreHeadsInLanes}
 use Rattle.shop_states.specs.inner.{Watchers.{IsSeenAt, floor_on}, LaneRaises.Raise}
-use Rattle.shop_layout.specs.{HeadLimits.latest_end, Lanes.lanes_on, Positions.{AreMachinesOf, LayoutState, place}}
-use Rattle.shop_layout.proofs.LaneLimits.{blocks_within}
+use Rattle.shop_layout.specs.{HeadLimits.latest_end, Lanes.lanes_on}
+use Rattle.shop_layout.{specs.Positions.{AreMachinesOf, LayoutState, position_of}, proofs.LaneLimits.blocks_within}
 
 pub its_job : (shop : Shop) (w : List ℕ) (j : ℕ) → IsWord shop (w ++ j ∷ []) → j < length shop.jobs
 its_job shop w j fits = IsOperation-job shop j _ (next_operation shop w j fits)
@@ -32,7 +32,7 @@ module _ {greatest : ℕ} {shop : Shop} {w : List ℕ} {l : LayoutState} {rows r
   pub its_ahead : {position own end least : ℕ} → IsLeastAfter shop w l rows j position own end least → (m : ℕ)
       → m < shop.machines → m ≡ own → (h : ℕ) → 0 < h → h ≤ end → span h h (lanes_on rows' l m) ≤ least + 1
   its_ahead {position} {own} {end} {least} after m known on h some up =
-      let x = place l j ((placing shop w).steps j)
+      let x = position_of l j ((placing shop w).steps j)
       in let a = span_ahead kept.limits kept.laid w j fits kept.heads next_heads (left_stored kept j fits)
       (latest_end shop + 1) m h end next_small some up
       (let long = length-set rows.heads x 0 in let b = within m known in omega arith)

@@ -10,7 +10,7 @@ use Rattle.shop_states.specs.inner.Fills.{IsAtLeg, IsStored, CanFill, AreSameBes
 use Rattle.shop_states.{specs.inner.LaneHeads.AreHeadsAt, proofs.JobLegs.{IsLegOf, index_there, leg_is, leg_small}}
 use Rattle.shop_states.proofs.{JobLegs.{step_past, step_there}, RowTurns.open_turn}
 use Rattle.shop_layout.specs.{declared.legs.Leg.Leg, Legs.{all_legs, end_of, leg_index}, Positions.IsFree}
-use Rattle.shop_layout.{specs.Positions.{LayoutState, place}, proofs.LaidPlaces.place_of}
+use Rattle.shop_layout.{specs.Positions.{LayoutState, position_of}, proofs.LaidPositions.is_position_of}
 
 abbrev pub IsRested : List ℕ → Type 0
 IsRested heads = (q : ℕ) → get_or heads q 0 ≡ 0
@@ -32,7 +32,7 @@ pub record IsFilledUpTo (shop : Shop) (l : LayoutState) (s : PlacementState) (j 
   pub beside : AreSameBeside old now
   pub filled : (p : Placing) → IsPlacement shop p s → (t : ℕ) → IsOperation shop j t → t < k
       → IsStored shop p l old.heads now.heads j t
-  pub others : (q : ℕ) → ((t : ℕ) → IsOperation shop j t → place l j t ≡ q → ⊥)
+  pub others : (q : ℕ) → ((t : ℕ) → IsOperation shop j t → position_of l j t ≡ q → ⊥)
       → get_or now.heads q 0 ≡ get_or old.heads q 0
   pub ready_is : (p : Placing) → IsPlacement shop p s → ready ≡ ready_after shop p j (k - p.steps j)
 
@@ -40,10 +40,10 @@ module _ {greatest : ℕ} {shop : Shop} {l : LayoutState} {s : PlacementState} {
     (can : CanFill greatest shop l rows) {j : ℕ} (job : j < length shop.jobs) where
   -- the next step stands at position q
   module _ {k ready : ℕ} {now : Rows} (so_far : IsFilledUpTo shop l s j k ready rows now) (op : IsOperation shop j k)
-      {q : ℕ} (at : q ≡ place l j k) where
+      {q : ℕ} (at : q ≡ position_of l j k) where
     pub position_known : q < length now.heads
     position_known =
-        let within = (place_of shop can.limits l can.laid j k op).within
+        let within = (is_position_of shop can.limits l can.laid j k op).within
         in let b = can.positions in let c = so_far.beside.positions in omega arith
 
     -- the head of one step is written
@@ -53,9 +53,9 @@ module _ {greatest : ℕ} {shop : Shop} {l : LayoutState} {s : PlacementState} {
         → IsFilledUpTo shop l s j (k + 1) h rows new
     filled_more new v h wrote value =
         let heads : new.heads ≡ set now.heads q v = ap (λ (r : Rows). r.heads) wrote
-        in let mine : get_or new.heads (place l j k) 0 ≡ v =
-        ap (λ (xs : List ℕ). get_or xs (place l j k) 0) heads
-        ∙ get_or-set_at now.heads q (place l j k) v 0 (sym at) position_known
+        in let mine : get_or new.heads (position_of l j k) 0 ≡ v =
+        ap (λ (xs : List ℕ). get_or xs (position_of l j k) 0) heads
+        ∙ get_or-set_at now.heads q (position_of l j k) v 0 (sym at) position_known
         in let other : (r : ℕ) → (r ≡ q → ⊥) → get_or new.heads r 0 ≡ get_or now.heads r 0 =
         (λ r ne. ap (λ (xs : List ℕ). get_or xs r 0) heads ∙ get_or-set_other now.heads q r v 0 ne)
         in record {
@@ -63,11 +63,11 @@ module _ {greatest : ℕ} {shop : Shop} {l : LayoutState} {s : PlacementState} {
           filled = λ p is t op_t below. elim (cases_eq t k) [
             | inl f ↦ grind arith
             | inr ne ↦ (
-                let apart : place l j t ≡ q → ⊥ = (λ f. ne (
-                let a = place_of shop can.limits l can.laid j t op_t
-                in let b = place_of shop can.limits l can.laid j k op
+                let apart : position_of l j t ≡ q → ⊥ = (λ f. ne (
+                let a = is_position_of shop can.limits l can.laid j t op_t
+                in let b = is_position_of shop can.limits l can.laid j k op
                 in sym a.step ∙ (ap (λ (x : ℕ). get_or l.steps x 0) (f ∙ at) ∙ b.step)))
-                in let same = other (place l j t) apart
+                in let same = other (position_of l j t) apart
                 in let before = so_far.filled p is t op_t (omega arith)
                 in record {
                   waiting = λ opened. same ∙ before.waiting opened;
@@ -174,7 +174,7 @@ pub record AreFilledUpTo (shop : Shop) (l : LayoutState) (s : PlacementState) (n
   pub filled : (p : Placing) → IsPlacement shop p s → (j k : ℕ) → IsOperation shop j k → j < n
       → IsStored shop p l old.heads now.heads j k
   pub later : (j k : ℕ) → IsOperation shop j k → n ≤ j
-      → get_or now.heads (place l j k) 0 ≡ get_or old.heads (place l j k) 0
+      → get_or now.heads (position_of l j k) 0 ≡ get_or old.heads (position_of l j k) 0
   pub free : (q : ℕ) → IsFree shop l q → get_or now.heads q 0 ≡ get_or old.heads q 0
 
 module _ {greatest : ℕ} {shop : Shop} {l : LayoutState} {s : PlacementState} {rows : Rows}
@@ -182,10 +182,10 @@ module _ {greatest : ℕ} {shop : Shop} {l : LayoutState} {s : PlacementState} {
   pub jobs_more : {new : Rows} → HasFilledJob shop l s n now new → AreFilledUpTo shop l s (n + 1) rows new
   jobs_more {new} job =
       let same : (j k : ℕ) → IsOperation shop j k → (j ≡ n → ⊥)
-      → get_or new.heads (place l j k) 0 ≡ get_or now.heads (place l j k) 0 = (λ j k op ne.
-      job.others (place l j k) (λ t op_t f. ne (
-      let a = place_of shop can.limits l can.laid j k op
-      in let b = place_of shop can.limits l can.laid n t op_t
+      → get_or new.heads (position_of l j k) 0 ≡ get_or now.heads (position_of l j k) 0 = (λ j k op ne.
+      job.others (position_of l j k) (λ t op_t f. ne (
+      let a = is_position_of shop can.limits l can.laid j k op
+      in let b = is_position_of shop can.limits l can.laid n t op_t
       in sym a.job ∙ (ap (λ (x : ℕ). get_or l.jobs x 0) (sym f) ∙ b.job))))
       in record {
         beside = beside_both rows now new so_far.beside job.beside;
@@ -214,7 +214,7 @@ module _ {greatest : ℕ} {shop : Shop} {l : LayoutState} {s : PlacementState} {
       waiting = λ j k op opened. (let a = IsOperation-job shop j k op
           in (so_far.filled p is j k op (omega arith)).waiting opened);
       placed = λ j k op before. (let a = IsOperation-job shop j k op
-          in (so_far.filled p is j k op (omega arith)).placed before ∙ rested (place l j k));
+          in (so_far.filled p is j k op (omega arith)).placed before ∙ rested (position_of l j k));
       padding = λ q none. so_far.free q none ∙ rested q;
     };
   }

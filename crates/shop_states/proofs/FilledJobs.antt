@@ -6,9 +6,9 @@ use Rattle.shop_model.specs.{Placements.{PlacementState, IsPlacement}, Shop.{IsO
 use Rattle.shop_model.{specs.Word.placing, proofs.Unders.after_word}
 use Rattle.shop_bound.specs.Conflicts.{next_end}
 use Rattle.shop_layout.specs.{declared.legs.Leg.Leg, Legs.{all_legs, end_of, leg_index}}
-use Rattle.shop_layout.specs.Positions.{LayoutState, first_position, place_or}
+use Rattle.shop_layout.specs.Positions.{LayoutState, first_position, position_or}
 use Rattle.shop_states.specs.inner.{Fills.{CanFill, IsAtLeg, IsNextSet}, PlacedNexts.IsWordAt}
-use Rattle.shop_states.proofs.JobLegs.{leg_is, position_or, step_past, step_there}
+use Rattle.shop_states.proofs.JobLegs.{leg_is, leg_position_is, step_past, step_there}
 use Rattle.shop_states.proofs.PlacedNexts.{of_word_at, placement_at, placement_is, steps_are}
 
 -- the next operations of the first n jobs are told, and their ends were set
@@ -16,7 +16,8 @@ pub record AreNextsSet (shop : Shop) (l : LayoutState) (p : Placing) (n : ℕ)
     (old new ends_before ends_after : List ℕ) : Type 0 where
   pub jobs : length new ≡ length old
   pub long : length ends_after ≡ length ends_before
-  pub are : (j : ℕ) → j < n → get_or new j 0 ≡ place_or (first_position l shop.machines) l.places j (p.steps j)
+  pub are : (j : ℕ) → j < n
+      → get_or new j 0 ≡ position_or (first_position l shop.machines) l.step_positions j (p.steps j)
   pub later : (j : ℕ) → n ≤ j → get_or new j 0 ≡ get_or old j 0
   pub next : (j : ℕ) → j < n → IsOperation shop j (p.steps j) → get_or ends_after j 0 ≡ next_end shop p j + 1
   pub none : (j : ℕ) → (j < n → length (route_of shop j) ≤ p.steps j)
@@ -34,8 +35,8 @@ module _ {greatest : ℕ} {shop : Shop} {l : LayoutState} {rows : Rows} (can : C
   at_step : index ≡ leg_index l j (p.steps j)
   at_step = at.index_is ∙ ap (leg_index l j) (placed.steps j job)
 
-  position_is : leg.position ≡ place_or (first_position l shop.machines) l.places j (p.steps j)
-  position_is = position_or can.limits can.laid j job (p.steps j) within same at_step is
+  position_is : leg.position ≡ position_or (first_position l shop.machines) l.step_positions j (p.steps j)
+  position_is = leg_position_is can.limits can.laid j job (p.steps j) within same at_step is
 
   -- a job at the end of its route has none
   pub none_left : n ≤ leg.position → {ends : List ℕ} → IsNextSet shop l p j leg.position ends ends

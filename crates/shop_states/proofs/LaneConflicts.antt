@@ -10,10 +10,10 @@ use Rattle.shop_bound.specs.Conflicts.{open_jobs, next_machine, next_head, next_
 use Rattle.shop_bound.specs.Heads.{head_of, ready_after}
 use Rattle.shop_states.specs.inner.{LaneChoices.{AreEndsAt, AreNextsAt, IsJobBelow}, Raises.{HasBlocks, IsOnMachine}}
 use Rattle.shop_states.specs.inner.RisingLists.{IsIn, Rises, IsGatheredWith}
-use Rattle.shop_states.proofs.NextOperations.{next_is, next_placed, next_there, stored_end, stored_head}
+use Rattle.shop_states.proofs.NextOperations.{next_is, nexts_own, next_there, stored_end, stored_head}
 use Rattle.shop_states.proofs.{RaisedHeads.{each_waiting, has_blocks}, RisingLists.{none_in, one_rising}}
-use Rattle.shop_layout.specs.Positions.{LayoutState, place, first_position}
-use Rattle.shop_layout.proofs.LaidPlaces.{on_machine, place_of}
+use Rattle.shop_layout.specs.Positions.{LayoutState, position_of, first_position}
+use Rattle.shop_layout.proofs.LaidPositions.{on_machine, is_position_of}
 
 -- all that the choice by lanes stands on
 pub record AreChoosable (greatest : ℕ) (shop : Shop) (p : Placing) (l : LayoutState) (nexts : List ℕ)
@@ -137,8 +137,8 @@ module _ {shop : Shop} {p : Placing} {l : LayoutState} {nexts : List ℕ} {rows 
         in elim (cases_lt (p.steps i) k) [
           | inl later ↦ grind (arith, later_head)
           | inr same ↦ (let e : k ≡ p.steps i = omega arith in let here = subst (IsOperation shop i) e op
-              in rw (place_of shop can.limits l can.laid i k op).job
-              (here, next_there can i here ∙ ap (place l i) (sym e)))
+              in rw (is_position_of shop can.limits l can.laid i k op).job
+              (here, next_there can i here ∙ ap (position_of l i) (sym e)))
         ]) q waits below
 
     to_next : (among : ℕ → Type 0) (j : ℕ) → IsJobBelow l rows.heads among limit j
@@ -164,7 +164,7 @@ module _ {shop : Shop} {p : Placing} {l : LayoutState} {nexts : List ℕ} {rows 
           there = is.there;
           waits = is.waits;
           below = is.below;
-          job = (next_placed can).own j is.job here;
+          job = (nexts_own can).own j is.job here;
         }
 
   module _ (r : ℕ) (op : IsOperation shop r (p.steps r)) where
@@ -199,7 +199,7 @@ module _ {shop : Shop} {p : Placing} {l : LayoutState} {nexts : List ℕ} {rows 
           in let at = next_there can i o
           in let many = can.are.jobs
           in let head = stored_head can i o
-          in let stands = place_of shop can.limits l can.laid i (p.steps i) o
+          in let stands = is_position_of shop can.limits l can.laid i (p.steps i) o
           in let its : machine_of shop i (p.steps i) ≡ m = machine ∙ sym on
           in let first : first_position l (machine_of shop i (p.steps i)) ≡ first_position l m = ap (first_position l)
           its
@@ -238,7 +238,7 @@ module _ {greatest : ℕ} {shop : Shop} {p : Placing} {l : LayoutState} {nexts :
     none_left : (n : ℕ) → n ≡ length l.jobs → n ≤ get_or nexts r 0 → length (route_of shop r) ≤ p.steps r
     none_left n many past = elim (cases_lt (p.steps r) (length (route_of shop r))) [
       | inl op ↦ absurd (let at = next_there can.at r op
-          in let a = (place_of shop can.at.limits l can.at.laid r (p.steps r) op).within
+          in let a = (is_position_of shop can.at.limits l can.at.laid r (p.steps r) op).within
           in let b = can.at.heads.positions in let d = as_many in omega arith)
       | inr done ↦ done
     ]
@@ -267,13 +267,13 @@ module _ {greatest : ℕ} {shop : Shop} {p : Placing} {l : LayoutState} {nexts :
         let position = get_or nexts r 0
         in let here : position < length rows.heads = (let a = as_many in omega arith)
         in let op = next_is can.at r chosen_job here
-        in let at : position ≡ place l r (p.steps r) = next_there can.at r op
-        in let stands = place_of shop can.at.limits l can.at.laid r (p.steps r) op
+        in let at : position ≡ position_of l r (p.steps r) = next_there can.at r op
+        in let stands = is_position_of shop can.at.limits l can.at.laid r (p.steps r) op
         in let from = stands.from in let to = stands.to
         in let known = can.at.limits.on_machines r (p.steps r)
         in let machine : get_or l.machines position 0 ≡ machine_of shop r (p.steps r) =
         ap (λ (x : ℕ). get_or l.machines x 0) at
-        ∙ can.at.laid.machines_at.at (machine_of shop r (p.steps r)) (place l r (p.steps r)) known (omega arith)
+        ∙ can.at.laid.machines_at.at (machine_of shop r (p.steps r)) (position_of l r (p.steps r)) known (omega arith)
         (omega arith)
         in let end = stored_end can.at r op
         in record {

@@ -8,8 +8,8 @@ use Rattle.shop_layout.specs.{HeadLimits.FitsLanes, Positions.{LayoutState, firs
 use Rattle.shop_layout.proofs.LatestEnds.{latest_end_is}
 use Rattle.shop_states.specs.inner.{LaneChoices.{AreEndsAt, AreNextsAt, AreNextsOf}, LaneStates.AreHeadsInLanes}
 use Rattle.shop_states.specs.inner.{LaneEnds.{end_at, CanKeepEnds, IsEndOf}, Raises.AreFirst}
-use Rattle.shop_states.proofs.{Followed.place_past, RaisedHeads.indexed, RaiseWalks.{apart, place_within}}
-use Rattle.shop_states.proofs.NextOperations.{head_first, next_is, next_placed, next_there, next_within, stored_end}
+use Rattle.shop_states.proofs.{Followed.position_or-past, RaisedHeads.indexed, RaiseWalks.{apart, position_below}}
+use Rattle.shop_states.proofs.NextOperations.{head_first, next_is, nexts_own, next_there, next_within, stored_end}
 
 -- the ends of all jobs are as they are to be
 abbrev pub AreEndsOf : ℕ → List ℕ → Rows → Type 0
@@ -48,11 +48,11 @@ module _ {greatest : ℕ} {shop : Shop} {w : List ℕ} {l : LayoutState} {rows :
   -- what stands before a next operation on its route is placed
   pub next_first : AreFirst l nexts rows.heads
   next_first = record {
-    own = (next_placed nexts_at).own;
+    own = (nexts_own nexts_at).own;
     first = λ j i k known more at.
         let ix = indexed kept.limits kept.laid kept.heads.positions
         in let many = are.jobs
-        in let a = place_within ix i (k + 1) more
+        in let a = position_below ix i (k + 1) more
         in let op = next_is nexts_at j (omega arith) (omega arith)
         in let route = kept.laid.routes j
         in let same = apart ix i (k + 1) j (p.steps j) more (omega arith) (at ∙ next_there nexts_at j op)
@@ -68,11 +68,11 @@ module _ {greatest : ℕ} {shop : Shop} {w : List ℕ} {l : LayoutState} {rows :
   module _ (as_many : length rows.ends ≡ length shop.jobs) where
     pub can_keep : CanKeepEnds greatest l nexts rows
     can_keep = record {
-      placed = next_placed nexts_at;
+      nexts_own = nexts_own nexts_at;
       within = λ j known. elim (cases_lt (p.steps j) (length (route_of shop j))) [
         | inl op ↦ (let a = next_within nexts_at j op in omega arith)
         | inr past ↦ (let many = are.jobs in let route = kept.laid.routes j
-            in let none = place_past l (first_position l shop.machines) j (p.steps j) (omega arith)
+            in let none = position_or-past l (first_position l shop.machines) j (p.steps j) (omega arith)
             in let is = are.are j (omega arith) in let positions = kept.heads.positions in omega arith)
       ];
       timed = kept.laid.positions.times ∙ sym kept.heads.positions;

@@ -6,7 +6,7 @@ use Rattle.shop_lanes.proofs.{AnyOrder.greatest-by_columns, LaneLists.{lanes-blo
 use Rattle.shop_model.specs.{Limits.IsWithinLimits, Shop.Shop}
 use Rattle.shop_bound.specs.OneMachine.{greatest_of}
 use Rattle.shop_layout.specs.{HeadLimits.{latest_end, FitsLanes}, Lanes.lanes_on, Positions.{LayoutState, IsLaidOut}}
-use Rattle.shop_layout.{specs.Positions.first_position, proofs.{ColumnSums.sum_by_columns, LaidPlaces.machines_rise}}
+use Rattle.shop_layout.{specs.Positions.first_position, proofs.{ColumnSums.sum_by_columns, LaidPositions.machines_rise}}
 
 -- each machine has its blocks, and a span from `top` on at the latest fits
 pub record AreSpansFit (greatest top machines : ℕ) (l : LayoutState) (rows : Rows) : Type 0 where

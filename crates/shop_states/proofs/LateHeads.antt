@@ -5,8 +5,8 @@ use Rattle.std.proofs.Common.{◌∙◌, ap, subst, arith, cond, ltb}
 use Rattle.std.proofs.lemmas.Bool.{cases_eq, cases_lt, eq-eqb, le-ltb, lt-ltb, ne_eqb}
 use Rattle.shop_lanes.specs.Rows.{Rows}
 use Rattle.shop_model.specs.{Shop.{Shop, IsOperation, machine_of}, Word.{IsWord, place_next, placing}}
-use Rattle.shop_layout.specs.{HeadLimits.latest_end, Lanes.rows_of, Positions.{LayoutState, first_position, place}}
-use Rattle.shop_layout.proofs.LaidPlaces.{place_of}
+use Rattle.shop_layout.specs.{HeadLimits.latest_end, Lanes.rows_of}
+use Rattle.shop_layout.{specs.Positions.{LayoutState, first_position, position_of}, proofs.LaidPositions.is_position_of}
 use Rattle.shop_states.specs.declared.{late_raises.Latest.Latest, states.Candidate.Candidate}
 use Rattle.shop_states.specs.inner.{LaneHeads.AreHeadsAt, LaneStates.IsKeptInLanes, Watchers.floor_on}
 use Rattle.shop_states.specs.inner.Raises.{AreInRouteOrder, AsksNext, AsksOwn, IsInBlocks, IsOnMachine}
@@ -17,7 +17,7 @@ use Rattle.shop_states.proofs.{AdvanceSteps.end_small, Candidates.head_is, Child
 use Rattle.shop_states.proofs.{ChildReads.{head_here, is_operation}, StateSteps.{next_at, next_known, within}}
 use Rattle.shop_states.proofs.ChildTargets.{child_fits, child_head, child_raised, child_small, heads_least, struck_here}
 use Rattle.shop_states.proofs.ChildTargets.{struck_low, struck_order, struck_other}
-use Rattle.shop_states.proofs.RaisedHeads.{fits_at, in_order, operation_in, raisable_to, waits_place}
+use Rattle.shop_states.proofs.RaisedHeads.{fits_at, in_order, operation_in, raisable_to, waits_at_step}
 
 module _ {greatest : ℕ} {shop : Shop} {w : List ℕ} {l : LayoutState} {hs es nexts : List ℕ}
     (kept : IsKeptInLanes greatest shop w l (rows_of l hs es) nexts) {cs : List Candidate}
@@ -27,8 +27,8 @@ module _ {greatest : ℕ} {shop : Shop} {w : List ℕ} {l : LayoutState} {hs es 
     pub its_word : IsWord shop (w ++ j ∷ [])
     its_word = subst (λ (i : ℕ). IsWord shop (w ++ i ∷ [])) among.is (siblings.fits among.at among.within)
 
-    pub its_place : get_or nexts j 0 ≡ place l j ((placing shop w).steps j)
-    its_place = next_at j kept its_word refl
+    pub its_position_is : get_or nexts j 0 ≡ position_of l j ((placing shop w).steps j)
+    its_position_is = next_at j kept its_word refl
 
     -- its end, and one higher
     pub its_end : end_by hs l.times nexts j
@@ -41,7 +41,7 @@ module _ {greatest : ℕ} {shop : Shop} {w : List ℕ} {l : LayoutState} {hs es 
       position = within j kept its_word refl;
       timed = (let a = within j kept its_word refl in let b = kept.kept.laid.positions.times
           in let c = kept.kept.heads.positions in omega arith);
-      fits = (end_small j kept.kept its_word its_place refl refl).1;
+      fits = (end_small j kept.kept its_word its_position_is refl refl).1;
       computable = kept.kept.computable;
     }
 
@@ -87,22 +87,23 @@ module _ {greatest : ℕ} {shop : Shop} {w : List ℕ} {l : LayoutState} {hs es 
     last_waits : 0 < get_or hs last 0
     last_waits =
         let a = head_here kept.kept t.job (its_word latest.last)
-        in let b = ap (λ (q : ℕ). get_or hs q 0) (its_place latest.last) in omega arith
+        in let b = ap (λ (q : ℕ). get_or hs q 0) (its_position_is latest.last) in omega arith
 
     its_operation : {j : ℕ} → (among : IsAmong cs j) → IsOperation shop j ((placing shop w).steps j)
     its_operation {j} among = is_operation kept.kept j (its_word among)
 
     -- its position is one of the machine
     on_its : (m : ℕ) → m ≡ machine → IsOnMachine l m last
-    on_its m is = grind (arith, place_of, its_operation, its_place)
+    on_its m is = grind (arith, is_position_of, its_operation, its_position_is)
 
     -- jobs apart stand apart
-    apart : (j : ℕ) → IsAmong cs j → (j ≡ t.job → ⊥) → last ≡ place l j ((placing shop w).steps j) → ⊥
+    apart : (j : ℕ) → IsAmong cs j → (j ≡ t.job → ⊥) → last ≡ position_of l j ((placing shop w).steps j) → ⊥
     apart j among differs same =
-        let a = place_of shop kept.kept.limits l kept.kept.laid t.job ((placing shop w).steps t.job)
+        let a = is_position_of shop kept.kept.limits l kept.kept.laid t.job ((placing shop w).steps t.job)
         (its_operation latest.last)
-        in let b = place_of shop kept.kept.limits l kept.kept.laid j ((placing shop w).steps j) (its_operation among)
-        in differs (sym b.job ∙ (ap (λ (q : ℕ). get_or l.jobs q 0) (sym same ∙ its_place latest.last) ∙ a.job))
+        in let b = is_position_of shop kept.kept.limits l kept.kept.laid j ((placing shop w).steps j)
+        (its_operation among)
+        in differs (sym b.job ∙ (ap (λ (q : ℕ). get_or l.jobs q 0) (sym same ∙ its_position_is latest.last) ∙ a.job))
 
     -- the child's by the candidate that ends last of the others
     other_beside : (j : ℕ) → (among : IsAmong cs j) → (j ≡ t.job → ⊥) → t.second ≡ end_by hs l.times nexts j
@@ -144,17 +145,17 @@ module _ {greatest : ℕ} {shop : Shop} {w : List ℕ} {l : LayoutState} {hs es 
     module _ {from to : ℕ} (from_is : from ≡ get_or l.blocks machine 0)
         (to_is : to ≡ get_or l.blocks (machine + 1) 0) where
       last_raised : IsRaised l (IsOnMachine l machine) (AsksOwn t.end)
-          (at_in (set hs (place l t.job ((placing shop w).steps t.job)) 0)) of_last
+          (at_in (set hs (position_of l t.job ((placing shop w).steps t.job)) 0)) of_last
       unfolding of_last
       last_raised = subst (λ (e : ℕ). IsRaised l (IsOnMachine l machine) (AsksOwn e)
-          (at_in (set hs (place l t.job ((placing shop w).steps t.job)) 0))
+          (at_in (set hs (position_of l t.job ((placing shop w).steps t.job)) 0))
           (child_head kept.kept t.job (its_word latest.last)))
           (sym (latest.end ∙ its_end latest.last)) (child_raised kept.kept t.job (its_word latest.last))
 
       -- what waits elsewhere than at its position
       waits_there : (q : ℕ) → (q ≡ last → ⊥)
-          → get_or (set hs (place l t.job ((placing shop w).steps t.job)) 0) q 0 ≡ get_or hs q 0
-      waits_there q ne = search (rules, struck_other, its_word, its_place)
+          → get_or (set hs (position_of l t.job ((placing shop w).steps t.job)) 0) q 0 ≡ get_or hs q 0
+      waits_there q ne = search (rules, struck_other, its_word, its_position_is)
 
       late_rises : (q : ℕ) → get_or hs q 0 ≤ late_head q
       unfolding late_head
@@ -162,7 +163,7 @@ module _ {greatest : ℕ} {shop : Shop} {w : List ℕ} {l : LayoutState} {hs es 
 
       late_order : AreInRouteOrder l late_head
       unfolding late_head
-      late_order j k two some = elim (cases_lt 0 (of_last (place l j k))) [
+      late_order j k two some = elim (cases_lt 0 (of_last (position_of l j k))) [
         | inl first ↦ grind (arith, last_raised, cases_lt, beside)
         | inr none ↦ (let y = beside.1.order j k two (omega arith) in omega arith)
       ]
@@ -188,7 +189,7 @@ module _ {greatest : ℕ} {shop : Shop} {w : List ℕ} {l : LayoutState} {hs es 
         order = late_order;
         reach = λ p q v here asked waits.
             let up = late_rises p
-            in reach_next late_head late_order (waits_place kept.kept.limits kept.kept.laid kept.kept.heads p waits)
+            in reach_next late_head late_order (waits_at_step kept.kept.limits kept.kept.laid kept.kept.heads p waits)
             (omega arith) (free_low p here waits) asked;
       }
 
@@ -220,31 +221,34 @@ module _ {greatest : ℕ} {shop : Shop} {w : List ℕ} {l : LayoutState} {hs es 
         -- no head of a child is higher, but on the machine up to the end of its own operation
         module _ {j : ℕ} (among : IsAmong cs j) where
           child_other : ℕ → ℕ
-          child_other q = cond {A = ℕ} (ltb 0 (get_or (set hs (place l j ((placing shop w).steps j)) 0) q 0))
+          child_other q = cond {A = ℕ} (ltb 0 (get_or (set hs (position_of l j ((placing shop w).steps j)) 0) q 0))
               (max (get_or now.heads q 0) (floor_on machine (end_by hs l.times nexts j) (get_or l.machines q 0))) 0
 
-          other_some : (q : ℕ) → 0 < get_or (set hs (place l j ((placing shop w).steps j)) 0) q 0 → child_other q
+          other_some : (q : ℕ) → 0 < get_or (set hs (position_of l j ((placing shop w).steps j)) 0) q 0 → child_other q
               ≡ max (get_or now.heads q 0) (floor_on machine (end_by hs l.times nexts j) (get_or l.machines q 0))
           unfolding child_other
-          other_some q some = rw (lt-ltb 0 (get_or (set hs (place l j ((placing shop w).steps j)) 0) q 0) some) refl
+          other_some q some =
+              rw (lt-ltb 0 (get_or (set hs (position_of l j ((placing shop w).steps j)) 0) q 0) some) refl
 
-          other_none : (q : ℕ) → get_or (set hs (place l j ((placing shop w).steps j)) 0) q 0 ≡ 0 → child_other q ≡ 0
+          other_none : (q : ℕ) → get_or (set hs (position_of l j ((placing shop w).steps j)) 0) q 0 ≡ 0
+              → child_other q ≡ 0
           unfolding child_other
           other_none q none = grind (arith, le-ltb)
 
-          struck_some : (q : ℕ) → 0 < child_other q → 0 < get_or (set hs (place l j ((placing shop w).steps j)) 0) q 0
+          struck_some : (q : ℕ) → 0 < child_other q
+              → 0 < get_or (set hs (position_of l j ((placing shop w).steps j)) 0) q 0
           struck_some q some = grind (arith, cases_eq, other_none)
 
           -- what waits on the machine is raised behind its end
           delayed : (i k : ℕ) → k + 1 < steps_of l i
-              → 0 < get_or (set hs (place l j ((placing shop w).steps j)) 0) (place l i k) 0
-              → floor_on machine (end_by hs l.times nexts j) (get_or l.machines (place l i k) 0)
-              + get_or l.times (place l i k) 0 ≤ get_or now.heads (place l i (k + 1)) 0
+              → 0 < get_or (set hs (position_of l j ((placing shop w).steps j)) 0) (position_of l i k) 0
+              → floor_on machine (end_by hs l.times nexts j) (get_or l.machines (position_of l i k) 0)
+              + get_or l.times (position_of l i k) 0 ≤ get_or now.heads (position_of l i (k + 1)) 0
           delayed i k two some =
-              let q = place l i k
+              let q = position_of l i k
               in let op = operation_in kept.kept.limits kept.kept.laid i (k + 1) two
               in let op_k : IsOperation shop i k = omega arith
-              in let at = place_of shop kept.kept.limits l kept.kept.laid i k op_k
+              in let at = is_position_of shop kept.kept.limits l kept.kept.laid i k op_k
               in let low = struck_low kept.kept j (its_word among) q
               in let rises = raises.raised.raised.rises q
               in let order = raises.raised.raised.order i k two (omega arith)
@@ -261,7 +265,7 @@ module _ {greatest : ℕ} {shop : Shop} {w : List ℕ} {l : LayoutState} {hs es 
                     in let from' = at.from in let to' = at.to
                     in let ends : end_by hs l.times nexts (job_at cs among.at) ≡ end_by hs l.times nexts j =
                     ap (end_by hs l.times nexts) among.is
-                    in let late = raises.raised.raised.reach q (place l i (k + 1))
+                    in let late = raises.raised.raised.reach q (position_of l i (k + 1))
                     (free_late last t q + get_or l.times q 0) (omega arith, omega arith) (record {
                       more = rw (at.job, at.step) two;
                       next = rw (at.job, at.step) refl;
@@ -272,8 +276,8 @@ module _ {greatest : ℕ} {shop : Shop} {w : List ℕ} {l : LayoutState} {hs es 
                           in let each = latest.each among.at among.within in omega arith)
                       | inl is ↦ (let free = free_last last t is refl
                           in let differs : job_at cs among.at ≡ t.job → ⊥ = λ same. (
-                          let here : q ≡ place l j ((placing shop w).steps j) = is ∙ (its_place latest.last
-                          ∙ ap (λ (x : ℕ). place l x ((placing shop w).steps x)) (sym same ∙ among.is))
+                          let here : q ≡ position_of l j ((placing shop w).steps j) = is ∙ (its_position_is latest.last
+                          ∙ ap (λ (x : ℕ). position_of l x ((placing shop w).steps x)) (sym same ∙ among.is))
                           in let none = struck_here kept.kept j (its_word among) q here in omega arith)
                           in let other = latest.others among.at among.within differs in omega arith)
                     ])
@@ -281,21 +285,22 @@ module _ {greatest : ℕ} {shop : Shop} {w : List ℕ} {l : LayoutState} {hs es 
 
           other_raised : IsRaised l (IsOnMachine l (machine_of shop j ((placing shop w).steps j)))
               (AsksOwn ((place_next shop (placing shop w) j).free (machine_of shop j ((placing shop w).steps j)) + 1))
-              (at_in (set hs (place l j ((placing shop w).steps j)) 0)) child_other
+              (at_in (set hs (position_of l j ((placing shop w).steps j)) 0)) child_other
           other_raised = record {
-            rises = λ q. elim (cases_lt 0 (get_or (set hs (place l j ((placing shop w).steps j)) 0) q 0)) [
+            rises = λ q. elim (cases_lt 0 (get_or (set hs (position_of l j ((placing shop w).steps j)) 0) q 0)) [
               | inl some ↦ (let is = other_some q some in let low = struck_low kept.kept j (its_word among) q
                   in let rises = raises.raised.raised.rises q in omega arith)
               | inr none ↦ omega arith
             ];
             rests = other_none;
             order = λ i k two some.
-                let waits = struck_some (place l i k) some
+                let waits = struck_some (position_of l i k) some
                 in let next = struck_order kept.kept j (its_word among) i k two waits
-                in let a = other_some (place l i k) waits in let b = other_some (place l i (k + 1)) (omega arith)
+                in let a = other_some (position_of l i k) waits
+                in let b = other_some (position_of l i (k + 1)) (omega arith)
                 in let late = delayed i k two waits
-                in let low = struck_low kept.kept j (its_word among) (place l i k)
-                in let rises = raises.raised.raised.rises (place l i k)
+                in let low = struck_low kept.kept j (its_word among) (position_of l i k)
+                in let rises = raises.raised.raised.rises (position_of l i k)
                 in let order = raises.raised.raised.order i k two (omega arith)
                 in omega arith;
             reach = reach_own (λ q here some.

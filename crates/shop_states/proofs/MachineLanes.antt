@@ -6,9 +6,9 @@ use Rattle.shop_lanes.{specs.Rows.{Lane, lanes, lanes_of, blocks}, proofs.Column
 use Rattle.shop_lanes.proofs.LaneLists.{lane_at, length-lanes, length-blocks}
 use Rattle.shop_model.specs.{Limits.IsWithinLimits, Shop.{Shop, route_of, machine_of, IsOperation}, Word.Placing}
 use Rattle.shop_model.proofs.Ends.{IsOperation-job}
-use Rattle.shop_layout.specs.{declared.slots.Slot.Slot, Slots.slot_at, Positions.{LayoutState, IsLaidOut, place}}
+use Rattle.shop_layout.specs.{declared.slots.Slot.Slot, Slots.slot_at, Positions.{LayoutState, IsLaidOut, position_of}}
 use Rattle.shop_layout.{specs.Positions.{first_position, position_at_rank}, proofs.SlotFacts.slots_are_operations}
-use Rattle.shop_layout.proofs.{SlotFacts.slots_are_all, LaidPlaces.machines_rise, Ranks.{position_within, same_rank}}
+use Rattle.shop_layout.proofs.{SlotFacts.slots_are_all, LaidPositions.machines_rise, Ranks.{position_within, same_rank}}
 use Rattle.shop_bound.specs.declared.triples.Triple.{Triple}
 use Rattle.shop_states.{specs.inner.LaneHeads.{AreHeadsAt, AreStored}, proofs.LaneSpans.{AreMatched, nothing, empty}}
 use Rattle.shop_states.proofs.{LaneSpans.{matched, IsLaneOf}, LeftSlots.{is_left, triple_of, left_of, left_for}}
@@ -52,7 +52,7 @@ module _ {shop : Shop} (limits : IsWithinLimits shop) {l : LayoutState} (laid : 
   -- where an operation stands among those of its machine
   pub record HasIndex (j k m i : ℕ) : Type 0 where
     pub below : i < length (slots_of m)
-    pub place : place l j k ≡ position_at_rank l.blocks m i
+    pub position : position_of l j k ≡ position_at_rank l.blocks m i
 
   pub index_of : (j k : ℕ) → IsOperation shop j k → (i : ℕ) × HasIndex j k (machine_of shop j k) i
   index_of j k op =
@@ -61,20 +61,21 @@ module _ {shop : Shop} (limits : IsWithinLimits shop) {l : LayoutState} (laid : 
       in let c = slots_are_all shop m (slots_of m) (laid.are.slots m known) j k (IsOperation-job shop j k op) op refl
       in let s = slot_at (route_of shop j) j k
       in let at = (laid.each m known).at c.0 s c.1
-      in let there : place l j k ≡ place l (get_or (slots_of m) c.0 s).job (get_or (slots_of m) c.0 s).step =
-      ap (λ (x : Slot). place l x.job x.step) (sym c.2)
-      in (c.0, record { below = c.1; place = there ∙ at.place })
+      in let there : position_of l j k
+      ≡ position_of l (get_or (slots_of m) c.0 s).job (get_or (slots_of m) c.0 s).step =
+      ap (λ (x : Slot). position_of l x.job x.step) (sym c.2)
+      in (c.0, record { below = c.1; position = there ∙ at.position })
 
   -- at the ranks behind a machine's operations nothing stands
   pub none_behind : (m r : ℕ) → m < shop.machines → length (slots_of m) ≤ r
       → first_position l m + r < first_position l (m + 1) → (j k : ℕ) → IsOperation shop j k
-      → place l j k ≡ position_at_rank l.blocks m r → ⊥
+      → position_of l j k ≡ position_at_rank l.blocks m r → ⊥
   none_behind m r known behind before j k op e =
       let n = machine_of shop j k
       in let other = limits.on_machines j k
       in let i = index_of j k op
       in let below = i.1.below
-      in let there = i.1.place
+      in let there = i.1.position
       in let room = (laid.each n other).room
       in let its = position_within l.blocks n i.0 (omega arith)
       in let at = position_within l.blocks m r before

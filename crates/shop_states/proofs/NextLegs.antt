@@ -3,8 +3,8 @@ use Rattle.std.proofs.Common.{◌≡◌, ℕ, ◌+◌, ◌≤◌, ◌<◌, inl, 
 use Rattle.std.proofs.lemmas.{Bool.{cases_lt, lt-ltb, le-ltb}, Grind.get_or-set_at}
 use Rattle.std.proofs.lemmas.List.{get_or_default, get_or_past, length-set}
 use Rattle.shop_layout.specs.{declared.legs.Leg.Leg, Legs.{all_legs, end_of, leg_index}, Lanes.rows_of}
-use Rattle.shop_layout.{specs.Positions.{LayoutState, place_behind}, proofs.RouteLegs.index_known}
-use Rattle.shop_states.specs.inner.{LaneEnds.{CanKeepEnds, end_at}, Raises.{IsPlace, steps_of}}
+use Rattle.shop_layout.{specs.Positions.{LayoutState, position_behind}, proofs.RouteLegs.index_known}
+use Rattle.shop_states.specs.inner.{LaneEnds.{CanKeepEnds, end_at}, Raises.{IsStepPosition, steps_of}}
 use Rattle.shop_states.proofs.Followed.{leg_position, leg_time}
 
 -- the head where a leg stands, or the greatest number at the end of a route, plus the leg's time is an end
@@ -14,7 +14,7 @@ pub record IsNextEnd (greatest : ℕ) (hs : List ℕ) (leg : Leg) (end : ℕ) : 
   pub fits : end ≤ greatest
 
 -- the leg is read from rows that are those of the layout
-module _ {l read : LayoutState} (same : read ≡ l) {q : ℕ} (stands : IsPlace l q) {index : ℕ}
+module _ {l read : LayoutState} (same : read ≡ l) {q : ℕ} (stands : IsStepPosition l q) {index : ℕ}
     (at : index ≡ leg_index read (get_or read.jobs q 0) (get_or read.steps q 0 + 1)) where
   index_is : index ≡ leg_index l (get_or l.jobs q 0) (get_or l.steps q 0 + 1)
   index_is = at ∙ ap (λ (x : LayoutState). leg_index x (get_or x.jobs q 0) (get_or x.steps q 0 + 1)) same
@@ -32,11 +32,11 @@ module _ {l read : LayoutState} (same : read ≡ l) {q : ℕ} (stands : IsPlace 
     found = is ∙ (ap (λ (x : LayoutState). get_or (all_legs x) index (end_of 0)) same
         ∙ ap (λ (i : ℕ). get_or (all_legs l) i (end_of 0)) index_is)
 
-    pub next_position : leg.position ≡ place_behind l q
+    pub next_position : leg.position ≡ position_behind l q
     next_position = leg_position l stands.job within found
 
     module _ {greatest : ℕ} {hs es : List ℕ} (nexts : List ℕ) {job : ℕ} (known : job < length nexts)
-        (keep : CanKeepEnds greatest l (set nexts job (place_behind l q)) (rows_of l hs es)) where
+        (keep : CanKeepEnds greatest l (set nexts job (position_behind l q)) (rows_of l hs es)) where
       can : CanKeepEnds greatest l (set nexts job leg.position) (rows_of l hs es)
       can = rw next_position keep
 
@@ -45,7 +45,7 @@ module _ {l read : LayoutState} (same : read ≡ l) {q : ℕ} (stands : IsPlace 
 
       time : leg.time ≡ get_or l.times leg.position 0
       time = leg_time l stands.job within found
-          (let positions = keep.placed.positions in let timed = keep.timed in omega arith)
+          (let positions = keep.nexts_own.positions in let timed = keep.timed in omega arith)
 
       pub next_end : IsNextEnd greatest hs leg (end_at greatest (set nexts job leg.position) (rows_of l hs es) job)
       next_end = record {

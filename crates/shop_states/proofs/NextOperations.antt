@@ -4,8 +4,8 @@ use Rattle.std.proofs.lemmas.Bool.{cases_lt}
 use Rattle.shop_lanes.specs.Rows.{Rows}
 use Rattle.shop_model.{specs.{Shop.{Shop, IsOperation, time_of}, Word.Placing}, proofs.Ends.IsOperation-job}
 use Rattle.shop_bound.specs.{Conflicts.{next_end, next_head}, Heads.head_of}
-use Rattle.shop_layout.{specs.Positions.{LayoutState, first_position, place}, proofs.LaidPlaces.place_of}
-use Rattle.shop_states.{specs.inner.LaneChoices.{AreNextPlaced, AreNextsAt}, proofs.Followed.place_there}
+use Rattle.shop_layout.{specs.Positions.{LayoutState, first_position, position_of}, proofs.LaidPositions.is_position_of}
+use Rattle.shop_states.{specs.inner.LaneChoices.{AreNextsOwn, AreNextsAt}, proofs.Followed.position_or-there}
 
 -- the head of a next operation
 pub head_first : (shop : Shop) (p : Placing) (j : ℕ) → head_of shop p j (p.steps j) ≡ next_head shop p j
@@ -14,25 +14,25 @@ head_first shop p j = grind arith
 module _ {shop : Shop} {p : Placing} {l : LayoutState} {nexts : List ℕ} {rows : Rows}
     (can : AreNextsAt shop p l nexts rows) where
   -- the next operation of a job, or none
-  pub next_there : (j : ℕ) → IsOperation shop j (p.steps j) → get_or nexts j 0 ≡ place l j (p.steps j)
+  pub next_there : (j : ℕ) → IsOperation shop j (p.steps j) → get_or nexts j 0 ≡ position_of l j (p.steps j)
   next_there j op =
       let route = can.laid.routes j
       in can.are.are j (IsOperation-job shop j (p.steps j) op)
-      ∙ place_there l (first_position l shop.machines) j (p.steps j) (omega arith)
+      ∙ position_or-there l (first_position l shop.machines) j (p.steps j) (omega arith)
 
   pub next_within : (j : ℕ) → IsOperation shop j (p.steps j) → get_or nexts j 0 < length rows.heads
-  next_within j op = search (rules, next_there, place_of)
+  next_within j op = search (rules, next_there, is_position_of)
 
   pub next_is : (j : ℕ) → j < length shop.jobs → get_or nexts j 0 < length rows.heads → IsOperation shop j (p.steps j)
   next_is j known below = grind (arith, cases_lt)
 
-  pub next_placed : AreNextPlaced l rows.heads nexts
-  next_placed = record {
+  pub nexts_own : AreNextsOwn l rows.heads nexts
+  nexts_own = record {
     positions = can.laid.positions.jobs ∙ sym can.heads.positions;
     jobs = λ q here. grind arith;
     own = λ j known here. (let many = can.are.jobs in let op = next_is j (omega arith) here
         in ap (λ (x : ℕ). get_or l.jobs x 0) (next_there j op)
-        ∙ (place_of shop can.limits l can.laid j (p.steps j) op).job);
+        ∙ (is_position_of shop can.limits l can.laid j (p.steps j) op).job);
   }
 
   -- its head, its time and its end
@@ -44,7 +44,7 @@ module _ {shop : Shop} {p : Placing} {l : LayoutState} {nexts : List ℕ} {rows 
       → get_or rows.times (get_or nexts j 0) 0 ≡ time_of shop j (p.steps j)
   stored_time j op = ap (λ (ts : List ℕ). get_or ts (get_or nexts j 0) 0) can.times
       ∙ (ap (λ (x : ℕ). get_or l.times x 0) (next_there j op)
-      ∙ (place_of shop can.limits l can.laid j (p.steps j) op).time)
+      ∙ (is_position_of shop can.limits l can.laid j (p.steps j) op).time)
 
   pub stored_end : (j : ℕ) → IsOperation shop j (p.steps j)
       → get_or rows.heads (get_or nexts j 0) 0 + get_or rows.times (get_or nexts j 0) 0 ≡ next_end shop p j + 1

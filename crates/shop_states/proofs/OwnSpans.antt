@@ -16,7 +16,8 @@ use Rattle.shop_states.proofs.{Candidates.{advancing, candidate_fits, foreseen_l
 use Rattle.shop_states.proofs.{ChildReads.{head_here, is_operation, machine_here}, LaneConflicts.in_filter}
 use Rattle.shop_states.proofs.{LaneFits.{AreSpansFit, spans_fit}, StateSteps.{next_at, next_known}}
 use Rattle.shop_layout.specs.{HeadLimits.latest_end, Lanes.{lanes_on, rows_of}, Positions.{IsLaidOut, LayoutState}}
-use Rattle.shop_layout.{specs.Positions.{first_position, place}, proofs.LaidPlaces.{each_position, place_of}}
+use Rattle.shop_layout.specs.Positions.{first_position, position_of}
+use Rattle.shop_layout.proofs.LaidPositions.{each_position, is_position_of}
 
 -- heads of one placing are one list
 module _ {shop : Shop} (limits : IsWithinLimits shop) {l : LayoutState} (laid : IsLaidOut shop l) (p : Placing)
@@ -85,11 +86,11 @@ module _ {greatest : ℕ} {shop : Shop} {w : List ℕ} {l : LayoutState} {heads 
     abbrev x : ℕ
     x = get_or nexts j 0
 
-    its_place : x ≡ place l j ((placing shop w).steps j)
-    its_place = next_at j kept fits refl
+    its_position_is : x ≡ position_of l j ((placing shop w).steps j)
+    its_position_is = next_at j kept fits refl
 
     pub its_machine : get_or l.machines (get_or nexts j 0) 0 ≡ next_machine shop (placing shop w) j
-    its_machine = search (rules, its_place, machine_here)
+    its_machine = search (rules, its_position_is, machine_here)
 
     -- the bound after it is no less
     own_low : max (lb shop w) (own_at l heads x - 1) ≤ lb shop (w ++ j ∷ [])
@@ -103,8 +104,8 @@ module _ {greatest : ℕ} {shop : Shop} {w : List ℕ} {l : LayoutState} {heads 
       fits = fits;
       adds = λ hs at.
           let same = same_heads kept.kept.limits kept.kept.laid (placing shop w) kept.kept.heads at
-          in adds ∙ (ap (λ (q : ℕ). max (lb shop w) (own_at l heads q - 1)) its_place
-          ∙ ap (λ (ks : List ℕ). max (lb shop w) (own_at l ks (place l j ((placing shop w).steps j)) - 1)) same);
+          in adds ∙ (ap (λ (q : ℕ). max (lb shop w) (own_at l heads q - 1)) its_position_is
+          ∙ ap (λ (ks : List ℕ). max (lb shop w) (own_at l ks (position_of l j ((placing shop w).steps j)) - 1)) same);
     }
 
     -- what a candidate is known by is what is foreseen
@@ -113,30 +114,30 @@ module _ {greatest : ℕ} {shop : Shop} {w : List ℕ} {l : LayoutState} {heads 
         → IsAdvancing greatest shop w l (rows_of l heads ends) given j least
     candidate_advancing own is given same bound bound_is least least_is =
         let a = is.adds heads kept.kept.heads
-        in let b = ap (λ (q : ℕ). own_at l heads q) its_place
+        in let b = ap (λ (q : ℕ). own_at l heads q) its_position_is
         in subst (λ (ns : List ℕ). IsAdvancing greatest shop w l (rows_of l heads ends) ns j least) (sym same)
         (advancing j kept fits refl refl bound_is (omega arith))
 
     its_head : 0 < get_or heads x 0
     its_head =
         let a = head_here kept.kept j fits
-        in let b = ap (λ (q : ℕ). get_or heads q 0) its_place in omega arith
+        in let b = ap (λ (q : ℕ). get_or heads q 0) its_position_is in omega arith
 
     -- among the positions of its machine
     module _ {m : ℕ} (m_is : get_or l.machines (get_or nexts j 0) 0 ≡ m) where
       its_from : 8 * get_or l.blocks m 0 ≤ x
       its_from =
-          let at = place_of shop kept.kept.limits l kept.kept.laid j ((placing shop w).steps j)
+          let at = is_position_of shop kept.kept.limits l kept.kept.laid j ((placing shop w).steps j)
           (is_operation kept.kept j fits)
-          in let a = at.from in let b = its_place
+          in let a = at.from in let b = its_position_is
           in let e : first_position l (machine_of shop j ((placing shop w).steps j)) ≡ first_position l m =
           ap (first_position l) (sym its_machine ∙ m_is) in omega arith
 
       its_to : x < 8 * get_or l.blocks (m + 1) 0
       its_to =
-          let at = place_of shop kept.kept.limits l kept.kept.laid j ((placing shop w).steps j)
+          let at = is_position_of shop kept.kept.limits l kept.kept.laid j ((placing shop w).steps j)
           (is_operation kept.kept j fits)
-          in let a = at.to in let b = its_place
+          in let a = at.to in let b = its_position_is
           in let e : first_position l (machine_of shop j ((placing shop w).steps j) + 1) ≡ first_position l (m + 1) =
           ap (λ (n : ℕ). first_position l (n + 1)) (sym its_machine ∙ m_is) in omega arith
 

@@ -88,7 +88,7 @@ still_raisable {l = l} can x left = record {
   machines = can.machines ∙ sym x.raised.positions;
   times = x.times ∙ can.times;
   timed = can.timed ∙ sym x.raised.positions;
-  places = λ q waits. can.places q (was_waiting x.raised q waits);
+  at_steps = λ q waits. can.at_steps q (was_waiting x.raised q waits);
   order = x.raised.raised.order;
   other = can.other;
   raised = left can.other can.raised;

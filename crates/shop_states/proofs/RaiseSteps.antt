@@ -3,10 +3,10 @@ use Rattle.std.proofs.Common.{◌≡◌, ℕ, ◌+◌, ◌≤◌, ◌<◌, List,
 use Rattle.std.proofs.lemmas.{Bool.cases_lt, List.{get_or_default, get_or_past}}
 use Rattle.shop_lanes.specs.Rows.{Rows, with_head}
 use Rattle.shop_layout.specs.{declared.legs.Leg.Leg, Legs.{all_legs, end_of, leg_index, leg_of}, Lanes.rows_of}
-use Rattle.shop_layout.specs.Positions.{place_or, LayoutState, place}
+use Rattle.shop_layout.specs.Positions.{position_or, LayoutState, position_of}
 use Rattle.shop_states.specs.inner.Raises.{AsksOwn, steps_of, IsPosition, IsRaisable, Raises}
 use Rattle.shop_layout.proofs.RouteLegs.{index_known, leg_here}
-use Rattle.shop_states.proofs.Followed.{leg_position, place_there}
+use Rattle.shop_states.proofs.Followed.{leg_position, position_or-there}
 use Rattle.shop_states.proofs.RaiseWalks.{IsRaisedUpTo, walk_begins, next_least, walk_on}
 
 -- one head of a state was replaced
@@ -31,7 +31,7 @@ module _ {greatest : ℕ} {l : LayoutState} {p e : ℕ} {old : Rows}
   begun below {new} wrote {t} {ready} next read sum = grind (arith, walk_begins)
 
   module _ {t ready : ℕ} {now : Rows} (so_far : IsWalking greatest l p e t ready old now)
-      (more : t < steps_of l (get_or l.jobs p 0)) {q : ℕ} (at : q ≡ place l (get_or l.jobs p 0) t) where
+      (more : t < steps_of l (get_or l.jobs p 0)) {q : ℕ} (at : q ≡ position_of l (get_or l.jobs p 0) t) where
     -- what is to be stored and added up there fits
     pub next_fits : (ready ≤ greatest) × (ready + get_or now.times q 0 ≤ greatest)
     next_fits =
@@ -39,8 +39,8 @@ module _ {greatest : ℕ} {l : LayoutState} {p e : ℕ} {old : Rows}
         in let a = next_least can.indexed p e i old.heads refl so_far.up_to can.other can.raised more
         in let some_time = so_far.up_to.waits
         in let sum = so_far.up_to.ready_is
-        in let b = can.fits (place l i t) (omega arith)
-        in let same : get_or now.times q 0 ≡ get_or l.times (place l i t) 0 =
+        in let b = can.fits (position_of l i t) (omega arith)
+        in let same : get_or now.times q 0 ≡ get_or l.times (position_of l i t) 0 =
         ap (λ (xs : List ℕ). get_or xs q 0) (so_far.times ∙ can.times) ∙ ap (λ (x : ℕ). get_or l.times x 0) at
         in (omega arith, omega arith)
 
@@ -69,7 +69,7 @@ module _ {greatest : ℕ} {l : LayoutState} {p e : ℕ} {old : Rows}
       → IsFollowing greatest l p e index ready old new
   begun_following below wrote at read sum = record {
     step = get_or l.steps p 0 + 1;
-    known = (let here = (can.places p some).step in omega arith);
+    known = (let here = (can.at_steps p some).step in omega arith);
     index_is = at;
     walking = begun can some below wrote refl read sum;
   }
@@ -83,25 +83,25 @@ module _ {greatest : ℕ} {l : LayoutState} {p e : ℕ} {old : Rows}
       read : leg ≡ get_or (all_legs l) (leg_index l job so_far.step) (end_of 0)
       read = is ∙ ap (λ (i : ℕ). get_or (all_legs l) i (end_of 0)) so_far.index_is
 
-      stands : leg.position ≡ place_or (length old.heads) l.places job so_far.step
-      stands = leg_position l (can.places p some).job so_far.known read
-          ∙ ap (λ (n : ℕ). place_or n l.places job so_far.step) can.indexed.jobs
+      stands : leg.position ≡ position_or (length old.heads) l.step_positions job so_far.step
+      stands = leg_position l (can.at_steps p some).job so_far.known read
+          ∙ ap (λ (n : ℕ). position_or n l.step_positions job so_far.step) can.indexed.jobs
 
       pub position_up_to : leg.position ≤ length now.heads
-      position_up_to = grind (arith, stands, cases_lt, place_there)
+      position_up_to = grind (arith, stands, cases_lt, position_or-there)
 
       -- what is ready next fits, since no raised head is above the least of those that do
       fitting : ready ≤ greatest
       fitting =
           let so = so_far.walking.up_to
-          in let q = place l job so.before
+          in let q = position_of l job so.before
           in let most = so.least can.other can.raised q in let waits = so.waits in let is = so.ready_is
           in let fits = can.fits q (omega arith) in omega arith
 
       module _ {head : ℕ} (looked : head ≡ get_or now.heads leg.position greatest) where
         -- it ends where the head is great enough, or at the end of the route
         pub ended_at : ready ≤ head → Raises greatest l [] (IsPosition p) (AsksOwn e) old now
-        ended_at enough = grind (arith, stands, place_there, get_or_default)
+        ended_at enough = grind (arith, stands, position_or-there, get_or_default)
 
         module _ (below : head < ready) where
           -- the head behind the last position isn't below what is ready
@@ -114,11 +114,11 @@ module _ {greatest : ℕ} {l : LayoutState} {p e : ℕ} {old : Rows}
           more : so_far.step < steps_of l job
           more = grind (arith, cases_lt, is_there, stands)
 
-          here : leg.position ≡ place l job so_far.step
-          here = stands ∙ place_there l (length old.heads) job so_far.step more
+          here : leg.position ≡ position_of l job so_far.step
+          here = stands ∙ position_or-there l (length old.heads) job so_far.step more
 
-          leg_is : leg ≡ leg_of l.machines l.times (place l job so_far.step)
-          leg_is = read ∙ leg_here l job (can.places p some).job so_far.step (end_of 0) more
+          leg_is : leg ≡ leg_of l.machines l.times (position_of l job so_far.step)
+          leg_is = read ∙ leg_here l job (can.at_steps p some).job so_far.step (end_of 0) more
 
           pub leg_machine : leg.machine ≡ get_or l.machines leg.position 0
           leg_machine = ap (λ (x : Leg). x.machine) leg_is ∙ ap (λ (q : ℕ). get_or l.machines q 0) (sym here)

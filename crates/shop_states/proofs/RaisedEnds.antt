@@ -5,11 +5,12 @@ use Rattle.shop_lanes.specs.Rows.{Rows}
 use Rattle.shop_states.{specs.inner.LaneEnds.IsEndOf, proofs.AskedHeads.own_reached}
 use Rattle.shop_states.specs.inner.Raises.{AsksOwn, IsLeastRaise, IsPosition, IsRaisable, IsRaised, Raises, SetsEndAt}
 use Rattle.shop_states.specs.inner.Raises.{at_in, steps_of}
-use Rattle.shop_layout.specs.Positions.{LayoutState, place}
+use Rattle.shop_layout.specs.Positions.{LayoutState, position_of}
 
 -- a head that is the first of its route is raised at its own position alone
 module _ {l : LayoutState} {p e : ℕ} {old new : List ℕ} (least : IsLeastRaise l (IsPosition p) (AsksOwn e) old new)
-    (q : ℕ) (first : (i k : ℕ) → k + 1 < steps_of l i → place l i (k + 1) ≡ q → get_or old (place l i k) 0 ≡ 0) where
+    (q : ℕ) (first : (i k : ℕ) → k + 1 < steps_of l i → position_of l i (k + 1) ≡ q
+    → get_or old (position_of l i k) 0 ≡ 0) where
   abbrev but : ℕ → ℕ → ℕ
   but v r = cond {A = ℕ} (eqb r q) v (get_or new r 0)
 

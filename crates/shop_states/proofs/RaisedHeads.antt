@@ -8,11 +8,12 @@ use Rattle.shop_lanes.specs.Rows.{Rows}
 use Rattle.shop_bound.{specs.Heads.{head_of, ready_after}, proofs.{HeadsRise.heads_up, HeadsStay.ready_first_same}}
 use Rattle.shop_bound.proofs.{HeadsStay.steps_rise, HeadTurns.{ready_first, ready_more}}
 use Rattle.shop_states.specs.inner.LaneHeads.{AreHeadsAt, AreStored}
-use Rattle.shop_states.specs.inner.Raises.{steps_of, at_in, AreFirst, IsIndexed, IsPlace, AreInRouteOrder}
+use Rattle.shop_states.specs.inner.Raises.{steps_of, at_in, AreFirst, IsIndexed, IsStepPosition, AreInRouteOrder}
 use Rattle.shop_states.specs.inner.Raises.{AsksOwn, IsRaised, IsLeastRaise, IsRaisable, IsOnMachine, HasBlocks}
-use Rattle.shop_layout.specs.Positions.{place_behind, place_or, LayoutState, place, first_position, IsLaidOut}
+use Rattle.shop_layout.specs.Positions.{IsLaidOut, LayoutState, first_position}
+use Rattle.shop_layout.specs.Positions.{position_behind, position_of, position_or}
 use Rattle.shop_states.proofs.AskedHeads.{own_reached, reach_own}
-use Rattle.shop_layout.proofs.LaidPlaces.{IsOperationAt, machines_rise, place_of, each_position, on_machine}
+use Rattle.shop_layout.proofs.LaidPositions.{IsOperationAt, machines_rise, is_position_of, each_position, on_machine}
 
 module _ {shop : Shop} (limits : IsWithinLimits shop) {l : LayoutState} (laid : IsLaidOut shop l) where
   pub operation_in : (j k : ℕ) → k < steps_of l j → IsOperation shop j k
@@ -22,22 +23,22 @@ module _ {shop : Shop} (limits : IsWithinLimits shop) {l : LayoutState} (laid : 
   indexed is = record {
     jobs = laid.positions.jobs ∙ sym is;
     steps = laid.positions.steps ∙ sym is;
-    step = λ j k h. (let a = place_of shop limits l laid j k (operation_in j k h) in record {
+    step = λ j k h. (let a = is_position_of shop limits l laid j k (operation_in j k h) in record {
       within = (let b = a.within in let c = laid.positions.jobs in omega arith);
       job = a.job;
       step = a.step;
     });
   }
 
-  pub behind_place : (j k : ℕ) → IsOperation shop j k
-      → place_behind l (place l j k) ≡ place_or (first_position l shop.machines) l.places j (k + 1)
-  behind_place j k op =
-      let a = place_of shop limits l laid j k op
-      in ap (λ (n : ℕ). place_or n l.places (get_or l.jobs (place l j k) 0) (get_or l.steps (place l j k) 0 + 1))
-      laid.positions.jobs
-      ∙ (ap (λ (i : ℕ). place_or (first_position l shop.machines) l.places i (get_or l.steps (place l j k) 0 + 1))
-      a.job
-      ∙ ap (λ (t : ℕ). place_or (first_position l shop.machines) l.places j (t + 1)) a.step)
+  pub position_behind-is : (j k : ℕ) → IsOperation shop j k
+      → position_behind l (position_of l j k) ≡ position_or (first_position l shop.machines) l.step_positions j (k + 1)
+  position_behind-is j k op =
+      let a = is_position_of shop limits l laid j k op
+      in ap (λ (n : ℕ). position_or n l.step_positions (get_or l.jobs (position_of l j k) 0)
+      (get_or l.steps (position_of l j k) 0 + 1)) laid.positions.jobs
+      ∙ (ap (λ (i : ℕ). position_or (first_position l shop.machines) l.step_positions i
+      (get_or l.steps (position_of l j k) 0 + 1)) a.job
+      ∙ ap (λ (t : ℕ). position_or (first_position l shop.machines) l.step_positions j (t + 1)) a.step)
 
   pub has_blocks : {n : ℕ} (m : ℕ) → n ≡ first_position l shop.machines → m < shop.machines → HasBlocks l n m
   has_blocks m is known = record {
@@ -48,11 +49,11 @@ module _ {shop : Shop} (limits : IsWithinLimits shop) {l : LayoutState} (laid : 
         (omega arith) in omega arith);
   }
 
-  pub is_place : (j k : ℕ) → IsOperation shop j k → IsPlace l (place l j k)
-  is_place j k op =
-      let a = place_of shop limits l laid j k op in let known = IsOperation-job shop j k op
-      in let long = laid.routes (get_or l.jobs (place l j k) 0)
-      in let same : length (route_of shop (get_or l.jobs (place l j k) 0)) ≡ length (route_of shop j) =
+  pub is_step_position : (j k : ℕ) → IsOperation shop j k → IsStepPosition l (position_of l j k)
+  is_step_position j k op =
+      let a = is_position_of shop limits l laid j k op in let known = IsOperation-job shop j k op
+      in let long = laid.routes (get_or l.jobs (position_of l j k) 0)
+      in let same : length (route_of shop (get_or l.jobs (position_of l j k) 0)) ≡ length (route_of shop j) =
       ap (λ (x : ℕ). length (route_of shop x)) a.job
       in grind arith
 
@@ -68,18 +69,18 @@ module _ {shop : Shop} (limits : IsWithinLimits shop) {l : LayoutState} (laid : 
     ]
 
     -- what is so of each operation that waits is so at its position
-    pub each_waiting : (P : ℕ → Type 0) → ((i k : ℕ) → IsOperation shop i k → steps i ≤ k → P (place l i k)) → (r : ℕ)
-        → 0 < get_or hs r 0 → P r
+    pub each_waiting : (P : ℕ → Type 0) → ((i k : ℕ) → IsOperation shop i k → steps i ≤ k → P (position_of l i k))
+        → (r : ℕ) → 0 < get_or hs r 0 → P r
     each_waiting P each r some = let w = waits_at r some in let o = w.0 in subst P o.at (each o.job o.step o.is w.1)
 
-    pub waits_place : (r : ℕ) → 0 < get_or hs r 0 → IsPlace l r
-    waits_place = each_waiting (IsPlace l) (λ i k op opened. is_place i k op)
+    pub waits_at_step : (r : ℕ) → 0 < get_or hs r 0 → IsStepPosition l r
+    waits_at_step = each_waiting (IsStepPosition l) (λ i k op opened. is_step_position i k op)
 
     pub fits_at : {greatest : ℕ} (g : ℕ → ℕ) → ((i k : ℕ) → IsOperation shop i k → steps i ≤ k
-        → g (place l i k) + time_of shop i k ≤ greatest) → (r : ℕ) → 0 < get_or hs r 0
+        → g (position_of l i k) + time_of shop i k ≤ greatest) → (r : ℕ) → 0 < get_or hs r 0
         → g r + get_or l.times r 0 ≤ greatest
     fits_at {greatest} g fits = each_waiting (λ r. g r + get_or l.times r 0 ≤ greatest) (λ i k op opened.
-        let time = (place_of shop limits l laid i k op).time in let fit = fits i k op opened in omega arith)
+        let time = (is_position_of shop limits l laid i k op).time in let fit = fits i k op opened in omega arith)
 
   -- heads can be raised where some raised heads fit
   pub raisable_to : {steps : ℕ → ℕ} {f : ℕ → ℕ → ℕ} {greatest : ℕ} {nexts : List ℕ} {rows : Rows}
@@ -95,7 +96,7 @@ module _ {shop : Shop} (limits : IsWithinLimits shop) {l : LayoutState} (laid : 
     machines = laid.machines_at.positions ∙ sym are.positions;
     times = times;
     timed = laid.positions.times ∙ sym are.positions;
-    places = waits_place are;
+    at_steps = waits_at_step are;
     order = order;
     other = other;
     raised = raised;
@@ -113,7 +114,7 @@ module _ {shop : Shop} (limits : IsWithinLimits shop) {l : LayoutState} (laid : 
             in let x = are.waiting i k op_k opened
             in let y = are.waiting i (k + 1) op (omega arith)
             in let z = ready_more shop p i k (omega arith)
-            in let t = (place_of shop limits l laid i k op_k).time
+            in let t = (is_position_of shop limits l laid i k op_k).time
             in omega arith)
       ]
 
@@ -123,13 +124,13 @@ module _ {shop : Shop} (limits : IsWithinLimits shop) {l : LayoutState} (laid : 
 
     -- what is dispatched has no head any more
     pub left : {old : List ℕ} → AreHeadsAt shop p l old
-        → AreStored shop q.steps (head_of shop p) l (set old (place l j (p.steps j)) 0)
+        → AreStored shop q.steps (head_of shop p) l (set old (position_of l j (p.steps j)) 0)
     left {old} are =
-        let x = place l j (p.steps j)
-        in let here = place_of shop limits l laid j (p.steps j) next
+        let x = position_of l j (p.steps j)
+        in let here = is_position_of shop limits l laid j (p.steps j) next
         in let within : x < length old = (let a = are.positions in let b = here.within in omega arith)
-        in let same_step : (i k : ℕ) → IsOperation shop i k → place l i k ≡ x → (i ≡ j) × (k ≡ p.steps j) =
-        (λ i k op f. let a = place_of shop limits l laid i k op in (
+        in let same_step : (i k : ℕ) → IsOperation shop i k → position_of l i k ≡ x → (i ≡ j) × (k ≡ p.steps j) =
+        (λ i k op f. let a = is_position_of shop limits l laid i k op in (
           sym a.job ∙ (ap (λ (y : ℕ). get_or l.jobs y 0) f ∙ here.job),
           sym a.step ∙ (ap (λ (y : ℕ). get_or l.steps y 0) f ∙ here.step),
         ))
@@ -144,12 +145,13 @@ module _ {shop : Shop} (limits : IsWithinLimits shop) {l : LayoutState} (laid : 
       pub target_none : (r : ℕ) → get_or old r 0 ≡ 0 → target r ≡ 0
       target_none r none = rw (le-ltb 0 (get_or old r 0) (omega arith)) refl
 
-      pub target_at : (i k : ℕ) → IsOperation shop i k → q.steps i ≤ k → target (place l i k) ≡ head_of shop q i k + 1
+      pub target_at : (i k : ℕ) → IsOperation shop i k → q.steps i ≤ k
+          → target (position_of l i k) ≡ head_of shop q i k + 1
       target_at i k op opened =
-          let a = place_of shop limits l laid i k op
+          let a = is_position_of shop limits l laid i k op
           in let w = are.waiting i k op opened
-          in rw (lt-ltb 0 (get_or old (place l i k) 0) (omega arith))
-          (ap (λ (x : ℕ). head_of shop q x (get_or l.steps (place l i k) 0) + 1) a.job
+          in rw (lt-ltb 0 (get_or old (position_of l i k) 0) (omega arith))
+          (ap (λ (x : ℕ). head_of shop q x (get_or l.steps (position_of l i k) 0) + 1) a.job
           ∙ ap (λ (x : ℕ). head_of shop q i x + 1) a.step)
 
       module _ {e : ℕ} (end : e ≡ q.free machine + 1) where
@@ -161,11 +163,12 @@ module _ {shop : Shop} (limits : IsWithinLimits shop) {l : LayoutState} (laid : 
               let op = operation_in i (k + 1) two
               in let op_k : IsOperation shop i k = omega arith
               in elim (cases_lt k (q.steps i)) [
-                | inl before ↦ (let z = target_none (place l i k) (are.placed i k op_k before) in absurd (omega arith))
+                | inl before ↦ (let z = target_none (position_of l i k) (are.placed i k op_k before)
+                    in absurd (omega arith))
                 | inr opened ↦ (let x = target_at i k op_k opened
                     in let y = target_at i (k + 1) op (omega arith)
                     in let z = ready_more shop q i k opened
-                    in let t = (place_of shop limits l laid i k op_k).time
+                    in let t = (is_position_of shop limits l laid i k op_k).time
                     in omega arith)
               ];
           reach = reach_own (λ r here some. each_waiting are
@@ -196,12 +199,12 @@ module _ {shop : Shop} (limits : IsWithinLimits shop) {l : LayoutState} (laid : 
 
           -- a head is enough, where its step is ready no later
           free_enough : (i k : ℕ) → IsOperation shop i k → q.steps i ≤ k
-              → q.free (machine_of shop i k) + 1 ≤ new (place l i k)
-          free_enough i k op opened = grind (arith, cases_eq, place_of, on_machine_reached)
+              → q.free (machine_of shop i k) + 1 ≤ new (position_of l i k)
+          free_enough i k op opened = grind (arith, cases_eq, is_position_of, on_machine_reached)
 
           -- step by step from the first that isn't placed
           ready_enough : (i d k : ℕ) → q.steps i + d ≡ k → IsOperation shop i k
-              → ready_after shop q i (k - q.steps i) + 1 ≤ new (place l i k)
+              → ready_after shop q i (k - q.steps i) + 1 ≤ new (position_of l i k)
           ready_enough i zero k is op = grind (arith, ready_first, ready_first_same)
           ready_enough i (suc d) k is op =
               let b = q.steps i + d
@@ -211,10 +214,11 @@ module _ {shop : Shop} (limits : IsWithinLimits shop) {l : LayoutState} (laid : 
               in let free = free_enough i b op_b (omega arith)
               in let long = laid.routes i
               in let o = up.order i b (omega arith) (omega arith)
-              in let t = (place_of shop limits l laid i b op_b).time
+              in let t = (is_position_of shop limits l laid i b op_b).time
               in let more = ready_more shop q i b (omega arith)
               in let now = ap (λ (x : ℕ). ready_after shop q i (x - q.steps i)) f
-              in let at : new (place l i k) ≡ new (place l i (b + 1)) = ap (λ (x : ℕ). new (place l i x)) f
+              in let at : new (position_of l i k) ≡ new (position_of l i (b + 1)) =
+              ap (λ (x : ℕ). new (position_of l i x)) f
               in omega arith
 
           pub target_least : (r : ℕ) → target r ≤ new r
@@ -231,11 +235,11 @@ module _ {shop : Shop} (limits : IsWithinLimits shop) {l : LayoutState} (laid : 
           raised = record {
             positions = least.positions ∙ are.positions;
             waiting = λ i k op opened.
-                let a = least.least target target_raised (place l i k)
+                let a = least.least target target_raised (position_of l i k)
                 in let b = target_at i k op opened
                 in let c = ready_enough least.raised i (k - q.steps i) k (omega arith) op
                 in let d = free_enough least.raised i k op opened
                 in omega arith;
-            placed = λ i k op before. least.raised.rests (place l i k) (are.placed i k op before);
+            placed = λ i k op before. least.raised.rests (position_of l i k) (are.placed i k op before);
             padding = λ r free. least.raised.rests r (are.padding r free);
           }

@@ -1,14 +1,14 @@
 -- What was seen while heads were raised bounds what is left after one more operation.
 use Rattle.std.proofs.Common.{rules, ◌≡◌, ℕ, ◌+◌, ◌-◌, ◌*◌, ◌≤◌, ◌<◌, inl, inr, List, [], ◌∷◌, ◌++◌, length, get_or}
 use Rattle.std.proofs.{Common.{refl, sym, ◌∙◌, ap, subst, arith}, lemmas.Bool.{cases_eq, cases_lt, eq-eqb, ne_eqb}}
-use Rattle.shop_lanes.specs.{Rows.{Rows, Lane, lanes, lanes_of, blocks, by_columns, place_at_rank}, Spans.span}
-use Rattle.shop_lanes.proofs.Columns.{by_columns-at, lanes-by_columns, length-by_columns, place_fits}
+use Rattle.shop_lanes.specs.{Rows.{Rows, Lane, lanes, lanes_of, blocks, by_columns, index_at_rank}, Spans.span}
+use Rattle.shop_lanes.proofs.Columns.{by_columns-at, lanes-by_columns, length-by_columns, index_fits}
 use Rattle.shop_lanes.proofs.LaneLists.{length-blocks, lanes-blocks}
 use Rattle.shop_model.specs.{Limits.IsWithinLimits, Shop.Shop, Word.{IsWord, placing, place_next}}
 use Rattle.shop_model.proofs.{Placings.place_next-is, WordLemmas.IsWord-init}
 use Rattle.shop_bound.{specs.{Bound.lb, Heads.head_of}, proofs.HeadsStay.steps_rise}
 use Rattle.shop_layout.specs.{Lanes.lanes_on, Positions.{AreMachinesOf, LayoutState, IsLaidOut, first_position}}
-use Rattle.shop_layout.proofs.{LaidPlaces.each_position, MachineLoads.block_at}
+use Rattle.shop_layout.proofs.{LaidPositions.each_position, MachineLoads.block_at}
 use Rattle.shop_states.specs.inner.{LaneHeads.{AreHeadsAt, AreStored}, Watchers.{IsSeenAt, floor_on}, LaneRaises.Raise}
 use Rattle.shop_states.proofs.{ChildBounds.left-le-lb, ChildRaises.{IsBounded, bounded_by_raise, covered_all}}
 use Rattle.shop_states.proofs.RisenLanes.{AreBeside, AreUpTo, IsLaneBeside, IsRisen, IsRisenLane, IsServedBefore}
@@ -35,9 +35,9 @@ blocks_beside R first end hs hs' ts qs a b c within each =
     in let risen = lanes_beside R (by_columns n (blocks first end hs)) (by_columns n (blocks first end hs'))
     (by_columns n (blocks first end ts)) (by_columns n (blocks first end qs)) (rt ∙ sym rh) (rq ∙ sym rh) (rh' ∙ sym rh)
     (λ i here.
-    let q = place_at_rank n i
+    let q = index_at_rank n i
     in let inside : i < 8 * n = omega (arith, here, rh)
-    in let fits = place_fits n i inside
+    in let fits = index_fits n i inside
     in let old = by_columns-at n (blocks first end hs) lh i 0 inside ∙ block_at hs first end q (omega (arith, fits))
     in let new = by_columns-at n (blocks first end hs') lh' i 0 inside ∙ block_at hs' first end q (omega (arith, fits))
     in subst (λ (x : ℕ). R x (get_or (by_columns n (blocks first end hs')) i 0)) (sym old)

@@ -6,12 +6,12 @@ use Rattle.shop_lanes.specs.Rows.{Rows, with_end}
 use Rattle.shop_model.specs.{Shop.{Shop, IsOperation}, Word.{Placing, IsWord, placing, place_next}}
 use Rattle.shop_model.proofs.{Placings.place_next-is, Unders.placing-snoc}
 use Rattle.shop_states.specs.inner.{LaneChoices.{AreNextsAt, AreNextsOf}, LaneEnds.{CanKeepEnds, IsEndOf, end_at}}
-use Rattle.shop_states.specs.inner.{LaneStates.{AreHeadsInLanes, IsKeptInLanes}, Raises.{AreFirst, IsPlace}}
-use Rattle.shop_layout.specs.Positions.{place_behind, place_or, LayoutState, first_position, place}
+use Rattle.shop_states.specs.inner.{LaneStates.{AreHeadsInLanes, IsKeptInLanes}, Raises.{AreFirst, IsStepPosition}}
+use Rattle.shop_layout.specs.Positions.{position_behind, position_or, LayoutState, first_position, position_of}
 use Rattle.shop_states.proofs.{ChildReads.is_operation, ChildTurns.its_job, NextOperations.{next_there, next_within}}
 use Rattle.shop_states.proofs.LaneEnds.{AreEndsOf, HasEnds, beside_more, can_keep, end_here, end_other, ends_at}
 use Rattle.shop_states.proofs.LaneEnds.{ends_of, next_first, nexts_at, with_ends}
-use Rattle.shop_states.proofs.{RaisedHeads.{behind_place, is_place}, SoleCandidates.sole_keeps_bound}
+use Rattle.shop_states.proofs.{RaisedHeads.{position_behind-is, is_step_position}, SoleCandidates.sole_keeps_bound}
 
 module _ {greatest : ℕ} {shop : Shop} {w : List ℕ} (j : ℕ) {l : LayoutState} {rows : Rows} {nexts : List ℕ}
     (kept : IsKeptInLanes greatest shop w l rows nexts) (fits : IsWord shop (w ++ j ∷ [])) where
@@ -28,7 +28,7 @@ module _ {greatest : ℕ} {shop : Shop} {w : List ℕ} (j : ℕ) {l : LayoutStat
   operation = is_operation kept.kept j fits
 
   module _ {x : ℕ} (x_is : x ≡ get_or nexts j 0) where
-    pub next_at : x ≡ place l j ((placing shop w).steps j)
+    pub next_at : x ≡ position_of l j ((placing shop w).steps j)
     next_at = x_is ∙ next_there there j operation
 
     pub within : x < length rows.heads
@@ -39,12 +39,12 @@ module _ {greatest : ℕ} {shop : Shop} {w : List ℕ} (j : ℕ) {l : LayoutStat
         let a = within in let rows = kept.kept.laid.positions.jobs in let heads = kept.kept.heads.positions
         in omega arith
 
-    pub stands : IsPlace l x
-    stands = subst (IsPlace l) (sym next_at)
-        (is_place kept.kept.limits kept.kept.laid j ((placing shop w).steps j) operation)
+    pub stands : IsStepPosition l x
+    stands = subst (IsStepPosition l) (sym next_at)
+        (is_step_position kept.kept.limits kept.kept.laid j ((placing shop w).steps j) operation)
 
     -- and the position behind x
-    module _ {q : ℕ} (read : q ≡ place_behind l x) {after : List ℕ} (wrote : after ≡ set nexts j q) where
+    module _ {q : ℕ} (read : q ≡ position_behind l x) {after : List ℕ} (wrote : after ≡ set nexts j q) where
       nexts_more : AreNextsOf shop (placing shop (w ++ j ∷ [])) l after
       nexts_more =
           let next = place_next-is shop (placing shop w) j
@@ -52,13 +52,13 @@ module _ {greatest : ℕ} {shop : Shop} {w : List ℕ} (j : ℕ) {l : LayoutStat
           in let route = kept.kept.laid.routes j
           in let n = first_position l shop.machines
           in let placed : placing shop (w ++ j ∷ []) ≡ place_next shop (placing shop w) j = placing-snoc shop w j
-          in let follows : q ≡ place_or n l.places j ((placing shop w).steps j + 1) =
-          read ∙ (ap (place_behind l) next_at
-          ∙ behind_place kept.kept.limits kept.kept.laid j ((placing shop w).steps j) operation)
+          in let follows : q ≡ position_or n l.step_positions j ((placing shop w).steps j + 1) =
+          read ∙ (ap (position_behind l) next_at
+          ∙ position_behind-is kept.kept.limits kept.kept.laid j ((placing shop w).steps j) operation)
           in let here : get_or (set nexts j q) j 0
-          ≡ place_or n l.places j ((placing shop (w ++ j ∷ [])).steps j) =
+          ≡ position_or n l.step_positions j ((placing shop (w ++ j ∷ [])).steps j) =
           get_or-set_at nexts j j q 0 refl next_known
-          ∙ (follows ∙ ap (place_or n l.places j) (sym (ap (λ (p : Placing). p.steps j) placed
+          ∙ (follows ∙ ap (position_or n l.step_positions j) (sym (ap (λ (p : Placing). p.steps j) placed
           ∙ next.steps_here)))
           in grind (arith, length-set, cases_eq, get_or-set_other)
 

@@ -17,7 +17,7 @@ use Rattle.shop_states.proofs.{AdvanceSteps.{lifted_raisable, machine_here}, Lan
 use Rattle.shop_states.proofs.{ChildTurns.{its_ahead, next_heads, next_small, raised_is}, RaisedHeads.has_blocks}
 use Rattle.shop_states.proofs.StateSteps.{ends_more, firsts, kept_more, next_at, next_known, within}
 use Rattle.shop_layout.specs.{HeadLimits.latest_end, Lanes.{lanes_on, rows_of}}
-use Rattle.shop_layout.specs.Positions.{IsLaidOut, LayoutState, place, place_behind}
+use Rattle.shop_layout.specs.Positions.{IsLaidOut, LayoutState, position_of, position_behind}
 
 -- instances with one layout have as many machines
 pub same_machines : {l : LayoutState} {shop other : Shop} → IsLaidOut shop l → IsLaidOut other l
@@ -36,12 +36,12 @@ module _ {greatest : ℕ} {shop : Shop} {w : List ℕ} {l : LayoutState} {hs es 
     pub its_position : x < length hs
     its_position = within j kept fits x_is
 
-    its_place : x ≡ place l j ((placing shop w).steps j)
-    its_place = next_at j kept fits x_is
+    its_position_is : x ≡ position_of l j ((placing shop w).steps j)
+    its_position_is = next_at j kept fits x_is
 
     module _ {m : ℕ} (here : m ≡ get_or l.machines x 0) where
       on_its : m ≡ machine_of shop j ((placing shop w).steps j)
-      on_its = machine_here j kept.kept fits its_place here
+      on_its = machine_here j kept.kept fits its_position_is here
 
       machine_known : m < shop.machines
       machine_known = grind (arith, on_its)
@@ -51,7 +51,7 @@ module _ {greatest : ℕ} {shop : Shop} {w : List ℕ} {l : LayoutState} {hs es 
 
       module _ {e : ℕ} (end : e ≡ get_or hs x 0 + get_or l.times x 0) where
         pub its_end : e ≤ greatest
-        its_end = let a = (end_small j kept.kept fits its_place refl refl).1 in omega arith
+        its_end = let a = (end_small j kept.kept fits its_position_is refl refl).1 in omega arith
 
         module _ {hs' es' : List ℕ} (struck : hs' ≡ set hs x 0) (beside : es' ≡ es) where
           abbrev lifted : Rows
@@ -61,10 +61,10 @@ module _ {greatest : ℕ} {shop : Shop} {w : List ℕ} {l : LayoutState} {hs es 
           wrote = put_is l hs x 0 struck beside
 
           pub trial_blocks : HasBlocks l (length hs') m
-          trial_blocks = lifted_blocks j kept.kept fits its_place refl refl wrote on_its
+          trial_blocks = lifted_blocks j kept.kept fits its_position_is refl refl wrote on_its
 
           pub trial_raisable : IsRaisable greatest l nexts (rows_of l hs' es') (IsOnMachine l m) (AsksOwn e)
-          trial_raisable = rw end (lifted_raisable j kept.kept fits its_place refl refl wrote on_its
+          trial_raisable = rw end (lifted_raisable j kept.kept fits its_position_is refl refl wrote on_its
               (firsts j kept fits) (let a = kept.are_next.jobs in let b = kept.ends.jobs in omega arith))
 
           lifted_low : (q : ℕ) → get_or hs' q 0 ≤ get_or hs q 0
@@ -77,20 +77,20 @@ module _ {greatest : ℕ} {shop : Shop} {w : List ℕ} {l : LayoutState} {hs es 
             raising_sum = grind arith
 
             pub now_heads : AreHeadsInLanes greatest shop (w ++ j ∷ []) l new
-            now_heads = advanced j kept.kept fits its_place refl refl wrote on_its raising_sum
+            now_heads = advanced j kept.kept fits its_position_is refl refl wrote on_its raising_sum
 
             ends_long : length new.ends ≡ length es
-            ends_long = advanced_long j kept.kept fits its_place refl refl wrote on_its raising_sum
+            ends_long = advanced_long j kept.kept fits its_position_is refl refl wrote on_its raising_sum
 
             others : (i : ℕ) → i < length nexts → (get_or nexts i 0 ≡ x → ⊥) → IsEndOf greatest nexts rows i
                 → IsEndOf greatest nexts new i
-            others = advanced_others j kept.kept fits its_place refl refl wrote on_its raising_sum
+            others = advanced_others j kept.kept fits its_position_is refl refl wrote on_its raising_sum
 
             small : (q : ℕ) → get_or new.heads q 0 ≤ latest_end shop + 1
             small = next_small kept.kept j fits now_heads
 
             -- the operation that follows is the next one
-            module _ {after : List ℕ} (followed : after ≡ set nexts j (place_behind l x)) where
+            module _ {after : List ℕ} (followed : after ≡ set nexts j (position_behind l x)) where
               pub trial_keep : CanKeepEnds greatest l after new
               trial_keep = ends_more j kept fits x_is refl followed now_heads ends_long others
 

@@ -1,12 +1,12 @@
 // Dispatches one operation in a state.
 ghost use Rattle.std.specs.Prelude.{◌≡◌, ◌<◌, ◌^◌, ◌++◌, ◌∷◌, [], List, ℕ, OnSome, length, slice_set};
-ghost use Rattle.shop_layout.specs.Positions.{place_behind};
+ghost use Rattle.shop_layout.specs.Positions.{position_behind};
 ghost use Rattle.shop_model.specs.{Shop.Shop, Word.IsWord};
 ghost use Rattle.shop_bound.specs.{Bound.lb, Conflicts.conflict};
 ghost use Rattle.shop_states.specs.{States.TellsBoundBelow, inner.{Dispatches.IsDispatchOf, LaneEnds.CanKeepEnds}};
 ghost use Rattle.shop_states.specs.inner.Advances.{CanAdvance, CanGoOn, CanStrike, IsAdvancing, IsRaisedFor};
 ghost use Rattle.shop_states.specs.inner.{LaidLanes.{KeepsWord, rows_in}, LaneStates.GoesOn, MachineRaises.AreEmpty};
-ghost use Rattle.shop_states.specs.inner.{Raises.IsPlace, StateCopies.IsAsLong};
+ghost use Rattle.shop_states.specs.inner.{Raises.IsStepPosition, StateCopies.IsAsLong};
 
 use crate::dispatches::Dispatch;
 use crate::lane_bounds::BoundRange;
@@ -29,8 +29,8 @@ pub(crate) fn set_next<L: StateLanes>(
 )
     requires job { job < length next.old }
     requires position { position < length grid.now.jobs }
-    requires stands { IsPlace grid.now position }
-    requires keep { CanKeepEnds L.GREATEST grid.now (slice_set next.old job (place_behind grid.now position))
+    requires stands { IsStepPosition grid.now position }
+    requires keep { CanKeepEnds L.GREATEST grid.now (slice_set next.old job (position_behind grid.now position))
         (rows_in L.StateLanes grid.now lanes.old) }
     ensures { GoesOn L.GREATEST grid.now position job (rows_in L.StateLanes grid.now lanes.old)
         (rows_in L.StateLanes grid.now lanes.new) next.old next.new }

@@ -63,7 +63,7 @@ pub struct Dispatcher<'l, 'a, L: StateLanes> {
     beginning: Beginning,
     /// how far noted heads rose on each machine, in a dispatch or where children are bounded together; empty between
     raises: MachineRaises<L>,
-    /// owns[i]: when, in lanes, a machine's operations and their tails end if the one at place `i` goes first; there is
+    /// owns[i]: when, in lanes, a machine's operations and their tails end if the one at index `i` goes first; there is
     /// room for the machine with the most operations
     owns: Vec<L::Number>,
     /// ceilings[machine]: the ceiling of the machine in lanes, see `siblings.rt`, for the word whose children were

@@ -1,4 +1,4 @@
--- The operations that are not done, by position.
+-- The operations that are not done, by index.
 --     IsQueue ws clock q             each operation that is not done is to come or released, once;
 --                                    the latter by the clock
 --     IsNextRelease cs head          `head` is the least head to come; none where none is to come
@@ -9,16 +9,16 @@ use Rattle.std.specs.BinaryHeap.{heap_items, heap_len, heap_capacity}
 use Rattle.shop_bound.specs.{declared.queues.{Queue.Queue, Work.Work}, inner.HeapOrders.{Coming, Released}}
 use Rattle.shop_bound.specs.inner.Serving.{work_at, undone_of}
 
--- the position of an operation to come, and of one that is released
-abbrev pub coming_place : Coming → ℕ
-coming_place c = c.1
+-- the index of an operation to come, and of one that is released
+abbrev pub coming_index : Coming → ℕ
+coming_index c = c.1
 
-abbrev pub released_place : Released → ℕ
-released_place h = h.1.0
+abbrev pub released_index : Released → ℕ
+released_index h = h.1.0
 
--- how often position k stands in a list
+-- how often index k stands in a list
 unfoldable pub times : {A : Type 0} → (A → ℕ) → ℕ → List A → ℕ
-times {A} place k xs = sum_by (λ (x : A). cond {A = ℕ} (place x == k) 1 0) xs
+times {A} index k xs = sum_by (λ (x : A). cond {A = ℕ} (index x == k) 1 0) xs
 
 pub record IsToCome (ws : List Work) (c : Coming) : Type 0 where
   pub here : c.1 < length ws
@@ -32,7 +32,7 @@ pub record IsReleased (ws : List Work) (clock : ℕ) (h : Released) : Type 0 whe
 pub record AreQueued (ws : List Work) (clock : ℕ) (cs : List Coming) (hs : List Released) : Type 0 where
   pub coming : All (IsToCome ws) cs
   pub released : All (IsReleased ws clock) hs
-  pub once : (k : ℕ) → k < length ws → times coming_place k cs + times released_place k hs ≡ undone_of (work_at ws k)
+  pub once : (k : ℕ) → k < length ws → times coming_index k cs + times released_index k hs ≡ undone_of (work_at ws k)
   pub passed : (k : ℕ) → k < length ws → (work_at ws k).done ≡ true → (work_at ws k).triple.head ≤ clock
 
 -- IsQueue, with room for all operations to be released
@@ -55,7 +55,7 @@ abbrev pub IsNextRelease : List Coming → Option ℕ → Type 0
 IsNextRelease cs None = length cs ≡ 0
 IsNextRelease cs (Some head) = (c : Coming) × IsNext cs head c
 
--- h has less tail than w, or equal tail and no lower position
+-- h has less tail than w, or equal tail and no lower index
 abbrev pub IsBehind : Released → Released → Type 0
 IsBehind first h = (h.0 < first.0) ⊎ ((h.0 ≡ first.0) × (first.1.0 ≤ h.1.0))
 

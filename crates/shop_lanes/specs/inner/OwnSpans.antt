@@ -1,7 +1,7 @@
 -- What the passes for own spans keep.
 --     CanOwn value greatest rows owns  rows of whole blocks have room in `owns` for their own spans
 --     WritesOwnSpans value rows ..     `new` has the own span of each operation that waits
---     rank_of count p                  the rank of place p in `count` blocks
+--     rank_of count p                  the rank of index p in `count` blocks
 --     AreClocks .. count xs j          the clock in each column before j blocks down, with all served by rank from 0 on
 --     AreLoadsBehind                   the loads behind j blocks down each column
 use Rattle.std.specs.Prelude.{◌≡◌, ℕ, ◌+◌, ◌*◌, ◌/◌, ◌%◌, ◌<◌, max, List, length, map, take, drop, slice_index}
@@ -39,7 +39,7 @@ AreNoted value rows noted =
     in (p : ℕ) → p < length rows.heads.now → slice_index (map value noted) p
     ≡ span 1 0 (take (p / 8) (drop (p % 8 * count) (lanes_in value rows)))
 
--- the own span of place p of `count` blocks
+-- the own span of index p of `count` blocks
 abbrev pub own_span_at : ℕ → List ℕ → List ℕ → List ℕ → ℕ → ℕ
 own_span_at count heads times tails p =
     let end = slice_index heads p + slice_index times p

@@ -1,14 +1,14 @@
 -- How the operations of an instance are put at their positions.
 --     AreCells lists n cells blocks  the first n lists stand in the cells, each in its blocks, down their columns
---     AreAdded list count n ..       the first n places of a list's blocks were added to cells
+--     AreAdded list count n ..       what is at the first n indices of a list's blocks was added to cells
 --     AreApart slots                 no two are the same step of a job
 --     HaveRoom lists n blocks        each of the first n lists has room in its blocks
---     AreNoted n first count ..      the places of the first n of a machine's slots were written, and nothing else
---     ArePlaces shop lists n ..      the places of the slots of the first n machines
+--     AreNoted n first count ..      the positions of the first n of a machine's slots were written, and nothing else
+--     AreStepPositions shop lists .. the positions of the slots of the first n machines
 use Rattle.std.specs.Prelude.{◌≡◌, ℕ, ◌+◌, ◌*◌, ◌/◌, ◌%◌, ◌≤◌, ◌<◌, List, [], length, slice_index, slice_index_or}
-use Rattle.shop_lanes.specs.Rows.{place_at_rank}
+use Rattle.shop_lanes.specs.Rows.{index_at_rank}
 use Rattle.shop_model.specs.Shop.{Shop, route_of}
-use Rattle.shop_layout.specs.{Positions.{place_in, position_at_rank}, declared.slots.Slot.Slot}
+use Rattle.shop_layout.specs.{Positions.{position_in, position_at_rank}, declared.slots.Slot.Slot}
 
 -- what stands at padding
 abbrev pub no_slot : Slot
@@ -18,7 +18,7 @@ no_slot = record { job = 0; step = 0; time = 0; tail = 0 }
 abbrev pub AreShorter : ℕ → List (List Slot) → Type 0
 AreShorter n lists = (m : ℕ) → length (slice_index_or lists m []) ≤ n
 
--- each of the first n places of `count` blocks has what the list has at its rank, or no slot
+-- each of the first n indices of `count` blocks has what the list has at its rank, or no slot
 pub record AreAdded (list : List Slot) (count n : ℕ) (old new : List Slot) : Type 0 where
   pub long : length new ≡ length old + n
   pub before : (q : ℕ) → q < length old → slice_index_or new q no_slot ≡ slice_index_or old q no_slot
@@ -52,7 +52,7 @@ pub record HasRoutes (shop : Shop) (rows : List (List ℕ)) : Type 0 where
   pub jobs : length rows ≡ length shop.jobs
   pub routes : (j : ℕ) → length (slice_index_or rows j []) ≡ length (route_of shop j)
 
--- there is a place for each slot
+-- there is an entry for each slot
 pub record IsInRows (rows : List (List ℕ)) (s : Slot) : Type 0 where
   pub job : s.job < length rows
   pub step : s.step < length (slice_index_or rows s.job [])
@@ -65,14 +65,14 @@ pub record AreNoted (n first count : ℕ) (slots : List Slot) (old new : List (L
   pub long : length new ≡ length old
   pub rows : (j : ℕ) → length (slice_index_or new j []) ≡ length (slice_index_or old j [])
   pub noted : (i : ℕ) (d : Slot) → i < n
-      → place_in new (slice_index_or slots i d).job (slice_index_or slots i d).step ≡ first + place_at_rank count i
+      → position_in new (slice_index_or slots i d).job (slice_index_or slots i d).step ≡ first + index_at_rank count i
   pub others : (j k : ℕ)
       → ((i : ℕ) (d : Slot) → i < n → (slice_index_or slots i d).job ≡ j → (slice_index_or slots i d).step ≡ k → ⊥)
-      → place_in new j k ≡ place_in old j k
+      → position_in new j k ≡ position_in old j k
 
-pub record ArePlaces (shop : Shop) (lists : List (List Slot)) (blocks : List ℕ) (n : ℕ)
+pub record AreStepPositions (shop : Shop) (lists : List (List Slot)) (blocks : List ℕ) (n : ℕ)
     (rows : List (List ℕ)) : Type 0 where
   pub shape : HasRoutes shop rows
   pub each : (m i : ℕ) (d : Slot) → m < n → i < length (slice_index_or lists m [])
-      → place_in rows (slice_index_or (slice_index_or lists m []) i d).job
+      → position_in rows (slice_index_or (slice_index_or lists m []) i d).job
       (slice_index_or (slice_index_or lists m []) i d).step ≡ position_at_rank blocks m i

@@ -1,7 +1,7 @@
 -- The rows that are read along routes.
 --     AreSmallRows l                 each row takes fewer bytes than memory has
---     AreBelow n places              each place is one of n positions
---     AreFirsts legs places firsts   where the legs of each job begin among those of all
+--     AreBelow n numbers             each number is below n
+--     AreFirsts legs rows firsts     where the legs of each job begin among those of all
 --     AreBehind jobs steps firsts .. at each position where the legs behind its operation begin
 --     IsBehind l behind              the same of a layout, where an operation stands
 use Rattle.std.specs.Prelude.{◌≡◌, ℕ, ◌+◌, ◌*◌, ◌%◌, ◌<◌, ◌^◌, All, List, [], flat_map, length, take, slice_index}
@@ -14,11 +14,11 @@ pub record AreSmallRows (l : LayoutState) : Type 0 where
   pub times : 8 * length l.times < 2 ^ 64
 
 abbrev pub AreBelow : ℕ → List ℕ → Type 0
-AreBelow n places = All (λ p. p < n) places
+AreBelow n numbers = All (λ p. p < n) numbers
 
-pub record AreFirsts (legs : List ℕ → List Leg) (places : List (List ℕ)) (firsts : List ℕ) : Type 0 where
-  pub long : length firsts ≡ length places
-  pub each : (j : ℕ) → j < length firsts → slice_index firsts j ≡ length (flat_map legs (take j places))
+pub record AreFirsts (legs : List ℕ → List Leg) (rows : List (List ℕ)) (firsts : List ℕ) : Type 0 where
+  pub long : length firsts ≡ length rows
+  pub each : (j : ℕ) → j < length firsts → slice_index firsts j ≡ length (flat_map legs (take j rows))
 
 pub record AreBehind (jobs steps firsts behind : List ℕ) : Type 0 where
   pub long : length behind ≡ length jobs
@@ -27,6 +27,6 @@ pub record AreBehind (jobs steps firsts behind : List ℕ) : Type 0 where
 
 pub record IsBehind (l : LayoutState) (behind : List ℕ) : Type 0 where
   pub long : length behind ≡ length l.jobs
-  pub each : (q : ℕ) → q < length l.jobs → slice_index l.jobs q < length l.places
-      → slice_index l.steps q < length (slice_index_or l.places (slice_index l.jobs q) [])
+  pub each : (q : ℕ) → q < length l.jobs → slice_index l.jobs q < length l.step_positions
+      → slice_index l.steps q < length (slice_index_or l.step_positions (slice_index l.jobs q) [])
       → slice_index behind q ≡ leg_index l (slice_index l.jobs q) (slice_index l.steps q + 1)

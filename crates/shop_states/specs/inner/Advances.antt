@@ -12,7 +12,7 @@ use Rattle.shop_model.specs.{Shop.Shop, Word.IsWord}
 use Rattle.shop_bound.specs.Conflicts.{conflict}
 use Rattle.shop_states.specs.{inner.Ceilings.AreChildCeilings, inner.ChildBounds.IsLeastAfter}
 use Rattle.shop_states.specs.inner.{LaneEnds.CanKeepEnds, LaneStates.{GoesOn, IsKeptInLanes}}
-use Rattle.shop_layout.specs.{Lanes.{lanes_on, rows_of}, Positions.{LayoutState, place_behind}}
+use Rattle.shop_layout.specs.{Lanes.{lanes_on, rows_of}, Positions.{LayoutState, position_behind}}
 
 -- `least` for the operation at a position
 abbrev pub IsLeastAt : Shop → List ℕ → LayoutState → Rows → ℕ → ℕ → ℕ → Type 0
@@ -41,7 +41,7 @@ pub record CanAdvance (greatest : ℕ) (l : LayoutState) (rows : Rows) (nexts : 
 
 pub record IsRaisedFor (greatest : ℕ) (l : LayoutState) (position job : ℕ) (old new : Rows) (nexts : List ℕ) : Type 0
   where
-    pub keep : CanKeepEnds greatest l (slice_set nexts job (place_behind l position)) new
+    pub keep : CanKeepEnds greatest l (slice_set nexts job (position_behind l position)) new
     pub kept : (shop : Shop) (w : List ℕ) → IsKeptInLanes greatest shop w l old nexts → IsWord shop (w ++ job ∷ [])
         → (ended : Rows) (after : List ℕ) → GoesOn greatest l position job new ended nexts after
         → IsKeptInLanes greatest shop (w ++ job ∷ []) l ended after

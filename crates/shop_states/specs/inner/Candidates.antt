@@ -17,12 +17,12 @@ use Rattle.std.specs.Prelude.{slice_index}
 use Rattle.shop_lanes.specs.{Rows.Rows, Spans.own_span}
 use Rattle.shop_model.specs.{Shop.Shop, Word.{IsWord, placing}}
 use Rattle.shop_bound.specs.{Bound.lb, Conflicts.conflict}
-use Rattle.shop_states.specs.{States.ListsBelow, inner.LaneChoices.{AreConflictBlocks, AreNextPlaced, IsJobBelow}}
+use Rattle.shop_states.specs.{States.ListsBelow, inner.LaneChoices.{AreConflictBlocks, AreNextsOwn, IsJobBelow}}
 use Rattle.shop_states.specs.inner.{LaneHeads.AreHeadsAt, LaneStates.IsKeptInLanes, RisingLists.{IsGatheredWith, IsIn}}
 use Rattle.shop_states.specs.inner.Raises.{HasBlocks, IsInBlocks, IsOnMachine}
 use Rattle.shop_states.specs.declared.{lane_choices.ConflictBlocks.ConflictBlocks, states.Candidate.Candidate}
 use Rattle.shop_states.specs.declared.candidate_lists.FirstEnd.{FirstEnd}
-use Rattle.shop_layout.specs.Positions.{LayoutState, place}
+use Rattle.shop_layout.specs.Positions.{LayoutState, position_of}
 
 abbrev pub own_at : LayoutState → List ℕ → ℕ → ℕ
 own_at l heads q =
@@ -40,7 +40,7 @@ pub record IsTold (nexts : List ℕ) (first count j : ℕ) : Type 0 where
 pub record IsCandidateOf (shop : Shop) (w : List ℕ) (l : LayoutState) (job own : ℕ) : Type 0 where
   pub fits : IsWord shop (w ++ job ∷ [])
   pub adds : (heads : List ℕ) → AreHeadsAt shop (placing shop w) l heads → max (lb shop w) own
-      ≡ max (lb shop w) (own_at l heads (place l job ((placing shop w).steps job)) - 1)
+      ≡ max (lb shop w) (own_at l heads (position_of l job ((placing shop w).steps job)) - 1)
 
 pub data ListsOwn (limit : ℕ) (own : ℕ → ℕ) : List ℕ → List Candidate → ℕ → Type 0 where
   empty : ListsOwn limit own [] [] zero
@@ -60,7 +60,7 @@ pub record CanList (greatest : ℕ) (l : LayoutState) (rows : Rows) (nexts : Lis
     (blocks : ConflictBlocks) (count : ℕ) : Type 0 where
   pub blocks_are : AreConflictBlocks greatest rows.heads blocks
   pub computable : 8 * blocks.from < 2 ^ 64
-  pub placed : AreNextPlaced l rows.heads nexts
+  pub nexts_own : AreNextsOwn l rows.heads nexts
   pub few : length nexts < 1024
   pub known : blocks.chosen < length nexts
   pub told : (js : List ℕ) → IsGatheredWith blocks.chosen

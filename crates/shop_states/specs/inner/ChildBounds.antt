@@ -6,11 +6,11 @@ use Rattle.std.specs.Prelude.{◌≡◌, ℕ, ◌+◌, ◌≤◌, List, [], ◌�
 use Rattle.shop_lanes.specs.{Rows.{Rows, with_head}, Spans.span}
 use Rattle.shop_model.specs.{Shop.{Shop, machine_of}, Word.{place_next, placing}}
 use Rattle.shop_bound.specs.Bound.{lb}
-use Rattle.shop_layout.specs.{Lanes.lanes_on, Positions.{LayoutState, place}}
+use Rattle.shop_layout.specs.{Lanes.lanes_on, Positions.{LayoutState, position_of}}
 
 -- the end is one higher, as heads in lanes are
 pub record IsNextAt (shop : Shop) (w : List ℕ) (l : LayoutState) (job position machine end : ℕ) : Type 0 where
-  pub position_is : position ≡ place l job ((placing shop w).steps job)
+  pub position_is : position ≡ position_of l job ((placing shop w).steps job)
   pub machine_is : machine ≡ machine_of shop job ((placing shop w).steps job)
   pub end_is : end ≡ (place_next shop (placing shop w) job).free (machine_of shop job ((placing shop w).steps job)) + 1
 

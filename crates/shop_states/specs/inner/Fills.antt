@@ -11,11 +11,12 @@ use Rattle.shop_model.specs.{Limits.IsWithinLimits, Shop.{Shop, IsOperation, rou
 use Rattle.shop_model.specs.Placements.{PlacementState, IsPlacement}
 use Rattle.shop_bound.specs.{Conflicts.next_end, Heads.head_of, inner.PlacedWords.IsOfWord}
 use Rattle.shop_states.specs.inner.LaneHeads.{AreHeadsFit}
-use Rattle.shop_layout.specs.{Legs.leg_index, Positions.{LayoutState, place, place_or, first_position, IsLaidOut}}
+use Rattle.shop_layout.specs.Positions.{IsLaidOut, LayoutState, first_position, position_of, position_or}
+use Rattle.shop_layout.specs.Legs.{leg_index}
 
 pub record IsStored (shop : Shop) (p : Placing) (l : LayoutState) (old new : List ℕ) (j k : ℕ) : Type 0 where
-  pub waiting : p.steps j ≤ k → slice_index new (place l j k) ≡ head_of shop p j k + 1
-  pub placed : k < p.steps j → slice_index new (place l j k) ≡ slice_index old (place l j k)
+  pub waiting : p.steps j ≤ k → slice_index new (position_of l j k) ≡ head_of shop p j k + 1
+  pub placed : k < p.steps j → slice_index new (position_of l j k) ≡ slice_index old (position_of l j k)
 
 pub record CanFill (greatest : ℕ) (shop : Shop) (l : LayoutState) (rows : Rows) : Type 0 where
   pub limits : IsWithinLimits shop
@@ -34,7 +35,7 @@ pub record HasFilledJob (shop : Shop) (l : LayoutState) (s : PlacementState) (j 
   pub beside : AreSameBeside old new
   pub filled : (p : Placing) → IsPlacement shop p s → (k : ℕ) → IsOperation shop j k
       → IsStored shop p l old.heads new.heads j k
-  pub others : (q : ℕ) → ((k : ℕ) → IsOperation shop j k → place l j k ≡ q → ⊥)
+  pub others : (q : ℕ) → ((k : ℕ) → IsOperation shop j k → position_of l j k ≡ q → ⊥)
       → slice_index new.heads q ≡ slice_index old.heads q
 
 -- job j is ready for leg `index`, which is its next one in the placement of a word
@@ -56,7 +57,7 @@ pub record IsOnSomeRoute (shop : Shop) (l : LayoutState) (index ready : ℕ) (fr
 
 -- the next operation of job j stands at `position`, and its end was set; where it has none, no end
 pub record IsNextSet (shop : Shop) (l : LayoutState) (p : Placing) (j position : ℕ) (old new : List ℕ) : Type 0 where
-  pub is : position ≡ place_or (first_position l shop.machines) l.places j (p.steps j)
+  pub is : position ≡ position_or (first_position l shop.machines) l.step_positions j (p.steps j)
   pub long : length new ≡ length old
   pub next : IsOperation shop j (p.steps j) → slice_index new j ≡ next_end shop p j + 1
   pub none : length (route_of shop j) ≤ p.steps j → slice_index new j ≡ slice_index old j

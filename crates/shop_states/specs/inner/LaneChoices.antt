@@ -6,7 +6,7 @@
 --                                    first blocks
 --     IsAlone heads from to ..       one operation at most waits in some blocks with a head below a limit
 --     HaveJobs l positions most      each position has a job, all jobs being below a number
---     AreNextPlaced l heads nexts    each position has a job, and the next operations have theirs
+--     AreNextsOwn l heads nexts      each position has a job, and the next operations have theirs
 --     AreNextsAt shop p l nexts ..   heads and next operations are those of placing p
 use Rattle.std.specs.Prelude.{◌≡◌, ℕ, ◌+◌, ◌*◌, ◌≤◌, ◌<◌, List, All, length, slice_index}
 use Rattle.shop_lanes.specs.{Marks.positions_among, Rows.Rows}
@@ -14,12 +14,12 @@ use Rattle.shop_model.specs.{Limits.IsWithinLimits, Shop.{Shop, route_of, IsOper
 use Rattle.shop_bound.specs.Conflicts.{next_end}
 use Rattle.shop_states.specs.{declared.lane_choices.ConflictBlocks.ConflictBlocks, inner.LaneHeads.AreHeadsAt}
 use Rattle.shop_states.specs.inner.RisingLists.{IsIn}
-use Rattle.shop_layout.specs.Positions.{place_or, LayoutState, IsLaidOut, first_position}
+use Rattle.shop_layout.specs.Positions.{position_or, LayoutState, IsLaidOut, first_position}
 
 pub record AreNextsOf (shop : Shop) (p : Placing) (l : LayoutState) (nexts : List ℕ) : Type 0 where
   pub jobs : length nexts ≡ length shop.jobs
   pub are : (j : ℕ) → j < length shop.jobs
-      → slice_index nexts j ≡ place_or (first_position l shop.machines) l.places j (p.steps j)
+      → slice_index nexts j ≡ position_or (first_position l shop.machines) l.step_positions j (p.steps j)
 
 pub record IsJobBelow (l : LayoutState) (heads : List ℕ) (among : ℕ → Type 0) (limit j : ℕ) : Type 0 where
   pub position : ℕ
@@ -46,7 +46,7 @@ pub record HaveJobs (l : LayoutState) (positions most : ℕ) : Type 0 where
   pub many : length l.jobs ≡ positions
   pub below : (q : ℕ) → q < positions → slice_index l.jobs q < most
 
-pub record AreNextPlaced (l : LayoutState) (heads nexts : List ℕ) : Type 0 where
+pub record AreNextsOwn (l : LayoutState) (heads nexts : List ℕ) : Type 0 where
   pub positions : length l.jobs ≡ length heads
   pub jobs : (q : ℕ) → q < length heads → slice_index l.jobs q < length nexts
   pub own : (j : ℕ) → j < length nexts → slice_index nexts j < length heads

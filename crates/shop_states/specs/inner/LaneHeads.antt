@@ -5,12 +5,12 @@
 use Rattle.std.specs.Prelude.{◌≡◌, ℕ, ◌+◌, ◌≤◌, ◌<◌, List, length, slice_index}
 use Rattle.shop_model.specs.{Shop.{Shop, IsOperation, time_of}, Word.{Placing, IsWord, placing}}
 use Rattle.shop_bound.specs.Heads.{head_of}
-use Rattle.shop_layout.specs.Positions.{IsFree, LayoutState, first_position, place}
+use Rattle.shop_layout.specs.Positions.{IsFree, LayoutState, first_position, position_of}
 
 pub record AreStored (shop : Shop) (steps : ℕ → ℕ) (f : ℕ → ℕ → ℕ) (l : LayoutState) (numbers : List ℕ) : Type 0 where
   pub positions : length numbers ≡ first_position l shop.machines
-  pub waiting : (j k : ℕ) → IsOperation shop j k → steps j ≤ k → slice_index numbers (place l j k) ≡ f j k + 1
-  pub placed : (j k : ℕ) → IsOperation shop j k → k < steps j → slice_index numbers (place l j k) ≡ 0
+  pub waiting : (j k : ℕ) → IsOperation shop j k → steps j ≤ k → slice_index numbers (position_of l j k) ≡ f j k + 1
+  pub placed : (j k : ℕ) → IsOperation shop j k → k < steps j → slice_index numbers (position_of l j k) ≡ 0
   pub padding : (q : ℕ) → IsFree shop l q → slice_index numbers q ≡ 0
 
 abbrev pub AreHeadsAt : Shop → Placing → LayoutState → List ℕ → Type 0

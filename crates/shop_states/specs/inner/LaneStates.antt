@@ -7,7 +7,7 @@ use Rattle.std.specs.Prelude.{◌≡◌, ℕ, ◌<◌, ◌^◌, List, length, sl
 use Rattle.shop_lanes.specs.Rows.{Rows, with_end}
 use Rattle.shop_model.specs.{Limits.IsWithinLimits, Shop.Shop, Word.{IsWord, placing}}
 use Rattle.shop_bound.specs.Conflicts.{SoleCandidateKeepsBound}
-use Rattle.shop_layout.specs.{HeadLimits.FitsLanes, Positions.{LayoutState, IsLaidOut, first_position, place_behind}}
+use Rattle.shop_layout.specs.{HeadLimits.FitsLanes, Positions.{LayoutState, IsLaidOut, first_position, position_behind}}
 use Rattle.shop_states.specs.{inner.LaneChoices.{AreEndsAt, AreNextsOf}, inner.LaneEnds.end_at}
 use Rattle.shop_states.specs.inner.LaneHeads.{AreHeadsAt, AreHeadsFit}
 
@@ -37,5 +37,5 @@ pub record HasRoom (shop : Shop) (l : LayoutState) (heads ends nexts : List ℕ)
 -- one more operation of a job goes on: its next operation follows, with its end
 pub record GoesOn (greatest : ℕ) (l : LayoutState) (position job : ℕ) (old new : Rows)
     (before after : List ℕ) : Type 0 where
-  pub are_next : after ≡ slice_set before job (place_behind l position)
+  pub are_next : after ≡ slice_set before job (position_behind l position)
   pub ends : new ≡ with_end old job (end_at greatest after old job)

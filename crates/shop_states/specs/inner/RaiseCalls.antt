@@ -1,5 +1,5 @@
 -- Requirements and results of a raise of heads.
---     CanNote value numbers ms ..    each machine has a place for a raise, and each machine with a raise is in a list;
+--     CanNote value numbers ms ..    each machine has room for a raise, and each machine with a raise is in a list;
 --                                    that takes so many numbers, one for at most 64 machines
 --     CanRaise greatest l nexts ..   the heads at some positions can be raised
 --     CanDelay greatest l nexts ..   a dispatch marks what it delays in the first blocks of its machine, and the heads
@@ -26,14 +26,14 @@ pub record CanRaise (greatest : ℕ) (l : LayoutState) (nexts : List ℕ) (among
     (rows : Rows) : Type 0 where
   pub fits : e ≤ greatest
   pub raisable : IsRaisable greatest l nexts rows among (AsksOwn e)
-  pub jobs : length l.places ≤ length nexts
+  pub jobs : length l.step_positions ≤ length nexts
 
 pub record CanDelay (greatest : ℕ) (l : LayoutState) (nexts : List ℕ) (rows : Rows) (d : Dispatch) : Type 0 where
   pub machine : HasBlocks l (length rows.heads) d.machine
   pub delayed : AreDelayedOn l d.machine d.end rows.heads d.delayed
   pub fits : d.end ≤ greatest
   pub raisable : IsRaisable greatest l nexts rows (IsOnMachine l d.machine) (AsksOwn d.end)
-  pub jobs : length l.places ≤ length nexts
+  pub jobs : length l.step_positions ≤ length nexts
 
 pub record HasRaised (greatest : ℕ) (l : LayoutState) (nexts : List ℕ) (among : ℕ → Type 0) (e : ℕ)
     (old new : Rows) (before after : List Raise) (listed_machines : List ℕ) : Type 0 where

@@ -13,11 +13,11 @@
 --     Raises greatest l nexts ..     heads are raised least, and the ends of next operations kept up
 use Rattle.std.specs.Prelude.{◌≡◌, ℕ, ◌+◌, ◌*◌, ◌≤◌, ◌<◌, ◌^◌, List, [], length, slice_index, slice_index_or}
 use Rattle.shop_lanes.specs.Rows.{Rows}
-use Rattle.shop_layout.specs.Positions.{LayoutState, place}
+use Rattle.shop_layout.specs.Positions.{LayoutState, position_of}
 use Rattle.shop_states.specs.inner.{LaneEnds.IsEndOf, RisingLists.{IsIn, Rises}}
 
 abbrev pub steps_of : LayoutState → ℕ → ℕ
-steps_of l j = length (slice_index_or l.places j [])
+steps_of l j = length (slice_index_or l.step_positions j [])
 
 -- what a list has at each position
 abbrev pub at_in : List ℕ → ℕ → ℕ
@@ -33,24 +33,24 @@ pub record IsStepAt (l : LayoutState) (q j k : ℕ) : Type 0 where
 pub record IsIndexed (l : LayoutState) (n : ℕ) : Type 0 where
   pub jobs : length l.jobs ≡ n
   pub steps : length l.steps ≡ n
-  pub step : (j k : ℕ) → k < steps_of l j → IsStepAt l (place l j k) j k
+  pub step : (j k : ℕ) → k < steps_of l j → IsStepAt l (position_of l j k) j k
 
 -- a step stands at position q
-pub record IsPlace (l : LayoutState) (q : ℕ) : Type 0 where
-  pub job : slice_index l.jobs q < length l.places
+pub record IsStepPosition (l : LayoutState) (q : ℕ) : Type 0 where
+  pub job : slice_index l.jobs q < length l.step_positions
   pub step : slice_index l.steps q < steps_of l (slice_index l.jobs q)
-  pub is : place l (slice_index l.jobs q) (slice_index l.steps q) ≡ q
+  pub is : position_of l (slice_index l.jobs q) (slice_index l.steps q) ≡ q
 
 abbrev pub AreInRouteOrder : LayoutState → (ℕ → ℕ) → Type 0
-AreInRouteOrder l heads = (j k : ℕ) → k + 1 < steps_of l j → 0 < heads (place l j k)
-    → heads (place l j k) + slice_index l.times (place l j k) ≤ heads (place l j (k + 1))
+AreInRouteOrder l heads = (j k : ℕ) → k + 1 < steps_of l j → 0 < heads (position_of l j k)
+    → heads (position_of l j k) + slice_index l.times (position_of l j k) ≤ heads (position_of l j (k + 1))
 
 abbrev pub AsksOwn : ℕ → ℕ → ℕ → ℕ → Type 0
 AsksOwn e p q v = (q ≡ p) × (v ≡ e)
 
 pub record AsksNext (l : LayoutState) (free : ℕ → ℕ) (p q v : ℕ) : Type 0 where
   pub more : slice_index l.steps p + 1 < steps_of l (slice_index l.jobs p)
-  pub next : q ≡ place l (slice_index l.jobs p) (slice_index l.steps p + 1)
+  pub next : q ≡ position_of l (slice_index l.jobs p) (slice_index l.steps p + 1)
   pub ready : v ≡ free p + slice_index l.times p
 
 pub record IsRaised (l : LayoutState) (among : ℕ → Type 0) (asks : ℕ → ℕ → ℕ → Type 0) (old new : ℕ → ℕ) : Type 0 where
@@ -70,7 +70,7 @@ pub record AreFirst (l : LayoutState) (nexts heads : List ℕ) : Type 0 where
   pub own : (j : ℕ) → j < length nexts → slice_index nexts j < length heads
       → slice_index l.jobs (slice_index nexts j) ≡ j
   pub first : (j i k : ℕ) → j < length nexts → k + 1 < steps_of l i
-      → place l i (k + 1) ≡ slice_index nexts j → slice_index heads (place l i k) ≡ 0
+      → position_of l i (k + 1) ≡ slice_index nexts j → slice_index heads (position_of l i k) ≡ 0
 
 -- some raise fits into lanes, and so do the ends of next operations
 pub record IsRaisable (greatest : ℕ) (l : LayoutState) (nexts : List ℕ) (rows : Rows)
@@ -81,7 +81,7 @@ pub record IsRaisable (greatest : ℕ) (l : LayoutState) (nexts : List ℕ) (row
   pub machines : length l.machines ≡ length rows.heads
   pub times : rows.times ≡ l.times
   pub timed : length l.times ≡ length rows.heads
-  pub places : (q : ℕ) → 0 < slice_index rows.heads q → IsPlace l q
+  pub at_steps : (q : ℕ) → 0 < slice_index rows.heads q → IsStepPosition l q
   pub order : AreInRouteOrder l (at_in rows.heads)
   pub other : ℕ → ℕ
   pub raised : IsRaised l among asks (at_in rows.heads) other

@@ -8,21 +8,21 @@ use Rattle.shop_layout.proofs.legs.legs_with_behind.Goals as goal
 
 -- the rows of a layout, as they were lent
 module _ {l : LayoutState} {shop : Shop} (limits : IsWithinLimits shop) (laid : IsLaidOut shop l) where
-  lent_machines : {machines : List ℕ} {rows : List (List ℕ)} → machines ≡ l.machines → rows ≡ l.places
+  lent_machines : {machines : List ℕ} {rows : List (List ℕ)} → machines ≡ l.machines → rows ≡ l.step_positions
       → All (AreBelow (length machines)) rows
   lent_machines e f = rw (e, f) (machines_below shop limits l laid)
 
-  lent_route_times : {times : List ℕ} {rows : List (List ℕ)} → times ≡ l.times → rows ≡ l.places
+  lent_route_times : {times : List ℕ} {rows : List (List ℕ)} → times ≡ l.times → rows ≡ l.step_positions
       → All (AreBelow (length times)) rows
   lent_route_times e f = rw (e, f) (times_below shop limits l laid)
 
-  lent_jobs : {jobs : List ℕ} (firsts : List ℕ) {rows : List (List ℕ)} → jobs ≡ l.jobs → rows ≡ l.places
+  lent_jobs : {jobs : List ℕ} (firsts : List ℕ) {rows : List (List ℕ)} → jobs ≡ l.jobs → rows ≡ l.step_positions
       → length firsts ≡ length rows → AreBelow (length firsts) jobs
   lent_jobs firsts e f long = rw (long, f, e) (jobs_below shop limits l laid)
 
 -- the legs of all routes, made of rows that were lent, and where those behind each operation begin
 made : {l : LayoutState} {machines times jobs steps lent firsts behind : List ℕ} {rows : List (List ℕ)} {end : ℕ}
-    {legs : List Leg} → machines ≡ l.machines → times ≡ l.times → end ≡ length l.jobs → rows ≡ l.places
+    {legs : List Leg} → machines ≡ l.machines → times ≡ l.times → end ≡ length l.jobs → rows ≡ l.step_positions
     → jobs ≡ l.jobs → steps ≡ l.steps → lent ≡ firsts → length legs < 2 ^ 64
     → legs ≡ flat_map (route_legs machines times end) rows → AreFirsts (route_legs machines times end) rows firsts
     → AreBehind jobs steps lent behind → (legs ≡ all_legs l) × IsBehind l behind
@@ -31,17 +31,20 @@ made {l} {legs = legs} m t e r j s f few is begin are = grind (arith, behind_is)
 pub legs_of-requires-clause-machines : goal.legs_of-requires-clause-machines
 legs_of-requires-clause-machines c = lent_machines c.requires.1 c.requires.2
     (c.as_slice-machines.ensures.value ∙ ap (λ (x : LayoutState). x.machines) c.positions.view_is)
-    (ap items_in c.as_slice-places.ensures.value ∙ ap (λ (x : LayoutState). x.places) c.positions.view_is)
+    (ap items_in c.as_slice-step_positions.ensures.value
+    ∙ ap (λ (x : LayoutState). x.step_positions) c.positions.view_is)
 
 pub legs_of-requires-clause-times : goal.legs_of-requires-clause-times
 legs_of-requires-clause-times c = lent_route_times c.requires.1 c.requires.2
     (c.as_slice-times.ensures.value ∙ ap (λ (x : LayoutState). x.times) c.positions.view_is)
-    (ap items_in c.as_slice-places.ensures.value ∙ ap (λ (x : LayoutState). x.places) c.positions.view_is)
+    (ap items_in c.as_slice-step_positions.ensures.value
+    ∙ ap (λ (x : LayoutState). x.step_positions) c.positions.view_is)
 
 pub behind_of-requires-clause-jobs : goal.behind_of-requires-clause-jobs
 behind_of-requires-clause-jobs c = lent_jobs c.requires.1 c.requires.2 _
     (c.as_slice-jobs.ensures.value ∙ ap (λ (x : LayoutState). x.jobs) c.positions.view_is)
-    (ap items_in c.as_slice-places.ensures.value ∙ ap (λ (x : LayoutState). x.places) c.positions.view_is)
+    (ap items_in c.as_slice-step_positions.ensures.value
+    ∙ ap (λ (x : LayoutState). x.step_positions) c.positions.view_is)
     (ap length c.as_slice.ensures.value ∙ c.in_ok-legs.ensures.firsts.long)
 
 pub behind_of-requires-clause-steps : goal.behind_of-requires-clause-steps
@@ -57,7 +60,8 @@ returns c =
     let rows = made (c.as_slice-machines.ensures.value ∙ ap (λ (x : LayoutState). x.machines) c.positions.view_is)
     (c.as_slice-times.ensures.value ∙ ap (λ (x : LayoutState). x.times) c.positions.view_is)
     (ap length (c.as_slice-jobs.ensures.value ∙ ap (λ (x : LayoutState). x.jobs) c.positions.view_is))
-    (ap items_in c.as_slice-places.ensures.value ∙ ap (λ (x : LayoutState). x.places) c.positions.view_is)
+    (ap items_in c.as_slice-step_positions.ensures.value
+    ∙ ap (λ (x : LayoutState). x.step_positions) c.positions.view_is)
     (c.as_slice-jobs.ensures.value ∙ ap (λ (x : LayoutState). x.jobs) c.positions.view_is)
     (c.as_slice-steps.ensures.value ∙ ap (λ (x : LayoutState). x.steps) c.positions.view_is)
     c.as_slice.ensures.value

@@ -3,7 +3,7 @@ use Rattle.std.proofs.Common.{length}
 use Rattle.shop_bound.specs.Bound.{lb}
 use Rattle.shop_model.specs.Word.{IsWord}
 use Rattle.shop_nodes.specs.{Branching.{branch, conflict, insert_by, sort_by}, Laws.HaveBetterChildren, Nodes.words_of}
-use Rattle.shop_nodes.{specs.{Nodes.AreNodes, inner.Places.IsPlaceFor}, proofs.ChildrenLemmas.{child-word, all_done}}
+use Rattle.shop_nodes.{specs.{Nodes.AreNodes, inner.Indices.IsIndexFor}, proofs.ChildrenLemmas.{child-word, all_done}}
 use Rattle.shop_nodes.proofs.ChildrenLemmas.{words_of-insert, nodes-insert, better_children}
 use Rattle.shop_nodes.proofs.child_nodes.children.Goals as goal
 
@@ -28,21 +28,21 @@ loop-job-preserved c =
     in let job = c.in-Some.job
     in let child = c.in_ok-child.child
     in let nodes = c.loop-job.children.items
-    in let at = c.place_for-place.result
+    in let at = c.index_for-index.result
     in let split = sym (append_assoc c.pop.new.self.items (job ∷ []) now.0)
     ∙ (ap (λ js. js ++ now.0) (sym c.in-Some.ensures.items) ∙ now.1.all)
     in let word : child.word ≡ w ++ job ∷ [] = c.in_ok-child.ensures.word
     ∙ ap (λ (v : List ℕ). v ++ job ∷ []) c.in_ok-path.ensures
     in let is_word : IsWord shop child.word = subst (IsWord shop) (sym word)
     (child-word shop w c.requires.node.0 c.pop.new.self.items now.0 job split)
-    in let place = subst (λ ns. IsPlaceFor child.bound ns at) c.as_slice.ensures.value c.place_for-place.ensures
+    in let index = subst (λ ns. IsIndexFor child.bound ns at) c.as_slice.ensures.value c.index_for-index.ensures
     in let items = c.in_ok-insert.ensures.items
     in (
       job ∷ now.0,
       record {
         all = split;
         words = ap words_of items
-            ∙ (words_of-insert shop child nodes at place c.in_ok-child.ensures.bound now.1.nodes
+            ∙ (words_of-insert shop child nodes at index c.in_ok-child.ensures.bound now.1.nodes
             ∙ (ap (λ v. insert_by (lb shop) v (words_of nodes)) word
             ∙ ap (insert_by (lb shop) (w ++ job ∷ [])) now.1.words));
         nodes = subst (AreNodes shop) (sym items)

@@ -121,10 +121,10 @@ pub behind-index-requires-clause-job : goal.behind-index-requires-clause-job
 behind-index-requires-clause-job g c = grind (arith, raised_within)
 
 pub behind-index-requires-clause-within : goal.behind-index-requires-clause-within
-behind-index-requires-clause-within g c = (c.requires.raisable.places c.args.position c.requires.waits).step
+behind-index-requires-clause-within g c = (c.requires.raisable.at_steps c.args.position c.requires.waits).step
 
 pub behind-index-requires-clause-known : goal.behind-index-requires-clause-known
-behind-index-requires-clause-known g c = (c.requires.raisable.places c.args.position c.requires.waits).job
+behind-index-requires-clause-known g c = (c.requires.raisable.at_steps c.args.position c.requires.waits).job
 
 pub set_head-requires-clause-in_range : goal.set_head-requires-clause-in_range
 set_head-requires-clause-in_range g c = raised_within c.requires.raisable c.requires.waits

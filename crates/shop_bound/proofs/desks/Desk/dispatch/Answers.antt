@@ -8,7 +8,7 @@ pub steps-step-requires : goal.steps-step-requires
 steps-step-requires c =
     let a = can_dispatch c.self.inside c.args.job c.self.invariant
     (subst (λ (s : DeskState). IsWord s.shop (s.word ++ c.args.job ∷ [])) (sym c.self.view_is) c.requires)
-    in let job = a.job in let n = a.places.steps in omega arith
+    in let job = a.job in let n = a.entries.steps in omega arith
 
 pub route-requires : goal.route-requires
 route-requires c = (can_dispatch c.self.inside c.args.job c.self.invariant
@@ -62,4 +62,4 @@ pub ready-ready-requires : goal.ready-ready-requires
 ready-ready-requires c =
     let a = can_dispatch c.self.inside c.args.job c.self.invariant
     (subst (λ (s : DeskState). IsWord s.shop (s.word ++ c.args.job ∷ [])) (sym c.self.view_is) c.requires)
-    in let job = a.job in let n = a.places.ready in omega arith
+    in let job = a.job in let n = a.entries.ready in omega arith

@@ -2,9 +2,9 @@ use Rattle.std.proofs.Common.{◌≡◌, ◌∙◌, ℕ, ◌+◌, ◌-◌, ◌�
 use Rattle.std.{proofs.lemmas.List.length-map, specs.{List.All, Prelude.Vec, declared.alloc.Global.Global}}
 use Rattle.shop_model.specs.{Limits.IsWithinLimits, Shop.Shop}
 use Rattle.shop_layout.specs.{declared.slots.Slot.Slot, Ranks.{AreRanks, ranked}, Slots.AreMachineSlots}
-use Rattle.shop_layout.specs.inner.Layings.{AreCells, ArePlaces, AreShorter, HaveRoom}
+use Rattle.shop_layout.specs.inner.Layings.{AreCells, AreStepPositions, AreShorter, HaveRoom}
 use Rattle.shop_layout.{specs.Positions.AreMachinesOf, proofs.RankedShops.{jobs_ranked, limits_ranked}}
-use Rattle.shop_layout.proofs.{LaidLists.{blocks_few, cells_known, laid_out, machine_few}, RankedSlots.places_ranked}
+use Rattle.shop_layout.proofs.{LaidLists.{blocks_few, cells_known, laid_out, machine_few}, RankedSlots.positions_ranked}
 use Rattle.shop_layout.proofs.positions.Positions.new.Goals as goal
 
 -- the slots of the machines, as they were lent, and the cells that they make
@@ -52,11 +52,11 @@ module _ {shop : Shop} (limits : IsWithinLimits shop) {ranks : List ℕ} (by : A
 pub cells_of-requires-clause-short : goal.cells_of-requires-clause-short
 cells_of-requires-clause-short c = grind (arith, short)
 
-pub places_of-requires-clause-slots : goal.places_of-requires-clause-slots
-places_of-requires-clause-slots c = grind (arith, are)
+pub positions_of_steps-requires-clause-slots : goal.positions_of_steps-requires-clause-slots
+positions_of_steps-requires-clause-slots c = grind (arith, are)
 
-pub places_of-requires-clause-few : goal.places_of-requires-clause-few
-places_of-requires-clause-few c = grind (arith, few)
+pub positions_of_steps-requires-clause-few : goal.positions_of_steps-requires-clause-few
+positions_of_steps-requires-clause-few c = grind (arith, few)
 
 pub jobs_of-requires : goal.jobs_of-requires
 jobs_of-requires c =
@@ -86,25 +86,25 @@ returns c =
     let shop = ranked c.args.ranks.now c.args.instance.now
     in let slots = c.in_ok-slots.field-0.slots.items
     in let blocks = c.in_ok-slots.field-0.blocks.items
-    in let places = map (λ v. v.items) c.in_ok-places.places.items
+    in let rows = map (λ v. v.items) c.in_ok-step_positions.step_positions.items
     in let cells = laid c.keeps_limits.ensures c.requires c.as_slice.ensures.value c.in_ok-lists.ensures
     c.in_ok-slots.ensures
     in laid_out shop (within c.keeps_limits.ensures c.requires c.as_slice.ensures.value c.in_ok-lists.ensures)
     (map (λ v. v.items) c.as_slice.result.now)
-    (are c.keeps_limits.ensures c.requires c.as_slice.ensures.value c.in_ok-lists.ensures) slots blocks cells places
-    (subst (λ (bs : List ℕ). ArePlaces shop (map (λ v. v.items) c.as_slice.result.now) bs shop.machines places)
+    (are c.keeps_limits.ensures c.requires c.as_slice.ensures.value c.in_ok-lists.ensures) slots blocks cells rows
+    (subst (λ (bs : List ℕ). AreStepPositions shop (map (λ v. v.items) c.as_slice.result.now) bs shop.machines rows)
     c.as_slice-3.ensures.value
-    (subst (λ (vs : List (Vec Slot Global)). ArePlaces shop (map (λ v. v.items) vs) c.as_slice-3.result.now
-    shop.machines places)
+    (subst (λ (vs : List (Vec Slot Global)). AreStepPositions shop (map (λ v. v.items) vs) c.as_slice-3.result.now
+    shop.machines rows)
     (c.as_slice-2.ensures.value ∙ sym c.as_slice.ensures.value)
-    (places_ranked c.args.ranks.now c.args.instance.now (map (λ v. v.items) c.as_slice-2.result.now)
-    c.as_slice-3.result.now shop.machines places c.in_ok-places.ensures)))
+    (positions_ranked c.args.ranks.now c.args.instance.now (map (λ v. v.items) c.as_slice-2.result.now)
+    c.as_slice-3.result.now shop.machines rows c.in_ok-step_positions.ensures)))
     (record {
       jobs = c.in_ok-jobs_of.field-0.items;
       steps = c.in_ok-steps_of.field-0.items;
       times = c.in_ok-collect.field-0.items;
       tails = c.in_ok-collect-2.field-0.items;
-      places = places;
+      step_positions = rows;
       blocks = blocks;
       machines = c.in_ok-machines_of.field-0.items;
     })
@@ -122,12 +122,12 @@ invariant_of-result c =
     c.in_ok-slots.ensures c.as_slice-slots.ensures.value
     in let long = ap length c.in_ok-jobs_of.ensures ∙ length-map c.as_slice-slots.result.now _ in omega arith
 
-pub places_of-requires-clause-room : goal.places_of-requires-clause-room
-places_of-requires-clause-room c =
+pub positions_of_steps-requires-clause-room : goal.positions_of_steps-requires-clause-room
+positions_of_steps-requires-clause-room c =
     room_in c.keeps_limits.ensures c.requires c.as_slice.ensures.value c.in_ok-lists.ensures c.in_ok-slots.ensures
     c.as_slice-2.ensures.value c.as_slice-3.ensures.value
 
-pub places_of-requires-clause-blocks : goal.places_of-requires-clause-blocks
-places_of-requires-clause-blocks c = ap length c.as_slice-3.ensures.value
+pub positions_of_steps-requires-clause-blocks : goal.positions_of_steps-requires-clause-blocks
+positions_of_steps-requires-clause-blocks c = ap length c.as_slice-3.ensures.value
     ∙ (laid c.keeps_limits.ensures c.requires c.as_slice.ensures.value c.in_ok-lists.ensures
     c.in_ok-slots.ensures).machines

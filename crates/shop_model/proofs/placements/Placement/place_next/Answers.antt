@@ -9,7 +9,7 @@ index-k-requires c =
     let shop = c.args.instance.now in let j = c.args.j
     in let next = subst (λ (s : PlacementState). HasNext shop j s) (sym c.self.view_is) c.requires
     in let a = job_of_next shop j _ next
-    in let b = next.placed.places.steps
+    in let b = next.placed.entries.steps
     in let o = c.self.inside.steps.ok.0 in omega arith
 
 pub route-requires : goal.route-requires

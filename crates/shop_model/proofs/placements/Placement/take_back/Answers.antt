@@ -8,7 +8,7 @@ pub index-requires : goal.index-requires
 index-requires c =
     let shop = c.args.instance.now in let j = c.args.j
     in let a = step_placed shop j _ (subst (λ (s : PlacementState). HasLast shop j s) (sym c.self.view_is) c.requires)
-    in let job = a.job in let b = a.places.steps in let o = c.self.inside.steps.ok.0 in omega arith
+    in let job = a.job in let b = a.entries.steps in let o = c.self.inside.steps.ok.0 in omega arith
 
 pub route-requires : goal.route-requires
 route-requires c = (step_placed c.args.instance.now c.args.j c.args.self.now c.requires).job

@@ -1,7 +1,0 @@
-use Rattle.std.proofs.Common.{map}
-use Rattle.shop_layout.specs.inner.Layings.{AreNoted}
-use Rattle.shop_layout.proofs.positions.note_places.Given as goal
-
-abbrev pub invariant-loop-rank : goal.invariant-loop-rank
-invariant-loop-rank l =
-    AreNoted l.rank l.first l.count l.slots (map (λ v. v.items) l.fn.places) (map (λ v. v.items) l.places)
