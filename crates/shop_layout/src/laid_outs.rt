@@ -90,6 +90,7 @@ impl<'l, 'a, L: StateLanes> Model for LaidOut<'l, 'a, L> {
 impl<'l, 'a, L: StateLanes> LaidOut<'l, 'a, L> {
     /// The instance as it was given: its machines may have other numbers in the layout.
     #[inline(always)]
+    #[tactic(auto, using(crate::proofs::RankedShops::is_renumbered))]
     pub fn instance(&self) -> &'a Instance
         ensures instance { result.now ≡ self.now.asked }
         ensures renumbered { IsRenumbered self.now.asked self.now.shop }
@@ -103,6 +104,7 @@ impl<'l, 'a, L: StateLanes> LaidOut<'l, 'a, L> {
     /// The layout in lanes, which are wide enough for each head and each end that dispatches can reach. Lanes for a
     /// fixed number of blocks a machine have at most 64 machines.
     #[inline(always)]
+    #[tactic(auto, using(crate::proofs::RankedShops::is_renumbered))]
     pub fn grid(&self) -> &Grid<'l, L>
         ensures grid { result.now ≡ self.now.layout }
         ensures ready { IsReady L.GREATEST self.now.shop self.now.layout }

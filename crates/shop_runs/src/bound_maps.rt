@@ -72,6 +72,7 @@ impl BoundMap {
     }
 
     /// Drops the nodes whose bounds are at least `makespan`. Fails with `NoMemory` if memory runs out.
+    #[tactic(auto, using(crate::proofs::StackLemmas::below_is))]
     pub(crate) fn keep_below(&mut self, makespan: u64) -> Result<(), NoMemory>
         ensures { OnOk result (self.new ≡ nodes_below makespan self.old) }
     {
@@ -80,6 +81,7 @@ impl BoundMap {
     }
 
     /// Returns the least of `makespan` and the bounds of the nodes.
+    #[tactic(auto, using(crate::proofs::StackLemmas::least_is))]
     pub(crate) fn least_bound(&self, makespan: u64) -> u64
         ensures { result ≡ least_of_bounds makespan self.now }
     {

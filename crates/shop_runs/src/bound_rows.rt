@@ -129,6 +129,7 @@ fn set_aside(stacks: &mut Vec<Bucket>, end: usize, spent: &mut Vec<Bucket>) -> R
 }
 
 /// Adds empty buckets until there is one at `index`. Fails with `NoMemory` if memory runs out.
+#[tactic(auto, using(crate::proofs::BoundRowLemmas::row_more, crate::proofs::BoundRowLemmas::more_empty))]
 fn reach(stacks: &mut Vec<Bucket>, index: usize) -> Result<(), NoMemory>
     ensures reached { OnOk result (index < vec_len stacks.new) }
     ensures len { vec_len stacks.old ≤ vec_len stacks.new }
@@ -242,6 +243,7 @@ impl BoundRow {
     }
 
     /// Returns the least of `makespan` and the bounds of the nodes.
+    #[tactic(auto, using(crate::proofs::BoundRowLemmas::none_left, crate::proofs::BoundRowLemmas::least_from_first))]
     pub(crate) fn least_bound(&self, makespan: u64) -> u64
         ensures { result ≡ least_of_bounds makespan self.now }
     {
@@ -253,6 +255,7 @@ impl BoundRow {
     }
 
     /// Returns how many nodes the row holds. Fails with `NoMemory` if they are 2^64 or more, which no memory holds.
+    #[tactic(auto, using(crate::proofs::BoundRowLemmas::count_next))]
     pub(crate) fn count(&self) -> Result<usize, NoMemory>
         ensures count { IfOk result (λ n. n ≡ length self.now) }
         ensures too_many { OnErr result (2 ^ 64 ≤ length self.now) }
@@ -265,6 +268,7 @@ impl BoundRow {
     }
 
     /// Returns whether the row holds no node.
+    #[tactic(auto, using(crate::proofs::BoundRowLemmas::is_none_left))]
     pub(crate) fn is_empty(&self) -> bool
         ensures { result ≡ (length self.now == 0) }
     {

@@ -17,6 +17,7 @@ pub(crate) struct Least {
 
 /// Counts a node of `bound` that is put on a stack with these least bounds. Fails with `NoMemory` if memory runs out;
 /// then nothing has changed.
+#[tactic(auto, using(crate::proofs::KeptLemmas::one_more))]
 fn count_put(leasts: &mut Vec<Least>, bound: u64) -> Result<(), NoMemory>
     requires { AreFewEach (2 ^ 64 - 1) (reverse leasts.old.items) }
     ensures put { OnOk result (reverse leasts.new.items ≡ with_bound bound (reverse leasts.old.items)) }
@@ -98,6 +99,7 @@ impl KeptStack {
     }
 
     /// Takes the top node, or returns `None` if the stack is empty.
+    #[tactic(auto, using(crate::proofs::KeptLemmas::still_popped))]
     pub(crate) fn pop(&mut self) -> Option<Node>
         ensures { IsNextOf result self.old self.new }
     {
@@ -115,6 +117,7 @@ impl KeptStack {
     }
 
     /// Returns the least of `makespan` and the bounds of the nodes.
+    #[tactic(auto, using(crate::proofs::KeptLemmas::top_tells, crate::proofs::KeptLemmas::none_tells))]
     pub(crate) fn least_bound(&self, makespan: u64) -> u64
         ensures { result ≡ least_of_bounds makespan self.now }
     {

@@ -264,6 +264,7 @@ impl OpenNodes {
 
     /// Drops the nodes whose bounds are at least `makespan`. As all bounds are below `opening`, does nothing unless
     /// `makespan` is below `opening` too. Fails with `NoMemory` if memory runs out.
+    #[tactic(auto, using(crate::proofs::KeptBelow::none_closed))]
     pub(crate) fn keep_below(&mut self, opening: u64, makespan: u64) -> Result<(), NoMemory>
         requires { AreBelow opening (open_list self.old) }
         ensures { OnOk result (IsKeptBelow makespan self.old self.new) }

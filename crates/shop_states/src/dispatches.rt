@@ -33,6 +33,7 @@ pub(crate) fn marks_end(from: usize, behind: usize) -> usize
 
 /// Marks what waits in the first eight blocks of `machine` with a head below `end`.
 #[inline(always)]
+#[tactic(auto, using(crate::proofs::MarkedPositions::among_same))]
 fn mark_below<L: StateLanes>(lanes: &L, grid: &Grid<L>, machine: usize, end: u64) -> Marks
     requires machine { HasBlocks grid.now (length (L.heads lanes.now)) machine }
     requires fits { end ≤ L.GREATEST }

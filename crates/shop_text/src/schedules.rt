@@ -18,6 +18,7 @@ fn after_job(line: &[u8]) -> Option<&[u8]>
 }
 
 /// Returns whether `token` is the number of job `j` and a colon.
+#[tactic(auto, using(crate::proofs::JobLineLemmas::no_label, crate::proofs::JobLineLemmas::label_by))]
 fn names_job(j: usize, token: &[u8]) -> bool
     requires { j ≤ MAX_JOBS }
     ensures { result ≡ is_label j token.now }
@@ -98,6 +99,7 @@ fn rows_in(alloc: Global, instance: &Instance, text: &[u8]) -> Result<Vec<Vec<u6
 /// order. Skips other lines, so a report is a schedule text. Fails with `TooLong` above 16,777,216 bytes, and with
 /// `BadTable` at the first line of a job that is faulty or one too many; if a job's line is missing, the line of the
 /// fault is one more than the text has. Fails with `NoMemory` if memory runs out.
+#[tactic(auto, using(crate::proofs::TableRows::table_within))]
 pub fn read_table(alloc: Global, instance: &Instance, text: &[u8]) -> Result<Table, ReadFault>
     ensures { IsTableRead instance.now text.now result }
 {
