@@ -23,14 +23,14 @@ pub struct Options {
     pub gantt: bool,
 }
 
-/// Returns the format of the number `code`, its place in `FORMATS`; `None` if there is none.
+/// Returns the format of the number `code`, its index in `FORMATS`; `None` if there is none.
 pub(crate) fn format_of(code: u32) -> Option<Format>
     ensures { MatchOption result (IsNoFormat code) (λ format. format_code format ≡ code) }
 {
     FORMATS.get(code as usize).copied()
 }
 
-/// Makes the plan of `options`, whose order is a place in `ORDERS`; `None` outside the limits.
+/// Makes the plan of `options`, whose order is an index in `ORDERS`; `None` outside the limits.
 fn plan_of(options: &Options) -> Option<Plan>
     ensures { MatchOption result (IsFaultyPlan options.now) (IsPlanOf options.now) }
 {

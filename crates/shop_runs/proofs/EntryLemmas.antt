@@ -11,7 +11,7 @@ use Rattle.shop_runs.specs.declared.{entries.{Entry.Entry, Kind.TheVariants.{Don
 use Rattle.shop_runs.specs.{Nodes.pieces_in, Round.Told, Entries.{told, is_hit, IsOf}, Crews.{OneForEach, IsEntryOf}}
 use Rattle.shop_runs.proofs.{PieceLemmas.numbered_at, GatherLemmas.IsSheetAt}
 
--- the entry at place n
+-- the entry at index n
 pub record IsEntryAt (es : List Entry) (n : ℕ) (e : Entry) : Type 0 where
   pub inside : n < length es
   pub is : e ≡ get_or es n e
@@ -42,7 +42,7 @@ module _ (s t u : IntoIter Entry Global) (es : Vec Entry Global) (items : into_i
   pub entries_end : o ≡ None → length xs ≡ length es.items
   entries_end is = (YieldsList-end from xs t so_far o u is step).1
 
--- the words of the piece at place n
+-- the words of the piece at index n
 words_at : (ps : List Piece) (n : ℕ) (q : Piece) → n < length ps → q ≡ get_or ps n q
     → words_of q.nodes.items ≡ slice_index_or (pieces_in ps) n []
 words_at [] n q h e = absurd (omega arith)

@@ -61,12 +61,12 @@ module _ (r : Told) (i : ℕ) (s : Sheet) (at : IsSheetAt r i s) where
   pub inside : i < length (sheets_of r)
   inside = grind (arith, length-map)
 
-  pub at_place : (d : Walk) → get_or (sheets_of r) i d ≡ whole_of r i s
-  at_place d = grind (arith, length-map, inside, map_at, sheet_is)
+  pub at_index : (d : Walk) → get_or (sheets_of r) i d ≡ whole_of r i s
+  at_index d = grind (arith, length-map, inside, map_at, sheet_is)
 
   pub next_sheets : first_sheets r (i + 1) ≡ first_sheets r i ++ whole_of r i s ∷ []
   next_sheets = take_more (sheets_of r) i (whole_of r i s) inside
-      ∙ ap (λ w. first_sheets r i ++ w ∷ []) (at_place (whole_of r i s))
+      ∙ ap (λ w. first_sheets r i ++ w ∷ []) (at_index (whole_of r i s))
 
   pub hits_here : is_hit r i ≡ eqb s.makespan r.bound
   hits_here = ap (λ (w : Walk). eqb w.best r.bound) (sym sheet_is)

@@ -1,4 +1,4 @@
--- Nodes against their words: bounds, places by bound, and what is below a makespan.
+-- Nodes against their words: bounds, their order by bound, and what is below a makespan.
 use Rattle.std.proofs.{Common.{arith, ◌≡◌, ℕ, min, List, [], ◌∷◌, refl, ap, leb, ltb}, lemmas.Bool.cases_Bool}
 use Rattle.std.{proofs.lemmas.List.Elements.recursion_from_All, specs.List.AllByRecursion}
 use Rattle.shop_model.specs.Shop.{Shop}

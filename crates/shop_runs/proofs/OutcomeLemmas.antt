@@ -12,7 +12,7 @@ use Rattle.shop_runs.specs.{Round.{gathered, words_below}, Laws.IsRound, inner.O
 use Rattle.shop_runs.specs.{inner.Outcomes.stands_after, declared.outcomes.RoundResult.RoundResult, Entries.is_hit}
 use Rattle.shop_runs.proofs.{SheetLemmas.{hit_in, found_is, least_is_bound}, StandingLemmas.{known, best_of_round}}
 use Rattle.shop_runs.proofs.{StandingLemmas.rest_closed, GatherLemmas.{GatheredSoFar, IsSheetAt, whole_of, below_best}}
-use Rattle.shop_runs.proofs.GatherLemmas.{best_among, first_sheets, map_at, inside, at_place, next_sheets, next_taken}
+use Rattle.shop_runs.proofs.GatherLemmas.{best_among, first_sheets, map_at, inside, at_index, next_sheets, next_taken}
 use Rattle.shop_runs.proofs.GatherLemmas.{few_here}
 
 -- the first of some walks that ends at c, where none before it does
@@ -53,7 +53,7 @@ module _ (r : Told) (is : IsRound r) (i : ℕ) (o : RoundResult) (was : Gathered
     (small : r.budget ≤ 10000000) (few : length r.pieces ≤ 256) where
   module _ (s : Sheet) (at : IsSheetAt r i s) (hit : eqb s.makespan r.bound ≡ true) where
     first_hit : up_to_hit r.bound (sheets_of r) ≡ Some (whole_of r i s, first_sheets r i ++ whole_of r i s ∷ [])
-    first_hit = grind (arith, many_sheets, inside, hit_at, whole_of, sheet_hits, at_place)
+    first_hit = grind (arith, many_sheets, inside, hit_at, whole_of, sheet_hits, at_index)
 
     closed_bound : r.bound ≡ lb r.shop (unwrap_or s.found r.word)
     closed_bound = grind (arith, hit_in, whole_of, first_sheets, first_hit, in_all, known, found_is, eqb-true)

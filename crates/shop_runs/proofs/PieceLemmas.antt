@@ -11,7 +11,7 @@ use Rattle.shop_runs.specs.{Round.cut_into, Nodes.{pieces_in, ArePieces, numbere
 both : (a b : Bool) → (a && b) ≡ true → (a ≡ true) × (b ≡ true)
 both x b e = grind arith
 
--- the piece at place n has the number n
+-- the piece at index n has the number n
 pub numbered_at : (k : ℕ) (ps : List Piece) (n : ℕ) (d : Piece) → numbered k ps ≡ true → n < length ps
     → (get_or ps n d).number ≡ k + n
 numbered_at k [] n d e h = absurd (omega arith)
