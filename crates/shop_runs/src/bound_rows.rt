@@ -150,7 +150,7 @@ pub(crate) struct BoundRow {
     stacks: Vec<Bucket>,
     first: usize,
     /// how many nodes are put before `retire` counts again
-    wait: usize,
+    puts_left: usize,
     /// Stacks that `retire` took out, kept until the makespan falls to the row's length or below. Their words lie all
     /// over the heap: if they were freed at once, each later request of memory would take longer.
     spent: Vec<Bucket>,
@@ -176,7 +176,7 @@ impl BoundRow {
         BoundRow {
             stacks: Vec::new(alloc),
             first: 0,
-            wait: 0,
+            puts_left: 0,
             spent: Vec::new(alloc),
         }
     }
@@ -190,7 +190,7 @@ impl BoundRow {
         let index = bound as usize;
         reach(&mut self.stacks, index)?;
         self.first = self.first.min(index);
-        self.wait = self.wait.saturating_sub(1);
+        self.puts_left = self.puts_left.saturating_sub(1);
         push_at(alloc, &mut self.stacks[index], word)
     }
 
@@ -228,11 +228,11 @@ impl BoundRow {
         requires { AreCountable self.old distant.old }
         ensures { OnOk result (IsRetired most self.old distant.old self.new distant.new) }
     {
-        if self.wait > 0 {
+        if self.puts_left > 0 {
             return Ok(());
         }
         let (behind, count) = bucket_behind(self.stacks.as_slice(), self.first, most)?;
-        self.wait = self.stacks.len().saturating_add(count / 8);
+        self.puts_left = self.stacks.len().saturating_add(count / 8);
         let Some(end) = behind else {
             return Ok(());
         };
