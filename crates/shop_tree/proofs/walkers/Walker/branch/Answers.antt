@@ -1,4 +1,4 @@
-use Rattle.std.proofs.{Common.{◌≡◌, ◌<◌, [], ap, length, subst, arith, rules}, lemmas.List.nil_from_length}
+use Rattle.std.proofs.{Common.{◌≡◌, ◌<◌, [], length, subst, arith}, lemmas.List.nil_from_length}
 use Rattle.shop_model.specs.Shop.{Shop, operation_count}
 use Rattle.shop_tree.specs.inner.{Opens.AreChildren, StateWalkers.stage_of, Walkers.{Stage, HasBranched, HasExpanded}}
 use Rattle.shop_tree.proofs.{ListLemmas.on_ok, ExpandLemmas.expands_branched, ListedLemmas.none_kept}
@@ -9,7 +9,7 @@ pub close-requires-clause-closed : goal.close-requires-clause-closed
 close-requires-clause-closed g c =
     let self = c.args.self.now in let word = self.path.items
     in let none : self.candidates.items ≡ [] = nil_from_length self.candidates.items (let a = c.len.ensures
-    in let b = c.if-self-eq0.true in omega arith)
+    in let b = c.if-len-eq0.true in omega arith)
     in subst (λ (x : Shop). AreChildren x self.incumbent word [] c.args.closed) self.same_shop
     (none_kept self.candidates.items c.args.closed none c.requires.listed.candidates)
 
