@@ -14,7 +14,7 @@ use Rattle.shop_bound.specs.inner.Queues.{ComeLater, IsNextRelease, IsBehind, Is
 use Rattle.shop_bound.specs.inner.Queues.{IsWithoutFirst}
 use Rattle.shop_bound.proofs.{TurnCounts.undone_of-one, WorkSums.{triple_at, fresh-undone}}
 
--- how often a position stands in a list
+-- how often an index stands in a list
 module _ {A : Type 0} (index : A → ℕ) where
   pub times-none : (k : ℕ) (xs : List A) → length xs ≡ 0 → times index k xs ≡ 0
   unfolding times

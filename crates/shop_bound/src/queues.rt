@@ -17,12 +17,12 @@ pub(crate) struct Work {
     pub(crate) done: bool,
 }
 
-/// Two heaps of operations, each operation named by its position in the list of triples.
+/// Two heaps of operations, each operation named by its index in the list of triples.
 #[derive(Drop)]
 pub(crate) struct Queue {
-    /// heads and positions of the operations to come, the least head on top
+    /// heads and indices of the operations to come, the least head on top
     coming: BinaryHeap<(Reverse<u64>, usize)>,
-    /// tails and positions of the released operations, the greatest tail on top, the lowest position on ties
+    /// tails and indices of the released operations, the greatest tail on top, the lowest index on ties
     released: BinaryHeap<(u64, Reverse<usize>)>,
     ghost least_first: { IsHeap by_head (heap_items coming) } by { Prim.hlevel props },
     ghost greatest_first: { IsHeap by_tail (heap_items released) } by { Prim.hlevel props },
@@ -62,7 +62,7 @@ impl Queue {
         Some(next.0.0)
     }
 
-    /// The released operation to serve: the one of greatest tail, of lowest position on ties; `None` if there is none.
+    /// The released operation to serve: the one of greatest tail, of lowest index on ties; `None` if there is none.
     pub(crate) fn next_to_serve(&self) -> Option<usize>
         ensures { IsFirst (heap_items self.now.released) result }
     {
@@ -70,7 +70,7 @@ impl Queue {
         Some(first.1.0)
     }
 
-    /// Takes out the operation to come of least head, and returns its position; `None` if none is released by `clock`.
+    /// Takes out the operation to come of least head, and returns its index; `None` if none is released by `clock`.
     fn pop_released(&mut self, clock: u64) -> Option<usize>
         ensures taken { TakesReleased clock (heap_items self.old.coming) (heap_items self.new.coming) result }
         ensures fewer { OnSome result (heap_len self.new.coming + 1 ≡ heap_len self.old.coming) }
@@ -81,8 +81,8 @@ impl Queue {
         if clock < release {
             return None;
         }
-        let (_head, position) = self.coming.pop()?;
-        Some(position)
+        let (_head, index) = self.coming.pop()?;
+        Some(index)
     }
 
     /// Moves each operation that comes by `clock` from the operations to come to the released ones.
@@ -92,9 +92,9 @@ impl Queue {
         ensures later { ComeLater clock (heap_items self.new.coming) }
         ensures room { KeepsRoom self.old self.new }
     {
-        while let Some(position) = self.pop_released(clock) {
-            let tail = works[position].triple.tail;
-            self.released.push((tail, Reverse(position))).unwrap();
+        while let Some(index) = self.pop_released(clock) {
+            let tail = works[index].triple.tail;
+            self.released.push((tail, Reverse(index))).unwrap();
         }
     }
 

@@ -77,7 +77,7 @@ module _ (l : LayoutState) where
       → AreBehind l.jobs l.steps firsts behind → length (all_legs l) < 2 ^ 64 → IsBehind l behind
   behind_is {firsts} {behind} begin are small = grind (arith, index_known)
 
--- the positions of all steps are below the number of all
+-- each step's position is below the number of positions
 module _ (shop : Shop) (limits : IsWithinLimits shop) (l : LayoutState) (laid : IsLaidOut shop l) where
   step_positions_below : (n : ℕ) → n ≡ 8 * get_or l.blocks shop.machines 0 → All (AreBelow n) l.step_positions
   step_positions_below n many j d known k e here =

@@ -2,7 +2,7 @@
 -- of its blocks.
 --     position_of l j k            the position of step k of job j
 --     position_or n rows j k       the position in the row of job j, or n if it has no step k
---     position_behind l q          the position of the step behind that at position q, or the number of all
+--     position_behind l q          the position of the step behind that at position q, or the number of all positions
 --     AreMachinesOf blocks n ms    the machine of each position, of the first n machines
 --     AreEven blocks each          each machine has `each` blocks, unless `each` is 0
 --     HoldsMachines l n            no machine has more than n positions

@@ -11,7 +11,7 @@ use std::marker::Model;
 
 /// A step of a route: its position, its machine and its time; or the end of a route, at the position after all others.
 /// The legs of a route are side by side in memory, so a walk along it reads them in turn; rows by position would be
-/// read elsewhere for each step.
+/// read at a distant index for each step.
 #[derive(Clone, Copy)]
 pub struct Leg {
     pub position: u32,
@@ -33,11 +33,11 @@ fn add_route(
     ensures { OnOk result (legs.new.items ≡ legs.old.items ++ route_legs machines.now times.now end positions.now) }
 {
     for position in positions {
-        let index = *position as usize;
+        let at = *position as usize;
         legs.push(Leg {
             position: *position,
-            machine: machines[index],
-            time: times[index],
+            machine: machines[at],
+            time: times[at],
         })?;
     }
     legs.push(Leg {

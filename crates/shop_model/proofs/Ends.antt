@@ -5,7 +5,7 @@ use Rattle.shop_model.specs.Shop.{Shop, Starts, route_of, machine_of, IsOperatio
 use Rattle.shop_model.{specs.{Shop.greatest_below, Checking.NoneEarly}, proofs.Greatest.le-greatest_below}
 use Rattle.shop_model.proofs.Greatest.{greatest_below-le}
 
--- (j, k) and (i, l) number two different operations
+-- (j, k) and (i, l) name two different operations
 abbrev pub AreDifferent : ℕ → ℕ → ℕ → ℕ → Type 0
 AreDifferent j k i l = (j ≡ i) × (k ≡ l) → ⊥
 

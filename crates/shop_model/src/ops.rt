@@ -14,7 +14,7 @@ pub struct Job {
     pub route: Vec<Op>,
 }
 
-/// What names an operation: step `step` of job `job`, both counted from 0.
+/// Names an operation: step `step` of job `job`, both counted from 0.
 #[derive(Clone, Copy, Debug, PartialEq, Eq)]
 pub struct OperationId {
     pub job: usize,

@@ -45,8 +45,8 @@ impl BoundMap {
         let (word, bound) = node.into_parts();
         match self.stacks.entry(bound)? {
             Entry::Occupied(stack) => stack.into_mut().push(alloc, word)?,
-            Entry::Vacant(place) => {
-                place.insert(Stack::of(alloc, word));
+            Entry::Vacant(vacant) => {
+                vacant.insert(Stack::of(alloc, word));
             }
         }
         Ok(())

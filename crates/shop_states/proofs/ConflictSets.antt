@@ -6,15 +6,15 @@ use Rattle.shop_bound.specs.Conflicts.{conflict}
 use Rattle.shop_layout.specs.{Lanes.rows_of, Positions.LayoutState}
 use Rattle.shop_states.specs.declared.{candidate_lists.FirstEnd.FirstEnd, states.Candidate.Candidate}
 use Rattle.shop_states.specs.inner.Candidates.{AreCandidatesOf, CanList, IsChosenBy, ListsGathered, told_at}
-use Rattle.shop_states.specs.inner.{LaneChoices.{AreNextsOwn, IsAlone, IsJobBelow}, LaneStates.IsKeptInLanes}
+use Rattle.shop_states.specs.inner.{LaneChoices.{AreNextsOfJobs, IsAlone, IsJobBelow}, LaneStates.IsKeptInLanes}
 use Rattle.shop_states.specs.inner.{Raises.IsInBlocks, RisingLists.IsGatheredWith}
-use Rattle.shop_states.proofs.{Candidates.choosable, LaneChoices.alone_with, NextOperations.nexts_own}
+use Rattle.shop_states.proofs.{Candidates.choosable, LaneChoices.alone_with, NextOperations.nexts_of_jobs}
 use Rattle.shop_states.proofs.OwnSpans.{CanTell, alone, can_tell, told, told_all}
 
 module _ {greatest : ℕ} {shop : Shop} {w : List ℕ} {l : LayoutState} {heads ends nexts : List ℕ}
     (kept : IsKeptInLanes greatest shop w l (rows_of l heads ends) nexts) where
-  pub owned : AreNextsOwn l heads nexts
-  owned = nexts_own (choosable kept).at
+  pub of_jobs : AreNextsOfJobs l heads nexts
+  of_jobs = nexts_of_jobs (choosable kept).at
 
   module _ {first : FirstEnd} (chosen : IsChosenBy greatest shop w l heads nexts first)
       {from behind : ℕ} (from_is : from ≡ get_or l.blocks first.machine 0)
@@ -35,7 +35,7 @@ module _ {greatest : ℕ} {shop : Shop} {w : List ℕ} {l : LayoutState} {heads 
         let ordered = chosen.blocks.ordered
         in let within = chosen.blocks.within
         in alone kept
-        (set_is (first.chosen ∷ []) (alone_with l nexts heads owned from behind first.end first.chosen (omega arith)
+        (set_is (first.chosen ∷ []) (alone_with l nexts heads of_jobs from behind first.end first.chosen (omega arith)
         (omega arith) chosen.known nothing)) limit first.chosen refl cs are
 
     pub tells : CanTell greatest (rows_of l heads ends) from behind
@@ -58,7 +58,7 @@ module _ {greatest : ℕ} {shop : Shop} {w : List ℕ} {l : LayoutState} {heads 
         in record {
           blocks_are = grind arith;
           computable = omega arith;
-          nexts_own = owned;
+          nexts_of_jobs = of_jobs;
           few = (let few = kept.kept.limits.jobs in let jobs = kept.are_next.jobs in omega arith);
           known = chosen.known;
           told = λ js is. told_all kept (set_is js is) first.chosen chosen.has chosen.machine_is from_is behind_is count

@@ -33,7 +33,7 @@ append_rises (x ∷ xs) ys r s lt = (
   append_rises xs ys r.1 s (λ a b h g. lt a b (inr h) g),
 )
 
--- the bit at q is set
+-- q is a set bit of the number, whose bits are counted from `at`
 abbrev IsBit : ℕ → ℕ → ℕ → ℕ → Type 0
 IsBit n at number q = (i : ℕ) × (i < n) × (q ≡ at + i) × (bit_at number i ≡ 1)
 

@@ -4,7 +4,7 @@ use Rattle.std.proofs.{Common.{subst, arith}, lemmas.List.Elements.{recursion_fr
 use Rattle.std.{proofs.lemmas.Bool.cases_lt, specs.List.AllByRecursion}
 use Rattle.shop_lanes.specs.Marks.{positions_among}
 use Rattle.shop_layout.specs.Positions.{LayoutState}
-use Rattle.shop_states.specs.inner.{LaneChoices.{AreNextsOwn, HaveJobs, IsAlone, IsJobAt, IsJobBelow}, JobSets.HasPut}
+use Rattle.shop_states.specs.inner.{LaneChoices.{AreNextsOfJobs, HaveJobs, IsAlone, IsJobAt, IsJobBelow}, JobSets.HasPut}
 use Rattle.shop_states.specs.inner.{Raises.IsInBlocks, RisingLists.{IsIn, Rises, HasGathered, IsGatheredWith}}
 use Rattle.shop_states.proofs.MarkedPositions.{IsBelow, below_is_in, in_is_below}
 
@@ -90,18 +90,18 @@ alone_on heads limit p {from} {to} {behind} low high within before then =
     ]))
 
 -- where nothing else waits below the limit, what is put in is alone
-pub alone_with : (l : LayoutState) (nexts heads : List ℕ) → AreNextsOwn l heads nexts
+pub alone_with : (l : LayoutState) (nexts heads : List ℕ) → AreNextsOfJobs l heads nexts
     → (from to limit j : ℕ) → from ≤ to → 8 * to ≤ length heads → j < length nexts
     → IsAlone heads from to limit (get_or nexts j 0)
     → IsGatheredWith j (IsJobBelow l heads (IsInBlocks from to) limit) (j ∷ [])
-alone_with l nexts heads own from to limit j ordered within known alone = record {
+alone_with l nexts heads of_jobs from to limit j ordered within known alone = record {
   has = inl refl;
   gathered = λ q next.
       let at : next.position ≡ get_or nexts j 0 =
       alone_at heads from to limit (get_or nexts j 0) next.position ordered within alone
       (record { there = next.there; waits = next.waits; below = next.below })
       in let high = next.there.1
-      in inl (sym next.job ∙ ap (λ (x : ℕ). get_or l.jobs x 0) at ∙ own.own j known (omega arith));
+      in inl (sym next.job ∙ ap (λ (x : ℕ). get_or l.jobs x 0) at ∙ of_jobs.own j known (omega arith));
   only = λ q h. grind arith;
   rises = ((λ q h. absurd h), tt);
 }

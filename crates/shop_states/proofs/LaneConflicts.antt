@@ -10,7 +10,7 @@ use Rattle.shop_bound.specs.Conflicts.{open_jobs, next_machine, next_head, next_
 use Rattle.shop_bound.specs.Heads.{head_of, ready_after}
 use Rattle.shop_states.specs.inner.{LaneChoices.{AreEndsAt, AreNextsAt, IsJobBelow}, Raises.{HasBlocks, IsOnMachine}}
 use Rattle.shop_states.specs.inner.RisingLists.{IsIn, Rises, IsGatheredWith}
-use Rattle.shop_states.proofs.NextOperations.{next_is, nexts_own, next_there, stored_end, stored_head}
+use Rattle.shop_states.proofs.NextOperations.{next_is, nexts_of_jobs, next_there, stored_end, stored_head}
 use Rattle.shop_states.proofs.{RaisedHeads.{each_waiting, has_blocks}, RisingLists.{none_in, one_rising}}
 use Rattle.shop_layout.specs.Positions.{LayoutState, position_of, first_position}
 use Rattle.shop_layout.proofs.LaidPositions.{on_machine, is_position_of}
@@ -164,7 +164,7 @@ module _ {shop : Shop} {p : Placing} {l : LayoutState} {nexts : List ℕ} {rows 
           there = is.there;
           waits = is.waits;
           below = is.below;
-          job = (nexts_own can).own j is.job here;
+          job = (nexts_of_jobs can).own j is.job here;
         }
 
   module _ (r : ℕ) (op : IsOperation shop r (p.steps r)) where

@@ -9,7 +9,7 @@ use Rattle.shop_layout.proofs.LatestEnds.{latest_end_is}
 use Rattle.shop_states.specs.inner.{LaneChoices.{AreEndsAt, AreNextsAt, AreNextsOf}, LaneStates.AreHeadsInLanes}
 use Rattle.shop_states.specs.inner.{LaneEnds.{end_at, CanKeepEnds, IsEndOf}, Raises.AreFirst}
 use Rattle.shop_states.proofs.{Followed.position_or-past, RaisedHeads.indexed, RaiseWalks.{apart, position_below}}
-use Rattle.shop_states.proofs.NextOperations.{head_first, next_is, nexts_own, next_there, next_within, stored_end}
+use Rattle.shop_states.proofs.NextOperations.{head_first, next_is, nexts_of_jobs, next_there, next_within, stored_end}
 
 -- the ends of all jobs are as they are to be
 abbrev pub AreEndsOf : ℕ → List ℕ → Rows → Type 0
@@ -48,7 +48,7 @@ module _ {greatest : ℕ} {shop : Shop} {w : List ℕ} {l : LayoutState} {rows :
   -- what stands before a next operation on its route is placed
   pub next_first : AreFirst l nexts rows.heads
   next_first = record {
-    own = (nexts_own nexts_at).own;
+    own = (nexts_of_jobs nexts_at).own;
     first = λ j i k known more at.
         let ix = indexed kept.limits kept.laid kept.heads.positions
         in let many = are.jobs
@@ -68,7 +68,7 @@ module _ {greatest : ℕ} {shop : Shop} {w : List ℕ} {l : LayoutState} {rows :
   module _ (as_many : length rows.ends ≡ length shop.jobs) where
     pub can_keep : CanKeepEnds greatest l nexts rows
     can_keep = record {
-      nexts_own = nexts_own nexts_at;
+      nexts_of_jobs = nexts_of_jobs nexts_at;
       within = λ j known. elim (cases_lt (p.steps j) (length (route_of shop j))) [
         | inl op ↦ (let a = next_within nexts_at j op in omega arith)
         | inr past ↦ (let many = are.jobs in let route = kept.laid.routes j

@@ -2,9 +2,10 @@
 use Rattle.std.proofs.Common.{Bool, ltb, ◌≡◌, ℕ, zero, suc, ◌+◌, ◌-◌, ◌≤◌, ◌<◌, inl, inr, List, [], ◌∷◌, ◌++◌, length}
 use Rattle.std.proofs.{Common.{drop, take, set, refl, sym, ◌∙◌, ap, subst, arith}, lemmas.Bool.{cases_Bool, cases_lt}}
 use Rattle.std.proofs.lemmas.{Bool.{le-ltb, lt-ltb}, List.{append-nil, drop_all, take-set, take_all, take_more_set}}
+use Rattle.std.proofs.lemmas.List.Elements.{All-cons, All-nil}
 use mir.Val.{bool_byte}
 use Rattle.shop_states.specs.declared.states.Candidate.{Candidate}
-use Rattle.shop_states.specs.inner.Candidates.{ListsOwn, empty, left_out, taken}
+use Rattle.shop_states.specs.{States.AreOwnsBelow, inner.Candidates.{ListsOwn, empty, left_out, taken}}
 
 pub at_most_one : (b : Bool) → bool_byte b ≤ 1
 at_most_one b = grind (arith, cases_Bool)
@@ -14,7 +15,20 @@ pub written_back : (n len : ℕ) (slice before : List Candidate) → length slic
     → take n (take len (slice ++ drop (length slice) before)) ≡ take n slice
 written_back n len slice before long lent = grind (arith, drop_all, append-nil, take_all)
 
+-- a sole one has the own number 0
+pub sole_below : (limit job : ℕ) (cs : List Candidate) → cs ≡ record { job = job; own = 0 } ∷ []
+    → AreOwnsBelow limit cs
+sole_below limit job cs is = subst (AreOwnsBelow limit) (sym is)
+    (All-cons (λ (c : Candidate). 0 < c.own → c.own < limit) _ [] (λ some. absurd (omega arith)) (All-nil _))
+
 module _ (limit : ℕ) (own : ℕ → ℕ) where
+  -- each that is listed is below the limit
+  pub owns_below : {js : List ℕ} {cs : List Candidate} {n : ℕ} → ListsOwn limit own js cs n → AreOwnsBelow limit cs
+  owns_below empty = All-nil _
+  owns_below (taken {cs = cs} j c same is low rest) =
+      All-cons (λ (x : Candidate). 0 < x.own → x.own < limit) c cs (λ some. omega arith) (owns_below rest)
+  owns_below (left_out j high rest) = owns_below rest
+
   counted : {js : List ℕ} {cs : List Candidate} (n m : ℕ) → n ≡ m → ListsOwn limit own js cs n
       → ListsOwn limit own js cs m
   counted {js} {cs} n m same list = subst (λ (k : ℕ). ListsOwn limit own js cs k) same list

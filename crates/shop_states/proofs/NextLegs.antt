@@ -45,7 +45,7 @@ module _ {l read : LayoutState} (same : read ≡ l) {q : ℕ} (stands : IsStepPo
 
       time : leg.time ≡ get_or l.times leg.position 0
       time = leg_time l stands.job within found
-          (let positions = keep.nexts_own.positions in let timed = keep.timed in omega arith)
+          (let positions = keep.nexts_of_jobs.positions in let timed = keep.timed in omega arith)
 
       pub next_end : IsNextEnd greatest hs leg (end_at greatest (set nexts job leg.position) (rows_of l hs es) job)
       next_end = record {

@@ -5,7 +5,7 @@ use Rattle.shop_lanes.specs.Rows.{Rows}
 use Rattle.shop_model.{specs.{Shop.{Shop, IsOperation, time_of}, Word.Placing}, proofs.Ends.IsOperation-job}
 use Rattle.shop_bound.specs.{Conflicts.{next_end, next_head}, Heads.head_of}
 use Rattle.shop_layout.{specs.Positions.{LayoutState, first_position, position_of}, proofs.LaidPositions.is_position_of}
-use Rattle.shop_states.{specs.inner.LaneChoices.{AreNextsOwn, AreNextsAt}, proofs.Followed.position_or-there}
+use Rattle.shop_states.{specs.inner.LaneChoices.{AreNextsOfJobs, AreNextsAt}, proofs.Followed.position_or-there}
 
 -- the head of a next operation
 pub head_first : (shop : Shop) (p : Placing) (j : ℕ) → head_of shop p j (p.steps j) ≡ next_head shop p j
@@ -26,8 +26,8 @@ module _ {shop : Shop} {p : Placing} {l : LayoutState} {nexts : List ℕ} {rows 
   pub next_is : (j : ℕ) → j < length shop.jobs → get_or nexts j 0 < length rows.heads → IsOperation shop j (p.steps j)
   next_is j known below = grind (arith, cases_lt)
 
-  pub nexts_own : AreNextsOwn l rows.heads nexts
-  nexts_own = record {
+  pub nexts_of_jobs : AreNextsOfJobs l rows.heads nexts
+  nexts_of_jobs = record {
     positions = can.laid.positions.jobs ∙ sym can.heads.positions;
     jobs = λ q here. grind arith;
     own = λ j known here. (let many = can.are.jobs in let op = next_is j (omega arith) here

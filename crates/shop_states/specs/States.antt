@@ -10,6 +10,7 @@
 --     TellsBoundBelow limit bound   the bound where it is below the limit, and else nothing
 --     ListsBelow shop w limit is    the candidates of a conflict set, in order, but for n jobs with which the bound
 --                                   reaches the limit
+--     AreOwnsBelow limit cs         the own number of each candidate is 0 or below the limit
 --     HasDispatched shop P after .. each word of which P holds goes on with the job: if it has this bound, the longer
 --                                   word's bound is told, if below the limit; if one is told, `after` holds of the
 --                                   longer word
@@ -49,6 +50,9 @@ pub data ListsBelow (shop : Shop) (word : List ℕ) (limit : ℕ) (is : Candidat
       → ListsBelow shop word limit is js cs n → ListsBelow shop word limit is (j ∷ js) (c ∷ cs) n
   closed : {js : List ℕ} {cs : List Candidate} {n : ℕ} (j : ℕ) → limit ≤ lb shop (word ++ j ∷ [])
       → ListsBelow shop word limit is js cs n → ListsBelow shop word limit is (j ∷ js) cs (suc n)
+
+abbrev pub AreOwnsBelow : ℕ → List Candidate → Type 0
+AreOwnsBelow limit cs = All (λ c. 0 < c.own → c.own < limit) cs
 
 pub record HasListed (shop : Shop) (P : List ℕ → Type 0) (is : List ℕ → Candidate → Type 0)
     (cs : List Candidate) (bound : ℕ) : Type 0 where

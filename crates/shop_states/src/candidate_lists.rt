@@ -5,6 +5,7 @@ ghost use Rattle.shop_model.specs.Shop.{Shop};
 ghost use Rattle.shop_bound.specs.Conflicts.{conflict};
 ghost use Rattle.shop_states.specs.inner.Candidates.{AreCandidatesOf, CanGather, CanList, IsChosenBy, IsTold};
 ghost use Rattle.shop_states.specs.inner.{Candidates.{ListsGathered, ListsOwn, told_at}, LaneChoices.IsJobBelow};
+ghost use Rattle.shop_states.specs.States.{AreOwnsBelow};
 ghost use Rattle.shop_states.specs.inner.{LaidLanes.{KeepsWord, rows_in}, Raises.IsInBlocks};
 ghost use Rattle.shop_states.specs.inner.RisingLists.{IsGatheredWith, IsIn};
 ghost use Rattle.shop_layout.specs.Positions.{HoldsMachines};
@@ -208,6 +209,7 @@ fn list_in<L: StateLanes>(
     requires room { length state.now.next.items ≤ length list.old }
     ensures are { (shop : Shop) (w : List ℕ) → KeepsWord L.StateLanes grid.now state.now shop w
         → AreCandidatesOf shop w grid.now limit (take result.listed list.new) (result.seen - result.listed) }
+    ensures low { AreOwnsBelow limit (take result.listed list.new) }
     ensures tally { result.listed ≤ result.seen }
     ensures few { result.seen ≤ length state.now.next.items }
     ensures long { length owns.new ≡ length owns.old }
@@ -257,6 +259,7 @@ pub(crate) fn list_candidates<L: StateLanes>(
     requires room { length state.now.next.items ≤ candidates.old.room }
     ensures are { (shop : Shop) (w : List ℕ) → KeepsWord L.StateLanes grid.now state.now shop w
         → AreCandidatesOf shop w grid.now limit candidates.new.items result }
+    ensures low { AreOwnsBelow limit candidates.new.items }
     ensures long { length owns.new ≡ length owns.old }
     ensures room { candidates.new.room ≡ candidates.old.room }
 {

@@ -4,7 +4,7 @@ ghost use Rattle.std.specs.Prelude.{max, min};
 ghost use Rattle.shop_model.specs.Word.{IsWord};
 ghost use Rattle.shop_bound.specs.{Bound.lb, Conflicts.conflict};
 ghost use Rattle.shop_states.specs.States.{CanDispatch, HasDispatched, HasListed, HasSoleCandidate, IsOfSomeWord};
-ghost use Rattle.shop_states.specs.States.{ListsBelow, Settles};
+ghost use Rattle.shop_states.specs.States.{AreOwnsBelow, ListsBelow, Settles};
 ghost use Rattle.shop_states.specs.inner.WordStates.{IsCandidate, IsRoom, IsStateOf, IsStateWith, KnowsChild};
 
 use crate::advances::{advance_below, advance_unbounded, dispatch_in_copy, set_next, strike};
@@ -167,6 +167,7 @@ impl<'l, 'a, L: StateLanes> Dispatcher<'l, 'a, L> {
         ensures listed { (w : List ℕ) → IsStateOf L.StateLanes self.old.laid_out w state.now
             → ListsBelow self.old.laid_out.asked w limit (IsCandidate self.old.laid_out w)
             (conflict self.old.laid_out.asked w) candidates.new.items result }
+        ensures low { AreOwnsBelow limit candidates.new.items }
         ensures room { candidates.new.room ≡ candidates.old.room }
         ensures same { self.new ≡ self.old }
     {

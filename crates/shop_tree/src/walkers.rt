@@ -24,7 +24,7 @@ const TOGETHER: usize = 36;
 /// A walk: the word found last, the incumbent (the makespan to beat), and how many more nodes it may take (`budget`);
 /// its states, path to the current word, stack of pending children, and room for candidates.
 pub(crate) struct Walker<'l, 'a, L: StateLanes> {
-    /// the layout's, held here too, where it plainly stays the same while states change
+    /// the layout's; held here too, so that contracts see that it stays the same while states change
     pub(crate) instance: &'a Instance,
     pub(crate) operations: usize,
     /// `TOGETHER` times the number of machines, to compare with candidates times operations left on all machines

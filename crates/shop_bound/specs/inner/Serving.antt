@@ -23,7 +23,7 @@ pub record IsServable (ws : List Work) (clock i : ℕ) : Type 0 where
   pub undone : (work_at ws i).done ≡ false
   pub released : (work_at ws i).triple.head ≤ clock
 
--- i is served: of the first n, released and not done, it has the greatest tail, and the lowest position on ties
+-- i is served: of the first n, released and not done, it has the greatest tail, and the lowest index on ties
 pub record IsServed (n : ℕ) (ws : List Work) (clock i : ℕ) : Type 0 where
   pub seen : i < n
   pub undone : (work_at ws i).done ≡ false

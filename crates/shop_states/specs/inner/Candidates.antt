@@ -17,7 +17,7 @@ use Rattle.std.specs.Prelude.{slice_index}
 use Rattle.shop_lanes.specs.{Rows.Rows, Spans.own_span}
 use Rattle.shop_model.specs.{Shop.Shop, Word.{IsWord, placing}}
 use Rattle.shop_bound.specs.{Bound.lb, Conflicts.conflict}
-use Rattle.shop_states.specs.{States.ListsBelow, inner.LaneChoices.{AreConflictBlocks, AreNextsOwn, IsJobBelow}}
+use Rattle.shop_states.specs.{States.ListsBelow, inner.LaneChoices.{AreConflictBlocks, AreNextsOfJobs, IsJobBelow}}
 use Rattle.shop_states.specs.inner.{LaneHeads.AreHeadsAt, LaneStates.IsKeptInLanes, RisingLists.{IsGatheredWith, IsIn}}
 use Rattle.shop_states.specs.inner.Raises.{HasBlocks, IsInBlocks, IsOnMachine}
 use Rattle.shop_states.specs.declared.{lane_choices.ConflictBlocks.ConflictBlocks, states.Candidate.Candidate}
@@ -60,7 +60,7 @@ pub record CanList (greatest : ℕ) (l : LayoutState) (rows : Rows) (nexts : Lis
     (blocks : ConflictBlocks) (count : ℕ) : Type 0 where
   pub blocks_are : AreConflictBlocks greatest rows.heads blocks
   pub computable : 8 * blocks.from < 2 ^ 64
-  pub nexts_own : AreNextsOwn l rows.heads nexts
+  pub nexts_of_jobs : AreNextsOfJobs l rows.heads nexts
   pub few : length nexts < 1024
   pub known : blocks.chosen < length nexts
   pub told : (js : List ℕ) → IsGatheredWith blocks.chosen

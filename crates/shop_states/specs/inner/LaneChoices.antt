@@ -6,7 +6,7 @@
 --                                    first blocks
 --     IsAlone heads from to ..       one operation at most waits in some blocks with a head below a limit
 --     HaveJobs l positions most      each position has a job, all jobs being below a number
---     AreNextsOwn l heads nexts      each position has a job, and the next operations have theirs
+--     AreNextsOfJobs l heads nexts   each position has a job, and the next operations have theirs
 --     AreNextsAt shop p l nexts ..   heads and next operations are those of placing p
 use Rattle.std.specs.Prelude.{◌≡◌, ℕ, ◌+◌, ◌*◌, ◌≤◌, ◌<◌, List, All, length, slice_index}
 use Rattle.shop_lanes.specs.{Marks.positions_among, Rows.Rows}
@@ -46,7 +46,7 @@ pub record HaveJobs (l : LayoutState) (positions most : ℕ) : Type 0 where
   pub many : length l.jobs ≡ positions
   pub below : (q : ℕ) → q < positions → slice_index l.jobs q < most
 
-pub record AreNextsOwn (l : LayoutState) (heads nexts : List ℕ) : Type 0 where
+pub record AreNextsOfJobs (l : LayoutState) (heads nexts : List ℕ) : Type 0 where
   pub positions : length l.jobs ≡ length heads
   pub jobs : (q : ℕ) → q < length heads → slice_index l.jobs q < length nexts
   pub own : (j : ℕ) → j < length nexts → slice_index nexts j < length heads

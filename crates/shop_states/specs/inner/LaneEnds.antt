@@ -5,7 +5,7 @@
 --     CanKeepEnds greatest l nexts rows  the end of each job can be set
 use Rattle.std.specs.Prelude.{◌≡◌, ℕ, ◌+◌, ◌≤◌, ◌<◌, ◌^◌, List, length, slice_index, if◌then◌else◌, nat_lt}
 use Rattle.shop_lanes.specs.Rows.{Rows}
-use Rattle.shop_states.specs.inner.LaneChoices.{AreNextsOwn}
+use Rattle.shop_states.specs.inner.LaneChoices.{AreNextsOfJobs}
 use Rattle.shop_layout.specs.Positions.{LayoutState}
 
 abbrev pub end_at : ℕ → List ℕ → Rows → ℕ → ℕ
@@ -16,7 +16,7 @@ abbrev pub IsEndOf : ℕ → List ℕ → Rows → ℕ → Type 0
 IsEndOf greatest nexts rows j = slice_index rows.ends j ≡ end_at greatest nexts rows j
 
 pub record CanKeepEnds (greatest : ℕ) (l : LayoutState) (nexts : List ℕ) (rows : Rows) : Type 0 where
-  pub nexts_own : AreNextsOwn l rows.heads nexts
+  pub nexts_of_jobs : AreNextsOfJobs l rows.heads nexts
   pub within : (j : ℕ) → j < length nexts → slice_index nexts j ≤ length rows.heads
   pub timed : length l.times ≡ length rows.heads
   pub ends : length rows.ends ≡ length nexts

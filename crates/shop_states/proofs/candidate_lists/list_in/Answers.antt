@@ -1,7 +1,8 @@
 use Rattle.std.proofs.Common.{◌*◌, List, [], ℕ, ap, get_or, length, map, refl, subst, sym, arith}
 use Rattle.std.proofs.lemmas.List.{take_more_set}
 use Rattle.shop_states.specs.inner.LaneChoices.{IsAlone}
-use Rattle.shop_states.proofs.{ConflictSets.{all_told, can_list, sole, tells}, OwnSpans.nobody}
+use Rattle.shop_states.proofs.{ConflictSets.{all_told, can_list, sole, tells}, Listing.{owns_below, sole_below}}
+use Rattle.shop_states.proofs.OwnSpans.{nobody}
 use Rattle.shop_states.proofs.candidate_lists.list_in.Goals as goal
 
 pub returns-in_default-clause-are : goal.returns-in_default-clause-are
@@ -103,3 +104,16 @@ pub returns-clause-are : goal.returns-clause-are
 returns-clause-are g c = λ shop w kept. all_told kept (c.in-Some.ensures.is shop w kept) c.blocks_of-from.ensures.first
     c.blocks_of-from.ensures.behind (map g.L.StateLanes.value c.own_spans.new.owns) c.own_spans.ensures.owns
     c.list_conflict_set-2.ensures.listed
+
+pub returns-then-is_alone-clause-low : goal.returns-then-is_alone-clause-low
+returns-then-is_alone-clause-low g c =
+    let chosen = c.in-Some.ensures.is c.requires.can.shop c.requires.can.word c.requires.can.kept
+    in sole_below c.args.limit c.in-Some.first.chosen _
+    (take_more_set c.args.list.now 0 (record { job = c.in-Some.first.chosen; own = 0 })
+    (let known = chosen.known in let room = c.requires.room in omega arith))
+
+pub returns-then-next-le-JOBS_PER_NUMBER-clause-low : goal.returns-then-next-le-JOBS_PER_NUMBER-clause-low
+returns-then-next-le-JOBS_PER_NUMBER-clause-low g c = owns_below c.args.limit _ c.list_conflict_set.ensures.listed.listed
+
+pub returns-clause-low : goal.returns-clause-low
+returns-clause-low g c = owns_below c.args.limit _ c.list_conflict_set-2.ensures.listed.listed
