@@ -60,7 +60,9 @@ module _ (shop : Shop) (c : ℕ) where
       → IsLeastHeld b ss (fold better_of b ss)
   least_held b [] held a = record { held = held; first = omega arith; each = λ s h. absurd h }
   least_held b (s ∷ ss) held a = elim (cases_Bool (ltb s.best b.best)) [
-    | inl e ↦ grind (arith, ltb-true, held_from, least_held s ss)
+    | inl e ↦ (let low = ltb-true s.best b.best e
+        in let held_s = held_from b s s.found refl a.0.found low held.below
+        in grind (arith, low, held_s, least_held s ss held_s a.1))
     | inr e ↦ grind (arith, ltb-false, least_held b ss held a.1)
   ]
 
