@@ -1,8 +1,16 @@
-use Rattle.std.proofs.Common.{◌≡◌, ◌+◌, ◌-◌, ◌*◌, ◌<◌, take, refl, ◌∙◌, ap, subst, arith}
+use Rattle.std.proofs.Common.{◌≡◌, ℕ, ◌+◌, ◌-◌, ◌*◌, ◌≤◌, ◌<◌, take, refl, sym, ◌∙◌, ap, subst, arith}
 use Rattle.shop_runs.specs.{Plans.planned, inner.{Distant.IsRetired, Searches.most_left, Stores.open_list}}
+use Rattle.shop_runs.specs.{Limits.IsCountWithin, inner.NodeLists.AreBelow}
+use Rattle.shop_runs.specs.declared.plans.TheConstants.{MAX_BUDGET, MAX_PIECES, MAX_ROUNDS}
 use Rattle.shop_runs.{specs.Entries.told, proofs.{DistantRuns.near_search, DistantRounds.run_next}}
 use Rattle.shop_runs.proofs.OpenCounts.{put_fits, retire_fits}
 use Rattle.shop_runs.proofs.runs.OpenRun.next.Goals as goal
+
+one_more : (r n m : ℕ) → IsCountWithin r n → r < MAX_ROUNDS → m ≤ n + MAX_PIECES * MAX_BUDGET → IsCountWithin (r + 1) m
+one_more r n m a b d = let e = a.1 in (omega arith, omega arith)
+
+same_count : (r n s m : ℕ) → r ≡ s → n ≡ m → IsCountWithin s m → IsCountWithin r n
+same_count r n s m a b d = let e = d.0 in let f = d.1 in (omega arith, omega arith)
 
 pub cut-requires-clause-search : goal.cut-requires-clause-search
 cut-requires-clause-search g c =
@@ -55,16 +63,23 @@ returns-clause-next g c = λ s run standing.
     })
 
 pub invariant_of-self-2 : goal.invariant_of-self-2
-invariant_of-self-2 g c = grind arith
+invariant_of-self-2 g c = record {
+  within = one_more c.in_ok-round.round.rounds c.in_ok-round.round.nodes c.in_ok-found.field-0.nodes
+      c.in_ok-round.round.counted c.in_ok-round.round.rounds_left c.in_ok-found.ensures.counted;
+}
 
 pub keep_below-requires : goal.keep_below-requires
-keep_below-requires g c = grind arith
+keep_below-requires g c = subst (λ m. AreBelow m (open_list c.cut.new.self.open)) (sym c.cut.ensures.makespan)
+    c.in_ok-round.ensures.front.below
 
 pub returns-clause-layout : goal.returns-clause-layout
-returns-clause-layout g c = grind arith
+returns-clause-layout g c = c.in_ok-round.round.layout_of ∙ ap (λ r. r.shop) c.in_ok-round.ensures.front.round
 
 pub invariant_of-self : goal.invariant_of-self
-invariant_of-self g c = grind arith
+invariant_of-self g c = record {
+  within = same_count c.cut.new.self.rounds c.cut.new.self.nodes c.args.self.now.rounds c.args.self.now.nodes
+      c.cut.ensures.counts.0 c.cut.ensures.counts.1 c.args.self.now.within;
+}
 
 pub put_left-requires : goal.put_left-requires
 put_left-requires g c =
