@@ -1,4 +1,4 @@
-use Rattle.std.proofs.Common.{rules, length, arith, refl, sym, eqb-true}
+use Rattle.std.proofs.Common.{length, arith, refl, sym, eqb-true}
 use Rattle.shop_runs.{specs.{Plans.planned, inner.Stores.open_list}, proofs.{PieceLemmas.some_open, Ways.way_first}}
 use Rattle.shop_runs.proofs.Ways.{way_search, way_next, way_closed, way_last}
 use Rattle.shop_runs.proofs.runs.OpenRun.at_end.Goals as goal
@@ -12,7 +12,8 @@ returns-then-is_empty g c = way_closed c.args.instance.now
     (eqb-true (length (open_list c.loop-done.run.open)) 0 (sym c.if-is_empty.ensures))
 
 pub next-requires-clause-search : goal.next-requires-clause-search
-next-requires-clause-search g c = search (rules, way_search)
+next-requires-clause-search g c = way_search c.args.instance.now
+    (planned c.args.plan.now) c.loop-done.done c.loop-done.run c.loop-done.invariant.way
 
 pub loop-done-preserved : goal.loop-done-preserved
 loop-done-preserved g c = record {
@@ -25,7 +26,9 @@ loop-done-preserved g c = record {
 }
 
 pub returns : goal.returns
-returns g c = grind (arith, way_last)
+returns g c = way_last c.args.instance.now
+    (planned c.args.plan.now) c.loop-done.done c.loop-done.run c.loop-done.invariant.way
+    (let a = c.loop-done-test.false in omega arith)
 
 pub next-requires-clause-rounds : goal.next-requires-clause-rounds
 next-requires-clause-rounds g c = grind arith
