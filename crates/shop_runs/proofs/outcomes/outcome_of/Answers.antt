@@ -63,7 +63,22 @@ returns c =
     c.args.round.now.small_budget (length_pieces c.args.round.now) (all ∙ c.requires.0)
 
 pub overflow_add-result : goal.overflow_add-result
-overflow_add-result c = search (rules, entry_turn, small_sum)
+overflow_add-result c =
+    let gives = c.into_iter-entry-iterator.ensures.into_iter_gives
+    in let at : IsEntryAt c.args.entries.items (length c.loop-entry.yielded) c.in-Some.entry =
+    entry_turn c.into_iter-entry-iterator.result c.loop-entry.entry-iterator c.next.new.self c.args.entries gives.0
+    gives.1 c.loop-entry.yielded c.loop-entry.yielded_by c.next.result c.next.ensures.steps
+    c.in-Some.entry c.in-Some.is
+    in let small = small_sum c.args.round.now c.args.entries.items c.in-Some.entry (length c.loop-entry.yielded)
+    c.in-Done.sheet c.loop-entry.outcome c.requires at c.in-Done.is c.loop-entry.invariant.so_far
+    in omega arith
 
 pub take_in-requires : goal.take_in-requires
-take_in-requires c = search (rules, entry_turn, small_sum)
+take_in-requires c =
+    let gives = c.into_iter-entry-iterator.ensures.into_iter_gives
+    in let at : IsEntryAt c.args.entries.items (length c.loop-entry.yielded) c.in-Some.entry =
+    entry_turn c.into_iter-entry-iterator.result c.loop-entry.entry-iterator c.next.new.self c.args.entries gives.0
+    gives.1 c.loop-entry.yielded c.loop-entry.yielded_by c.next.result c.next.ensures.steps
+    c.in-Some.entry c.in-Some.is
+    in small_sum c.args.round.now c.args.entries.items c.in-Some.entry (length c.loop-entry.yielded) c.in-Done.sheet
+    c.loop-entry.outcome c.requires at c.in-Done.is c.loop-entry.invariant.so_far
