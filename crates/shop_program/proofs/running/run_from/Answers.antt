@@ -24,9 +24,13 @@ returns-in_err-solve_text-in-Solve g c =
     (record { right = e.ensures.right; determined = e.ensures.determined; solving = e.ensures.solving }))
 
 pub returns-in-Check : goal.returns-in-Check
-returns-in-Check g c = rw c.in-Check.is (_, ap status_of_verdict (sym c.if-feasible.false), (_, _,
-    c.in_ok-second-in-Check.ensures.opened, c.in_ok-feasible-in-Check.ensures))
+returns-in-Check g c =
+    let told = ap status_of_verdict (sym c.if-feasible.false) in
+    rw c.in-Check.is
+    (_, told, (_, _, c.in_ok-second-in-Check.ensures.opened, c.in_ok-feasible-in-Check.ensures))
 
 pub returns-then-feasible : goal.returns-then-feasible
-returns-then-feasible g c = rw c.in-Check.is (_, ap status_of_verdict (sym c.if-feasible.true), (_, _,
-    c.in_ok-second-in-Check.ensures.opened, c.in_ok-feasible-in-Check.ensures))
+returns-then-feasible g c =
+    let told = ap status_of_verdict (sym c.if-feasible.true) in
+    rw c.in-Check.is
+    (_, told, (_, _, c.in_ok-second-in-Check.ensures.opened, c.in_ok-feasible-in-Check.ensures))

@@ -17,9 +17,9 @@ returns-in-Early c =
 
 overlap_line : {X E : Type 0} (bytes : X → List ℕ) (r : Result X E) (m j k i l t : List ℕ)
     → IfOk r (λ x. bytes x ≡ codes "infeasible: machine " ++ (m ++ (codes " overlap of job " ++ (j ++ (codes " step "
-    ++ (k ++ (codes " and job " ++ (i ++ (codes " step " ++ (l ++ codes "\n")))))))))) → printed_line (codes "infeasible:"
-    ∷ codes "machine" ∷ m ∷ codes "overlap" ∷ codes "of" ∷ codes "job" ∷ j ∷ codes "step" ∷ k ∷ codes "and"
-    ∷ codes "job" ∷ i ∷ codes "step" ∷ l ∷ []) ≡ t → IfOk r (λ x. bytes x ≡ t)
+    ++ (k ++ (codes " and job " ++ (i ++ (codes " step " ++ (l ++ codes "\n"))))))))))
+    → printed_line (codes "infeasible:" ∷ codes "machine" ∷ m ∷ codes "overlap" ∷ codes "of" ∷ codes "job" ∷ j
+    ∷ codes "step" ∷ k ∷ codes "and" ∷ codes "job" ∷ i ∷ codes "step" ∷ l ∷ []) ≡ t → IfOk r (λ x. bytes x ≡ t)
 overlap_line bytes r m j k i l t h e = same_text bytes r _ t h (overlap_is m j k i l ∙ e)
 
 pub returns-in-Overlap : goal.returns-in-Overlap
