@@ -29,13 +29,28 @@ pub below_more : (b : ℕ) (ns : List Node)
     → length (nodes_below (b + 1) ns) ≡ length (nodes_below b ns) + count_of b ns
 below_more b [] = grind arith
 below_more b (n ∷ ns) = elim (cases_lt n.bound b) [
-  | inl low ↦ grind (arith, lt-ltb n.bound b low, lt-ltb n.bound (b + 1) (omega arith), ne_eqb n.bound b (omega arith),
-      below_more b ns)
+  | inl low ↦ grind (
+    arith,
+    lt-ltb n.bound b low,
+    lt-ltb n.bound (b + 1) (omega arith),
+    ne_eqb n.bound b (omega arith),
+    below_more b ns,
+  )
   | inr high ↦ elim (cases_eq n.bound b) [
-    | inl e ↦ grind (arith, le-ltb n.bound b high, lt-ltb n.bound (b + 1) (omega arith), eq-eqb n.bound b e,
-        below_more b ns)
-    | inr ne ↦ grind (arith, le-ltb n.bound b high, le-ltb n.bound (b + 1) (omega arith), ne_eqb n.bound b ne,
-        below_more b ns)
+    | inl e ↦ grind (
+      arith,
+      le-ltb n.bound b high,
+      lt-ltb n.bound (b + 1) (omega arith),
+      eq-eqb n.bound b e,
+      below_more b ns,
+    )
+    | inr ne ↦ grind (
+      arith,
+      le-ltb n.bound b high,
+      le-ltb n.bound (b + 1) (omega arith),
+      ne_eqb n.bound b ne,
+      below_more b ns,
+    )
   ]
 ]
 

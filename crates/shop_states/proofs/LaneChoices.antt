@@ -4,7 +4,8 @@ use Rattle.std.proofs.{Common.{subst, arith}, lemmas.List.Elements.{recursion_fr
 use Rattle.std.{proofs.lemmas.Bool.cases_lt, specs.List.AllByRecursion}
 use Rattle.shop_lanes.specs.Marks.{positions_among}
 use Rattle.shop_layout.specs.Positions.{LayoutState}
-use Rattle.shop_states.specs.inner.{LaneChoices.{AreNextsOfJobs, HaveJobs, IsAlone, IsJobAt, IsJobBelow}, JobSets.HasPut}
+use Rattle.shop_states.specs.inner.{LaneChoices.{AreNextsOfJobs, HaveJobs, IsAlone, IsJobAt, IsJobBelow}}
+use Rattle.shop_states.specs.inner.JobSets.{HasPut}
 use Rattle.shop_states.specs.inner.{Raises.IsInBlocks, RisingLists.{IsIn, Rises, HasGathered, IsGatheredWith}}
 use Rattle.shop_states.proofs.MarkedPositions.{IsBelow, below_is_in, in_is_below}
 

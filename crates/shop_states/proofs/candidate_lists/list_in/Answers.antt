@@ -113,7 +113,8 @@ returns-then-is_alone-clause-low g c =
     (let known = chosen.known in let room = c.requires.room in omega arith))
 
 pub returns-then-next-le-JOBS_PER_NUMBER-clause-low : goal.returns-then-next-le-JOBS_PER_NUMBER-clause-low
-returns-then-next-le-JOBS_PER_NUMBER-clause-low g c = owns_below c.args.limit _ c.list_conflict_set.ensures.listed.listed
+returns-then-next-le-JOBS_PER_NUMBER-clause-low g c =
+    owns_below c.args.limit _ c.list_conflict_set.ensures.listed.listed
 
 pub returns-clause-low : goal.returns-clause-low
 returns-clause-low g c = owns_below c.args.limit _ c.list_conflict_set-2.ensures.listed.listed
